@@ -1,0 +1,7 @@
+mod Answers
+mod Lines
+mod Outcomes
+mod Printing
+mod Sent
+mod Steps
+mod Words

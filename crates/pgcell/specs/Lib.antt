@@ -1,0 +1,5 @@
+pub mod Answer
+pub mod Lines
+pub mod Request
+pub mod Run
+pub mod Split

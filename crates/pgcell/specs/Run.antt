@@ -1,0 +1,62 @@
+-- What a run leaves in its writer, where the reader's and the writer's bytes are known.
+use Rattle.std.specs.Prelude.{◌≡◌, ℕ, List, [], ◌∷◌, ◌++◌, take, IfSome, Option, None, Some}
+use Rattle.std.specs.Io.KnownBytes.{Appends}
+use Rattle.pgcell.specs.Answer.{Answer}
+use Rattle.pgcell.specs.Lines.{lines_of, IsOneLine}
+
+-- the text is an answer to each of these lines, in their order, each with byte 10 behind it, and nothing else
+abbrev pub Answered : List (List ℕ) → List ℕ → Type 0
+Answered [] text = text ≡ []
+Answered (line ∷ lines) text =
+    (answer rest : List ℕ) × Answer line answer × (text ≡ answer ++ 10 ∷ rest) × Answered lines rest
+
+-- an answer to each of these lines was put behind what was there
+abbrev pub GainsAnswers : List (List ℕ) → List ℕ → List ℕ → Type 0
+GainsAnswers lines old new = (text : List ℕ) × Answered lines text × (new ≡ old ++ text)
+
+-- an answer to each of these lines was written, and nothing else
+abbrev pub WritesAnswers : List (List ℕ) → Option (List ℕ) → Option (List ℕ) → Type 0
+WritesAnswers lines old new = (text : List ℕ) × Answered lines text × Appends old new text
+
+-- a beginning of such a text was written
+abbrev pub WritesPart : List (List ℕ) → Option (List ℕ) → Option (List ℕ) → Type 0
+WritesPart lines old new = (text : List ℕ) × (j : ℕ) × Answered lines text × Appends old new (take j text)
+
+-- each line of the input is answered, and nothing else is written
+abbrev pub AnswersAll : Option (List ℕ) → Option (List ℕ) → Option (List ℕ) → Type 0
+AnswersAll input old new = IfSome input (λ bytes. WritesAnswers (lines_of bytes) old new)
+
+-- the first lines of the input, so many of them, are answered, each by a whole answer
+abbrev pub AnswersSome : Option (List ℕ) → Option (List ℕ) → Option (List ℕ) → Type 0
+AnswersSome input old new = IfSome input (λ bytes. (k : ℕ) × WritesAnswers (take k (lines_of bytes)) old new)
+
+-- a beginning of the answers to some first lines of the input is written
+abbrev pub AnswersPart : Option (List ℕ) → Option (List ℕ) → Option (List ℕ) → Type 0
+AnswersPart input old new = IfSome input (λ bytes. (k : ℕ) × WritesPart (take k (lines_of bytes)) old new)
+
+-- done are the first lines of xs, whatever comes behind, and line stands before that
+abbrev pub Splits : List ℕ → List (List ℕ) → List ℕ → Type 0
+Splits xs done line = (more : List ℕ) → lines_of (xs ++ more) ≡ done ++ lines_of (line ++ more)
+
+-- done are the first lines of xs, whatever comes behind
+abbrev pub Begins : List ℕ → List (List ℕ) → Type 0
+Begins xs done = (more : List ℕ) → (rest : List (List ℕ)) × (lines_of (xs ++ more) ≡ done ++ rest)
+
+-- the lines that xs ends were answered behind what was pending, and line is what is left of xs
+abbrev pub TakesLines : List ℕ → List ℕ → List ℕ → List ℕ → Type 0
+TakesLines xs line old new = (done : List (List ℕ)) × Splits xs done line × GainsAnswers done old new
+
+-- some first lines of xs were answered behind what was pending
+abbrev pub TakesSome : List ℕ → List ℕ → List ℕ → Type 0
+TakesSome xs old new = (done : List (List ℕ)) × Begins xs done × GainsAnswers done old new
+
+-- so far the writer has answered the lines in front of line and of what the reader has left
+abbrev pub IsUnderWay : Option (List ℕ) → Option (List ℕ) → Option (List ℕ) → Option (List ℕ) → List ℕ → Type 0
+IsUnderWay None left old new line = Unit {0}
+IsUnderWay (Some bytes) None old new line = ⊥
+IsUnderWay (Some bytes) (Some left) old new line =
+    (done : List (List ℕ)) × (lines_of bytes ≡ done ++ lines_of (line ++ left)) × WritesAnswers done old new
+
+-- each line that ends in what was read is answered: what was read behind them is the beginning of one line
+abbrev pub AnswersGiven : Option (List ℕ) → Option (List ℕ) → Option (List ℕ) → Option (List ℕ) → Type 0
+AnswersGiven input left old new = (line : List ℕ) × IsOneLine line × IsUnderWay input left old new line

@@ -1,0 +1,307 @@
+use super::{BLOCK, RunFault, run};
+use std::alloc::Global;
+use std::io;
+use std::io::{Error, ErrorKind, Read, Write};
+use std::test::Fail;
+
+/// An empty line between two others, the last of which no byte 10 ends.
+const INPUT: &[u8] = b"abc\n\nlast";
+
+/// What its lines are answered.
+const OUTPUT: &[u8] = b"abc\n\nlast\n";
+
+/// What its first two lines are answered.
+const FIRST_TWO: &[u8] = b"abc\n\n";
+
+/// More room than any answer here takes.
+const ROOM: usize = 1_000_000;
+
+/// Gives a text in pieces of at most `step` bytes, and fails once `left` bytes were given.
+#[derive(Drop)]
+struct Pieces<'a> {
+    rest: &'a [u8],
+    step: usize,
+    left: usize,
+}
+
+impl Read for Pieces<'_> {
+    fn read(&mut self, buf: &mut [u8]) -> io::Result<usize> {
+        if self.left == 0 {
+            return Err(Error::from(ErrorKind::Other));
+        }
+        let n = self.rest.len().min(self.step).min(self.left).min(buf.len());
+        let (front, behind) = self.rest.split_at(n);
+        buf[..n].copy_from_slice(front);
+        self.rest = behind;
+        self.left -= n;
+        Ok(n)
+    }
+}
+
+/// Takes `room` bytes in all, at most `step` at a time, and fails then.
+#[derive(Drop)]
+struct Narrow {
+    taken: Vec<u8>,
+    step: usize,
+    room: usize,
+}
+
+impl Write for Narrow {
+    fn write(&mut self, buf: &[u8]) -> io::Result<usize> {
+        if self.room == 0 {
+            return Err(Error::from(ErrorKind::Other));
+        }
+        let n = buf.len().min(self.step).min(self.room);
+        self.taken.extend_from_slice(&buf[..n])?;
+        self.room -= n;
+        Ok(n)
+    }
+
+    fn flush(&mut self) -> io::Result<()> {
+        Ok(())
+    }
+}
+
+fn make_narrow(alloc: Global, room: usize) -> Result<Narrow, Fail> {
+    Ok(Narrow {
+        taken: Vec::with_capacity(alloc, 64)?,
+        step: 2,
+        room,
+    })
+}
+
+/// Takes nothing, and does not say why.
+#[derive(Drop)]
+struct Full;
+
+impl Write for Full {
+    fn write(&mut self, _buf: &[u8]) -> io::Result<usize> {
+        Ok(0)
+    }
+
+    fn flush(&mut self) -> io::Result<()> {
+        Ok(())
+    }
+}
+
+/// Is interrupted at every other call, the first one too.
+#[derive(Drop)]
+struct Disturbed<T> {
+    inner: T,
+    is_calm: bool,
+}
+
+impl<T> Disturbed<T> {
+    fn interrupts(&mut self) -> io::Result<()> {
+        self.is_calm = !self.is_calm;
+        if self.is_calm {
+            return Err(Error::from(ErrorKind::Interrupted));
+        }
+        Ok(())
+    }
+}
+
+impl<T: Read> Read for Disturbed<T> {
+    fn read(&mut self, buf: &mut [u8]) -> io::Result<usize> {
+        self.interrupts()?;
+        self.inner.read(buf)
+    }
+}
+
+impl<T: Write> Write for Disturbed<T> {
+    fn write(&mut self, buf: &[u8]) -> io::Result<usize> {
+        self.interrupts()?;
+        self.inner.write(buf)
+    }
+
+    fn flush(&mut self) -> io::Result<()> {
+        self.inner.flush()
+    }
+}
+
+/// What the text is answered, where a reader gives `step` bytes at a time.
+fn answers_to(alloc: Global, text: &[u8], step: usize) -> Result<Vec<u8>, Fail> {
+    let mut input = Pieces {
+        rest: text,
+        step,
+        left: ROOM,
+    };
+    let mut taken = Vec::new(alloc);
+    run(alloc, &mut input, &mut taken)?;
+    Ok(taken)
+}
+
+#[test]
+fn pieces_change_no_answer(rt: HostRuntime) -> Result<(), Fail> {
+    for step in 1..12 {
+        let taken = answers_to(rt.alloc(), INPUT, step)?;
+        assert_eq!(rt; taken.as_slice(), OUTPUT, "in pieces of {step}");
+    }
+    Ok(())
+}
+
+#[test]
+fn a_last_line_needs_no_end(rt: HostRuntime) -> Result<(), Fail> {
+    assert_eq!(rt;
+        answers_to(rt.alloc(), b"abc\nlast", ROOM)?.as_slice(),
+        b"abc\nlast\n".as_slice()
+    );
+    assert_eq!(rt;
+        answers_to(rt.alloc(), b"abc\nlast\n", ROOM)?.as_slice(),
+        b"abc\nlast\n".as_slice()
+    );
+    Ok(())
+}
+
+#[test]
+fn no_input_has_no_answer(rt: HostRuntime) -> Result<(), Fail> {
+    assert!(rt; answers_to(rt.alloc(), b"", ROOM)?.is_empty());
+    Ok(())
+}
+
+#[test]
+fn an_empty_line_counts_where_it_ends(rt: HostRuntime) -> Result<(), Fail> {
+    assert_eq!(rt;
+        answers_to(rt.alloc(), b"\n", ROOM)?.as_slice(),
+        b"\n".as_slice()
+    );
+    assert_eq!(rt;
+        answers_to(rt.alloc(), b"\n\nx\n", ROOM)?.as_slice(),
+        b"\n\nx\n".as_slice()
+    );
+    Ok(())
+}
+
+#[test]
+fn a_line_may_be_longer_than_a_block(rt: HostRuntime) -> Result<(), Fail> {
+    for length in [BLOCK - 1, BLOCK, BLOCK + 1, 3 * BLOCK] {
+        let mut text = Vec::new(rt.alloc());
+        text.resize(length, b'x')?;
+        text.extend_from_slice(b"\nabc\n")?;
+        let taken = answers_to(rt.alloc(), text.as_slice(), ROOM)?;
+        assert!(rt; taken == text, "a line of {length} bytes");
+    }
+    Ok(())
+}
+
+#[test]
+fn a_reader_that_fails(rt: HostRuntime) -> Result<(), Fail> {
+    for step in 1..12 {
+        let mut input = Pieces {
+            rest: INPUT,
+            step,
+            left: FIRST_TWO.len(),
+        };
+        let mut output = make_narrow(rt.alloc(), ROOM)?;
+        let outcome = run(rt.alloc(), &mut input, &mut output);
+        assert_eq!(rt; outcome, Err(RunFault::Read));
+        assert_eq!(rt; output.taken.as_slice(), FIRST_TWO);
+    }
+    Ok(())
+}
+
+#[test]
+fn a_writer_that_fails(rt: HostRuntime) -> Result<(), Fail> {
+    for room in 0..OUTPUT.len() {
+        let mut input = INPUT;
+        let mut output = make_narrow(rt.alloc(), room)?;
+        let outcome = run(rt.alloc(), &mut input, &mut output);
+        assert_eq!(rt; outcome, Err(RunFault::Write));
+        assert_eq!(rt; output.taken.as_slice(), &OUTPUT[..room], "room for {room}");
+    }
+    Ok(())
+}
+
+#[test]
+fn a_writer_that_takes_nothing(rt: HostRuntime) -> Result<(), Fail> {
+    let mut input = INPUT;
+    assert_eq!(rt;
+        run(rt.alloc(), &mut input, &mut Full),
+        Err(RunFault::Write)
+    );
+    Ok(())
+}
+
+#[test]
+fn what_was_interrupted_is_tried_again(rt: HostRuntime) -> Result<(), Fail> {
+    let mut input = Disturbed {
+        inner: Pieces {
+            rest: INPUT,
+            step: 3,
+            left: ROOM,
+        },
+        is_calm: false,
+    };
+    let mut output = Disturbed {
+        inner: make_narrow(rt.alloc(), ROOM)?,
+        is_calm: false,
+    };
+    assert_eq!(rt; run(rt.alloc(), &mut input, &mut output), Ok(()));
+    assert_eq!(rt; output.inner.taken.as_slice(), OUTPUT);
+    Ok(())
+}
+
+/// All the memory that the heap gives, in blocks that nothing touches, the smallest last. Later
+/// growths are refused until some of it is let go.
+fn hoard(alloc: Global) -> Result<Vec<Vec<u8>>, Fail> {
+    let mut blocks: Vec<Vec<u8>> = Vec::with_capacity(alloc, 2_000_000)?;
+    let mut size = 1usize << 40;
+    for _ in 0..40 {
+        for _ in 0..100_000 {
+            if blocks.len() == blocks.capacity() {
+                break;
+            }
+            let Ok(block) = Vec::with_capacity(alloc, size) else {
+                break;
+            };
+            let Ok(()) = blocks.push(block) else {
+                break;
+            };
+        }
+        size /= 2;
+        if size < 8 {
+            break;
+        }
+    }
+    Ok(blocks)
+}
+
+#[test]
+fn refused_memory_leaves_whole_answers(rt: HostRuntime) -> Result<(), Fail> {
+    // The first line needs little memory, and what is there of the second one much.
+    let mut text = Vec::new(rt.alloc());
+    text.extend_from_slice(b"abc\n")?;
+    text.resize(BLOCK, b'x')?;
+    let mut output = Narrow {
+        taken: Vec::with_capacity(rt.alloc(), 2 * BLOCK)?,
+        step: BLOCK,
+        room: ROOM,
+    };
+    let mut stopped_before = 0u32;
+    let mut stopped_between = 0u32;
+    let mut outcome = Err(RunFault::Read);
+    let mut hoarded = hoard(rt.alloc())?;
+    for _ in 0..100_000 {
+        output.taken.clear();
+        output.room = ROOM;
+        let mut input = text.as_slice();
+        outcome = run(rt.alloc(), &mut input, &mut output);
+        if outcome != Err(RunFault::Memory) {
+            break;
+        }
+        match output.taken.as_slice() {
+            b"" => stopped_before = stopped_before.saturating_add(1),
+            b"abc\n" => stopped_between = stopped_between.saturating_add(1),
+            _ => return Err(Fail::from("a part of an answer")),
+        }
+        let _ = hoarded.pop();
+    }
+    assert_eq!(rt; outcome, Ok(()));
+    assert_eq!(rt; output.taken.len(), text.len() + 1);
+    assert!(rt; stopped_before > 0);
+    assert!(rt; stopped_between > 0);
+    println!(rt;
+        "refused: {stopped_before} times before the first line, {stopped_between} behind it"
+    )?;
+    Ok(())
+}

@@ -1,0 +1,5 @@
+pub mod Contents
+pub mod DerivedTypes
+pub mod Fields
+mod Framing
+pub mod TextLemmas

@@ -1,0 +1,14 @@
+-- What rewriting a cell answers.
+use Rattle.std.specs.Prelude.{◌≡◌, ℕ, List, Result, Ok, Err, IfSome, ◌⊎◌}
+use Rattle.postgres_types.specs.declared.pg_base.fault.Fault.{Fault}
+use Rattle.postgres_types.specs.declared.pg_base.format.IsNull.{IsNull}
+use Rattle.postgres_types.specs.pg_base.Cells.{Cell}
+use Rattle.postgres_types.specs.pg_base.Faults.{Outcome, refusal_of}
+use Rattle.postgres_types.specs.pg_base.Writing.{Wire, Writes}
+
+-- the cell reads as a value, which is written; or the cell is refused, or the value that it reads as, or memory ran
+-- out, and the bytes are as they were
+abbrev pub Rewrites : {A : Type 0} → (Cell → Outcome A → Type 0) → (A → Wire) → Cell → List ℕ → List ℕ → Result IsNull Fault → Type 0
+Rewrites {A} reads wire c old new (Ok null) = (v : A) × reads c (Ok v) × Writes (wire v) old new (Ok null)
+Rewrites {A} reads wire c old new (Err f) =
+    (new ≡ old) × IfSome (refusal_of f) (λ r. reads c (Err r) ⊎ ((v : A) × reads c (Ok v) × (wire v ≡ Err r)))

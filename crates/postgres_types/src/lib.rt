@@ -1,0 +1,19 @@
+//! Typed values and PostgreSQL binary cells.
+//!
+//! A type and a cell go in and a value comes out ([`FromSql`]); a type and a value go in and a cell
+//! is appended to a buffer ([`ToSql`]). A cell is NULL or a list of bytes, in the binary formats of
+//! PostgreSQL's send and receive functions.
+#![tactic(auto)]
+
+mod pg_base;
+mod pg_read;
+mod pg_write;
+mod rewriting;
+
+pub use pg_base::fault::{Fault, Reason, WasNull, WrongType};
+pub use pg_base::format::{Format, IsNull};
+pub use pg_base::types::{Field, Kind, KindRef, Oid, PgType as Type};
+pub use pg_read::from_sql::{FromSql, from_sql_nullable};
+pub use pg_read::private;
+pub use pg_write::to_sql::{ToSql, to_sql_checked_as};
+pub use rewriting::rewrite;

@@ -1,0 +1,40 @@
+//! Reading a cell and writing it again.
+ghost use Rattle.std.specs.Prelude.{◌≡◌, ◌&&◌, Err, IsTrue, false, codes};
+ghost use Rattle.postgres_types.specs.Rewriting.{Rewrites};
+ghost use Rattle.postgres_types.specs.pg_base.Content.{content, IsBuiltIn};
+ghost use Rattle.postgres_types.specs.pg_base.Faults.{NeverMemory, WrongTypeRefusal};
+ghost use Rattle.postgres_types.specs.pg_base.Writing.{Writes};
+ghost use Rattle.postgres_types.specs.pg_read.Reading.{cell_of};
+
+use crate::pg_base::fault::Fault;
+use crate::pg_base::format::IsNull;
+use crate::pg_base::types::PgType;
+use crate::pg_read::from_sql::{FromSql, from_sql_nullable};
+use crate::pg_write::to_sql::{ToSql, wrong_type};
+use bytes::BytesMut;
+use std::alloc::Global;
+
+/// Reads the cell, of which `None` is NULL, as a `T`, and appends the value's cell.
+///
+/// It answers `WrongType` with the name `rewrite` where `T` does not read or does not write the
+/// type, then the reading's fault, then the writing's. Every refusal leaves the buffer as it was.
+pub fn rewrite<'a, T: FromSql<'a> + ToSql>(
+    alloc: Global,
+    ty: &PgType,
+    raw: Option<&'a [u8]>,
+    out: &mut BytesMut,
+) -> Result<IsNull, Fault>
+    ensures refuses { (T.FromSql.accepted (content ty.now) && T.ToSql.accepted (content ty.now)) ≡ false
+        → Writes (Err (WrongTypeRefusal (content ty.now) (codes "rewrite"))) out.old.items out.new.items result }
+    ensures spared { (T.FromSql.accepted (content ty.now) && T.ToSql.accepted (content ty.now)) ≡ false
+        → IsBuiltIn (content ty.now) → NeverMemory result }
+    ensures rewrites { IsTrue (T.FromSql.accepted (content ty.now) && T.ToSql.accepted (content ty.now))
+        → Rewrites (T.reads (content ty.now)) (T.wire (content ty.now)) (cell_of raw.entry)
+        out.old.items out.new.items result }
+{
+    if !<T as FromSql<'a>>::accepts(ty) || !<T as ToSql>::accepts(ty) {
+        return Err(wrong_type(ty, "rewrite"));
+    }
+    let value: T = from_sql_nullable(alloc, ty, raw)?;
+    value.to_sql(alloc, ty, out)
+}
