@@ -2,6 +2,7 @@
 pub mod BuiltInRows
 pub mod Cells
 pub mod Content
+pub mod Digest
 pub mod Faults
 pub mod FaultTexts
 pub mod FormatLaws

@@ -17,3 +17,6 @@ pub use pg_read::from_sql::{FromSql, from_sql_nullable};
 pub use pg_read::private;
 pub use pg_write::to_sql::{ToSql, to_sql_checked_as};
 pub use rewriting::rewrite;
+
+#[cfg(test)]
+mod tests;

@@ -5,13 +5,44 @@ use std::io::{Error, ErrorKind, Read, Write};
 use std::test::Fail;
 
 /// An empty line between two others, the last of which no byte 10 ends.
-const INPUT: &[u8] = b"abc\n\nlast";
+const INPUT: &[u8] = b"norm int4 0000000A\n\nnorm text? NULL";
+
+/// How many bytes its first two lines have.
+const TWO_LINES: usize = 20;
 
 /// What its lines are answered.
-const OUTPUT: &[u8] = b"abc\n\nlast\n";
+const OUTPUT: &[u8] = b"ok 0000000a\nbad line\nnull\n";
 
 /// What its first two lines are answered.
-const FIRST_TWO: &[u8] = b"abc\n\n";
+const FIRST_TWO: &[u8] = b"ok 0000000a\nbad line\n";
+
+/// Lines and their answers.
+const ROWS: [(&[u8], &[u8]); 24] = [
+    (b"norm int4 00000007", b"ok 00000007"),
+    (b"norm int4? NULL", b"null"),
+    (b"norm int4 000000", b"refused 4"),
+    (b"norm int4 NULL", b"refused 2"),
+    (b"norm text -", b"ok -"),
+    (b"norm text ff", b"refused 5"),
+    (b"norm int4", b"bad line"),
+    (b"norm int4 0000000A", b"ok 0000000a"),
+    (b"norm int4 000", b"bad line"),
+    (b"", b"bad line"),
+    (b"norm text? -", b"ok -"),
+    (b"norm text c3a9", b"ok c3a9"),
+    (b"norm text NULL", b"refused 2"),
+    (b"norm int4? FFFFFFFE", b"ok fffffffe"),
+    (b"norm int4? -", b"refused 4"),
+    (b"norm text? NULL", b"null"),
+    (b"norm  int4 00000007", b"bad line"),
+    (b"norm int4 00000007 ", b"bad line"),
+    (b" norm int4 00000007", b"bad line"),
+    (b"norm int4?? NULL", b"bad line"),
+    (b"norm int8 NULL", b"bad line"),
+    (b"norms int4 NULL", b"bad line"),
+    (b"norm int4 null", b"bad line"),
+    (b"norm \xff 00000007", b"bad line"),
+];
 
 /// More room than any answer here takes.
 const ROOM: usize = 1_000_000;
@@ -132,24 +163,27 @@ fn answers_to(alloc: Global, text: &[u8], step: usize) -> Result<Vec<u8>, Fail> 
 }
 
 #[test]
+fn each_line_has_its_answer(rt: HostRuntime) -> Result<(), Fail> {
+    let mut text = Vec::new(rt.alloc());
+    let mut answers = Vec::new(rt.alloc());
+    for (line, answer) in ROWS {
+        text.extend_from_slice(line)?;
+        text.push(b'\n')?;
+        answers.extend_from_slice(answer)?;
+        answers.push(b'\n')?;
+    }
+    assert!(rt; answers_to(rt.alloc(), text.as_slice(), ROOM)? == answers);
+    text.truncate(text.len().saturating_sub(1));
+    assert!(rt; answers_to(rt.alloc(), text.as_slice(), ROOM)? == answers);
+    Ok(())
+}
+
+#[test]
 fn pieces_change_no_answer(rt: HostRuntime) -> Result<(), Fail> {
     for step in 1..12 {
         let taken = answers_to(rt.alloc(), INPUT, step)?;
         assert_eq!(rt; taken.as_slice(), OUTPUT, "in pieces of {step}");
     }
-    Ok(())
-}
-
-#[test]
-fn a_last_line_needs_no_end(rt: HostRuntime) -> Result<(), Fail> {
-    assert_eq!(rt;
-        answers_to(rt.alloc(), b"abc\nlast", ROOM)?.as_slice(),
-        b"abc\nlast\n".as_slice()
-    );
-    assert_eq!(rt;
-        answers_to(rt.alloc(), b"abc\nlast\n", ROOM)?.as_slice(),
-        b"abc\nlast\n".as_slice()
-    );
     Ok(())
 }
 
@@ -163,23 +197,27 @@ fn no_input_has_no_answer(rt: HostRuntime) -> Result<(), Fail> {
 fn an_empty_line_counts_where_it_ends(rt: HostRuntime) -> Result<(), Fail> {
     assert_eq!(rt;
         answers_to(rt.alloc(), b"\n", ROOM)?.as_slice(),
-        b"\n".as_slice()
+        b"bad line\n".as_slice()
     );
     assert_eq!(rt;
-        answers_to(rt.alloc(), b"\n\nx\n", ROOM)?.as_slice(),
-        b"\n\nx\n".as_slice()
+        answers_to(rt.alloc(), b"\n\nnorm text -\n", ROOM)?.as_slice(),
+        b"bad line\nbad line\nok -\n".as_slice()
     );
     Ok(())
 }
 
 #[test]
 fn a_line_may_be_longer_than_a_block(rt: HostRuntime) -> Result<(), Fail> {
-    for length in [BLOCK - 1, BLOCK, BLOCK + 1, 3 * BLOCK] {
-        let mut text = Vec::new(rt.alloc());
-        text.resize(length, b'x')?;
-        text.extend_from_slice(b"\nabc\n")?;
-        let taken = answers_to(rt.alloc(), text.as_slice(), ROOM)?;
-        assert!(rt; taken == text, "a line of {length} bytes");
+    for length in [BLOCK - 2, BLOCK, BLOCK + 2, 3 * BLOCK] {
+        let mut line = Vec::new(rt.alloc());
+        line.extend_from_slice(b"norm text ")?;
+        line.resize(length, b'6')?;
+        let mut answer = Vec::new(rt.alloc());
+        answer.extend_from_slice(b"ok ")?;
+        answer.resize(length - 7, b'6')?;
+        answer.push(b'\n')?;
+        let taken = answers_to(rt.alloc(), line.as_slice(), ROOM)?;
+        assert!(rt; taken == answer, "a line of {length} bytes");
     }
     Ok(())
 }
@@ -190,7 +228,7 @@ fn a_reader_that_fails(rt: HostRuntime) -> Result<(), Fail> {
         let mut input = Pieces {
             rest: INPUT,
             step,
-            left: FIRST_TWO.len(),
+            left: TWO_LINES,
         };
         let mut output = make_narrow(rt.alloc(), ROOM)?;
         let outcome = run(rt.alloc(), &mut input, &mut output);
@@ -270,8 +308,8 @@ fn hoard(alloc: Global) -> Result<Vec<Vec<u8>>, Fail> {
 fn refused_memory_leaves_whole_answers(rt: HostRuntime) -> Result<(), Fail> {
     // The first line needs little memory, and what is there of the second one much.
     let mut text = Vec::new(rt.alloc());
-    text.extend_from_slice(b"abc\n")?;
-    text.resize(BLOCK, b'x')?;
+    text.extend_from_slice(b"norm int4 00000007\nnorm text ")?;
+    text.resize(BLOCK - 1, b'6')?;
     let mut output = Narrow {
         taken: Vec::with_capacity(rt.alloc(), 2 * BLOCK)?,
         step: BLOCK,
@@ -291,13 +329,13 @@ fn refused_memory_leaves_whole_answers(rt: HostRuntime) -> Result<(), Fail> {
         }
         match output.taken.as_slice() {
             b"" => stopped_before = stopped_before.saturating_add(1),
-            b"abc\n" => stopped_between = stopped_between.saturating_add(1),
+            b"ok 00000007\n" => stopped_between = stopped_between.saturating_add(1),
             _ => return Err(Fail::from("a part of an answer")),
         }
         let _ = hoarded.pop();
     }
     assert_eq!(rt; outcome, Ok(()));
-    assert_eq!(rt; output.taken.len(), text.len() + 1);
+    assert_eq!(rt; output.taken.len(), text.len() - 13);
     assert!(rt; stopped_before > 0);
     assert!(rt; stopped_between > 0);
     println!(rt;

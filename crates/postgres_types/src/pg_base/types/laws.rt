@@ -1,7 +1,7 @@
 //! What equality and hashing mean, each as a call whose contract says it.
-ghost use Rattle.std.specs.Prelude.{◌≡◌, ◌↔◌, IsTrue, fold};
-ghost use Rattle.std.specs.Hash.DefaultHasher as sip;
+ghost use Rattle.std.specs.Prelude.{◌≡◌, ◌↔◌, IsTrue};
 ghost use Rattle.postgres_types.specs.pg_base.Content.{SameField, content, kind_content};
+ghost use Rattle.postgres_types.specs.pg_base.Digest.{digest};
 
 use super::{Field, Kind, PgType};
 use std::hash::{DefaultHasher, Hash, Hasher};
@@ -33,7 +33,9 @@ pub fn same_field(f: &Field, g: &Field) -> bool
 /// Whether two types are hashed alike, as equal ones always are.
 #[tactic(auto, using(crate::proofs::DerivedTypes::hash_from_same))]
 pub fn hash_alike(a: &PgType, b: &PgType) -> bool
-    ensures { (content a.now ≡ content b.now) → IsTrue result }
+    ensures alike { (content a.now ≡ content b.now) → IsTrue result }
+    ensures hashed { IsTrue result ↔
+        (digest (⟦<PgType as Hash>⟧.hash_input a.now) ≡ digest (⟦<PgType as Hash>⟧.hash_input b.now)) }
 {
     hash_of(a) == hash_of(b)
 }
@@ -41,7 +43,9 @@ pub fn hash_alike(a: &PgType, b: &PgType) -> bool
 /// Whether two kinds are hashed alike, as equal ones always are.
 #[tactic(auto, using(crate::proofs::DerivedTypes::hash_from_same_kind))]
 pub fn kinds_hash_alike(k: &Kind, l: &Kind) -> bool
-    ensures { (kind_content k.now ≡ kind_content l.now) → IsTrue result }
+    ensures alike { (kind_content k.now ≡ kind_content l.now) → IsTrue result }
+    ensures hashed { IsTrue result ↔
+        (digest (⟦<Kind as Hash>⟧.hash_input k.now) ≡ digest (⟦<Kind as Hash>⟧.hash_input l.now)) }
 {
     hash_of(k) == hash_of(l)
 }
@@ -49,13 +53,15 @@ pub fn kinds_hash_alike(k: &Kind, l: &Kind) -> bool
 /// Whether two fields are hashed alike, as equal ones always are.
 #[tactic(auto, using(crate::proofs::DerivedTypes::hash_from_same_field))]
 pub fn fields_hash_alike(f: &Field, g: &Field) -> bool
-    ensures { SameField f.now g.now → IsTrue result }
+    ensures alike { SameField f.now g.now → IsTrue result }
+    ensures hashed { IsTrue result ↔
+        (digest (⟦<Field as Hash>⟧.hash_input f.now) ≡ digest (⟦<Field as Hash>⟧.hash_input g.now)) }
 {
     hash_of(f) == hash_of(g)
 }
 
 fn hash_of<T: Hash>(value: &T) -> u64
-    ensures { result ≡ sip.finish (fold sip.write sip.initial (T.hash_input value.now)) }
+    ensures { result ≡ digest (T.hash_input value.now) }
 {
     let mut state = DefaultHasher::new();
     value.hash(&mut state);
