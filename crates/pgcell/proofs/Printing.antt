@@ -1,9 +1,8 @@
 -- Lemmas on what is printed.
 use Rattle.std.proofs.Common.{◌≡◌, ℕ, List, ◌++◌, Option, Some, None, Ok, Err, IfSome, ◌⊎◌, inl, inr, refl, sym, ap, subst, codes}
-use Rattle.postgres_types.specs.declared.pg_base.fault.Fault.{Fault}
-use Rattle.postgres_types.specs.pg_base.Cells.{Cell}
-use Rattle.postgres_types.specs.pg_base.Faults.{Outcome, Refusal}
-use Rattle.postgres_types.specs.pg_base.Writing.{Wire}
+use Rattle.postgres_types.specs.Cells.{Cell}
+use Rattle.postgres_types.specs.Faults.{Outcome, Refusal}
+use Rattle.postgres_types.specs.Appending.{Wire}
 use Rattle.pgcell.specs.Answer.{Answer, AnswersCell, AnswersRequest, PrintsRefusal, printed}
 use Rattle.pgcell.specs.Request.{Asked, request_of, words}
 

@@ -4,22 +4,27 @@ use Rattle.std.proofs.Math.Seq.{take-append_seam}
 use Rattle.std.specs.Io.KnownBytes.{Appends, Consumes, Keeps, IsAtEnd}
 use Rattle.std.proofs.KnownBytes.{Appends-kept}
 use Rattle.pgcell.specs.Lines.{lines_of}
-use Rattle.pgcell.specs.Run.{WritesAnswers, WritesPart, AnswersAll, AnswersSome, AnswersPart, TakesLines, TakesSome, IsUnderWay}
+use Rattle.pgcell.specs.Run.{WritesAnswers, WritesPart, AnswersAll, AnswersSome, AnswersPart, Splits, TakesLines, TakesSome, IsUnderWay}
 use Rattle.pgcell.proofs.Answers.{gained, writes_none, writes_more, writes_part}
 use Rattle.pgcell.proofs.Lines.{takes_some}
 
 pub under_way-start : (a o : Option (List ℕ)) → IsUnderWay a a o o []
 under_way-start None o = tt
-under_way-start (Some x) o = ([], refl, writes_none o)
+under_way-start (Some x) o = ([], λ more. refl, writes_none o)
 
 pub under_way-kept : (a b d o n : Option (List ℕ)) (line : List ℕ) → IsUnderWay a b o n line → Keeps b d → IsUnderWay a d o n line
 under_way-kept None b d o n line u k = tt
 under_way-kept (Some x) None d o n line u k = absurd u
 under_way-kept (Some x) (Some y) None o n line u k = absurd k
 under_way-kept (Some x) (Some y) (Some z) o n line u k =
-    (u.0, subst (λ (l : List ℕ). lines_of x ≡ u.0 ++ lines_of (line ++ l)) (sym k) u.1, u.2)
+    (u.0, subst (λ (l : List ℕ). Splits x u.0 (line ++ l)) (sym k) u.1, u.2)
 
--- the lines in front are so many first ones
+-- with nothing after the input
+whole : (x line : List ℕ) (done : List (List ℕ)) → Splits x done line → lines_of x ≡ done ++ lines_of line
+whole x line done s =
+    ap lines_of (sym (append-nil x)) ∙ s [] ∙ ap (λ (l : List ℕ). done ++ lines_of l) (append-nil line)
+
+-- the lines before are so many first ones
 first_lines : (x : List ℕ) (done rest : List (List ℕ)) → lines_of x ≡ done ++ rest → done ≡ take (length done) (lines_of x)
 first_lines x done rest e = sym (ap (λ (l : List (List ℕ)). take (length done) l) e ∙ take-append_seam done rest)
 
@@ -34,13 +39,21 @@ answers_part x done rest o n e w =
 pub under_way-some : (a b o n : Option (List ℕ)) (line : List ℕ) → IsUnderWay a b o n line → AnswersSome a o n
 under_way-some None b o n line u = tt
 under_way-some (Some x) None o n line u = absurd u
-under_way-some (Some x) (Some y) o n line u = answers_first x u.0 _ o n u.1 u.2
+under_way-some (Some x) (Some y) o n line u = answers_first x u.0 _ o n (whole x (line ++ y) u.0 u.1) u.2
 
 -- where the lines of what is left begin
 lines_behind : (x line y block z : List ℕ) (done : List (List ℕ)) → lines_of x ≡ done ++ lines_of (line ++ y) → y ≡ block ++ z
     → lines_of x ≡ done ++ lines_of ((line ++ block) ++ z)
 lines_behind x line y block z done e k =
     e ∙ ap (λ (l : List ℕ). done ++ lines_of (line ++ l)) k ∙ ap (λ (l : List ℕ). done ++ lines_of l) (sym (append_assoc line block z))
+
+splits_taken : (x line y block z next : List ℕ) (done more : List (List ℕ)) → Splits x done (line ++ y) → y ≡ block ++ z
+    → Splits (line ++ block) more next → Splits x (done ++ more) (next ++ z)
+splits_taken x line y block z next done more s k t = λ after.
+    let behind : line ++ y ++ after ≡ (line ++ block) ++ (z ++ after) = ap (λ (l : List ℕ). line ++ l ++ after) k ∙ simp append_assoc in
+    s after ∙ ap (λ (l : List ℕ). done ++ lines_of l) behind
+    ∙ ap (λ (l : List (List ℕ)). done ++ l) (t (z ++ after) ∙ ap (λ (l : List ℕ). more ++ lines_of l) (sym (append_assoc next z after)))
+    ∙ sym (append_assoc done more _)
 
 pub under_way-taken : (a b d o n m : Option (List ℕ)) (line next block old new : List ℕ) → IsUnderWay a b o n line → Consumes b d block
     → TakesLines (line ++ block) next old new → old ≡ [] → Appends n m new → IsUnderWay a d o m next
@@ -49,7 +62,7 @@ under_way-taken (Some x) None d o n m line next block old new u k t none w = abs
 under_way-taken (Some x) (Some y) None o n m line next block old new u k t none w = absurd k
 under_way-taken (Some x) (Some y) (Some z) o n m line next block old new u k t none w = (
   u.0 ++ t.0,
-  lines_behind x line y block z u.0 u.1 k ∙ ap (λ (l : List (List ℕ)). u.0 ++ l) (t.1 z) ∙ sym (append_assoc u.0 t.0 _),
+  splits_taken x line y block z next u.0 t.0 u.1 k t.1,
   writes_more u.0 t.0 o n m u.2 (new, gained t.0 old new t.2 none, w),
 )
 
@@ -65,7 +78,7 @@ under_way-stopped None b d o n m line block old new u k t none w = tt
 under_way-stopped (Some x) None d o n m line block old new u k t none w = absurd u
 under_way-stopped (Some x) (Some y) None o n m line block old new u k t none w = absurd k
 under_way-stopped (Some x) (Some y) (Some z) o n m line block old new u k t none w =
-    answers_first x (u.0 ++ t.0) (t.1 z).0 o m (lines_begun x line y block z u.0 t.0 _ u.1 k (t.1 z).1)
+    answers_first x (u.0 ++ t.0) (t.1 z).0 o m (lines_begun x line y block z u.0 t.0 _ (whole x (line ++ y) u.0 u.1) k (t.1 z).1)
     (writes_more u.0 t.0 o n m u.2 (new, gained t.0 old new t.2 none, w))
 
 pub under_way-cut : (a b d o n m : Option (List ℕ)) (line block old new : List ℕ) (j : ℕ) → IsUnderWay a b o n line → Consumes b d block
@@ -74,7 +87,7 @@ under_way-cut None b d o n m line block old new j u k t none w = tt
 under_way-cut (Some x) None d o n m line block old new j u k t none w = absurd u
 under_way-cut (Some x) (Some y) None o n m line block old new j u k t none w = absurd k
 under_way-cut (Some x) (Some y) (Some z) o n m line block old new j u k t none w =
-    answers_part x (u.0 ++ t.0) (t.1 z).0 o m (lines_begun x line y block z u.0 t.0 _ u.1 k (t.1 z).1)
+    answers_part x (u.0 ++ t.0) (t.1 z).0 o m (lines_begun x line y block z u.0 t.0 _ (whole x (line ++ y) u.0 u.1) k (t.1 z).1)
     (writes_part u.0 t.0 o n m u.2 (new, j, gained t.0 old new t.2 none, w))
 
 -- either way, some lines were taken
@@ -93,13 +106,13 @@ under_way-all None b d o n m line u k end w = tt
 under_way-all (Some x) None d o n m line u k end w = absurd u
 under_way-all (Some x) (Some y) None o n m line u k end w = absurd k
 under_way-all (Some x) (Some y) (Some z) o n m line u k end w =
-    subst (λ (l : List (List ℕ)). WritesAnswers l o m) (sym (at_end x line y z u.0 u.1 k end)) (writes_more u.0 (lines_of line) o n m u.2 w)
+    subst (λ (l : List (List ℕ)). WritesAnswers l o m) (sym (at_end x line y z u.0 (whole x (line ++ y) u.0 u.1) k end)) (writes_more u.0 (lines_of line) o n m u.2 w)
 
 pub under_way-unfinished : (a b o n m : Option (List ℕ)) (line : List ℕ) → IsUnderWay a b o n line → Keeps n m → AnswersSome a o m
 under_way-unfinished None b o n m line u w = tt
 under_way-unfinished (Some x) None o n m line u w = absurd u
 under_way-unfinished (Some x) (Some y) o n m line u w =
-    answers_first x u.0 _ o m u.1 (u.2.0, u.2.1, Appends-kept o n m _ u.2.2 w)
+    answers_first x u.0 _ o m (whole x (line ++ y) u.0 u.1) (u.2.0, u.2.1, Appends-kept o n m _ u.2.2 w)
 
 pub under_way-end_cut : (a b d o n m : Option (List ℕ)) (line : List ℕ) → IsUnderWay a b o n line → Consumes b d [] → IsAtEnd d
     → WritesPart (lines_of line) n m → AnswersPart a o m
@@ -107,4 +120,4 @@ under_way-end_cut None b d o n m line u k end w = tt
 under_way-end_cut (Some x) None d o n m line u k end w = absurd u
 under_way-end_cut (Some x) (Some y) None o n m line u k end w = absurd k
 under_way-end_cut (Some x) (Some y) (Some z) o n m line u k end w =
-    answers_part x (u.0 ++ lines_of line) [] o m (at_end x line y z u.0 u.1 k end ∙ sym (append-nil _)) (writes_part u.0 (lines_of line) o n m u.2 w)
+    answers_part x (u.0 ++ lines_of line) [] o m (at_end x line y z u.0 (whole x (line ++ y) u.0 u.1) k end ∙ sym (append-nil _)) (writes_part u.0 (lines_of line) o n m u.2 w)

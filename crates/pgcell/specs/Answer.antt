@@ -1,15 +1,16 @@
 -- What a line is answered.
 use Rattle.std.specs.Prelude.{◌≡◌, ℕ, ◌++◌, Bool, true, false, List, [], ◌∷◌, Option, Some, None, Result, Ok, Err, ◌⊎◌, codes, string_bytes, String}
 use Rattle.std.specs.Fmt.{decimal}
+use Rattle.std.specs.Int.{w32}
 use Rattle.std.specs.Global.{Global}
 use Rattle.hex.specs.Hex.{encode_lower}
-use Rattle.postgres_types.specs.pg_base.Cells.{Cell}
-use Rattle.postgres_types.specs.pg_base.Faults.{Outcome, Refusal, number_of}
-use Rattle.postgres_types.specs.pg_base.Numbers.{ReadsInt4, wire_int4}
-use Rattle.postgres_types.specs.pg_base.Texts.{ReadsText, wire_text}
-use Rattle.postgres_types.specs.pg_base.Writing.{Wire}
-use Rattle.postgres_types.specs.pg_read.Options.{ReadsOption}
-use Rattle.postgres_types.specs.pg_write.Options.{wire_option}
+use Rattle.postgres_types.specs.Cells.{Cell}
+use Rattle.postgres_types.specs.Faults.{Outcome, Refusal, number_of}
+use Rattle.postgres_types.specs.Numbers.{ReadsSigned, wire_signed}
+use Rattle.postgres_types.specs.Texts.{ReadsText, wire_text}
+use Rattle.postgres_types.specs.Appending.{Wire}
+use Rattle.postgres_types.specs.OptionReading.{ReadsOption}
+use Rattle.postgres_types.specs.OptionWriting.{wire_option}
 use Rattle.pgcell.specs.Request.{Asked, request_of, words}
 use Rattle.pgcell.specs.declared.request.Base.{Base}
 use Rattle.pgcell.specs.declared.request.Base.TheVariants.{Int4, Text}
@@ -40,8 +41,9 @@ AnswersAs true reads wire = AnswersCell (ReadsOption reads) (wire_option wire)
 
 -- the types of a base name: `int4` is i32 and INT4, `text` is String and TEXT
 abbrev pub AnswersBase : Base → Bool → Cell → List ℕ → Type 0
-AnswersBase Int4 optional = AnswersAs optional ReadsInt4 wire_int4
-AnswersBase Text optional = AnswersAs {A = String Global} optional (ReadsText string_bytes) (λ text. wire_text (string_bytes text))
+AnswersBase Int4 optional = AnswersAs optional (ReadsSigned w32) (wire_signed w32)
+AnswersBase Text optional =
+    AnswersAs {A = String Global} optional (ReadsText string_bytes false) (λ text. wire_text false (string_bytes text))
 
 -- a line that is not well formed is answered `bad line`
 abbrev pub AnswersRequest : Option Asked → List ℕ → Type 0

@@ -5,7 +5,7 @@ use Rattle.std.specs.Global.{Global}
 use Rattle.std.specs.List.{slice_split, ends_with}
 use Rattle.hex.specs.Hex.{decode_of}
 use Rattle.hex.specs.declared.error.FromHexError.{FromHexError}
-use Rattle.postgres_types.specs.pg_base.Cells.{Cell}
+use Rattle.postgres_types.specs.Cells.{Cell}
 use Rattle.pgcell.specs.declared.request.Base.{Base}
 use Rattle.pgcell.specs.declared.request.Base.TheVariants.{Int4, Text}
 use Rattle.pgcell.specs.declared.request.Name.{Name}

@@ -4,13 +4,13 @@ use Rattle.std.specs.Io.KnownBytes.{Appends}
 use Rattle.pgcell.specs.Answer.{Answer}
 use Rattle.pgcell.specs.Lines.{lines_of, IsOneLine}
 
--- the text is an answer to each of these lines, in their order, each with byte 10 behind it, and nothing else
+-- the text is an answer to each of these lines, in their order, each with byte 10 after it, and nothing else
 abbrev pub Answered : List (List ℕ) → List ℕ → Type 0
 Answered [] text = text ≡ []
 Answered (line ∷ lines) text =
     (answer rest : List ℕ) × Answer line answer × (text ≡ answer ++ 10 ∷ rest) × Answered lines rest
 
--- an answer to each of these lines was put behind what was there
+-- an answer to each of these lines was put after what was there
 abbrev pub GainsAnswers : List (List ℕ) → List ℕ → List ℕ → Type 0
 GainsAnswers lines old new = (text : List ℕ) × Answered lines text × (new ≡ old ++ text)
 
@@ -26,7 +26,7 @@ WritesPart lines old new = (text : List ℕ) × (j : ℕ) × Answered lines text
 abbrev pub AnswersAll : Option (List ℕ) → Option (List ℕ) → Option (List ℕ) → Type 0
 AnswersAll input old new = IfSome input (λ bytes. WritesAnswers (lines_of bytes) old new)
 
--- the first lines of the input, so many of them, are answered, each by a whole answer
+-- a first number of lines of the input are answered, each by a whole answer
 abbrev pub AnswersSome : Option (List ℕ) → Option (List ℕ) → Option (List ℕ) → Type 0
 AnswersSome input old new = IfSome input (λ bytes. (k : ℕ) × WritesAnswers (take k (lines_of bytes)) old new)
 
@@ -34,29 +34,30 @@ AnswersSome input old new = IfSome input (λ bytes. (k : ℕ) × WritesAnswers (
 abbrev pub AnswersPart : Option (List ℕ) → Option (List ℕ) → Option (List ℕ) → Type 0
 AnswersPart input old new = IfSome input (λ bytes. (k : ℕ) × WritesPart (take k (lines_of bytes)) old new)
 
--- done are the first lines of xs, whatever comes behind, and line stands before that
+-- done are the first lines of xs, whatever comes after it, and line stands before that
 abbrev pub Splits : List ℕ → List (List ℕ) → List ℕ → Type 0
 Splits xs done line = (more : List ℕ) → lines_of (xs ++ more) ≡ done ++ lines_of (line ++ more)
 
--- done are the first lines of xs, whatever comes behind
+-- done are the first lines of xs, whatever comes after it
 abbrev pub Begins : List ℕ → List (List ℕ) → Type 0
 Begins xs done = (more : List ℕ) → (rest : List (List ℕ)) × (lines_of (xs ++ more) ≡ done ++ rest)
 
--- the lines that xs ends were answered behind what was pending, and line is what is left of xs
+-- the lines that end in xs were answered after what was pending, and line is what is left of xs
 abbrev pub TakesLines : List ℕ → List ℕ → List ℕ → List ℕ → Type 0
 TakesLines xs line old new = (done : List (List ℕ)) × Splits xs done line × GainsAnswers done old new
 
--- some first lines of xs were answered behind what was pending
+-- some first lines of xs were answered after what was pending
 abbrev pub TakesSome : List ℕ → List ℕ → List ℕ → Type 0
 TakesSome xs old new = (done : List (List ℕ)) × Begins xs done × GainsAnswers done old new
 
--- so far the writer has answered the lines in front of line and of what the reader has left
+-- so far the writer has answered the lines before line and what the reader has left, which begin the others, whatever
+-- comes after the input
 abbrev pub IsUnderWay : Option (List ℕ) → Option (List ℕ) → Option (List ℕ) → Option (List ℕ) → List ℕ → Type 0
 IsUnderWay None left old new line = Unit {0}
 IsUnderWay (Some bytes) None old new line = ⊥
 IsUnderWay (Some bytes) (Some left) old new line =
-    (done : List (List ℕ)) × (lines_of bytes ≡ done ++ lines_of (line ++ left)) × WritesAnswers done old new
+    (done : List (List ℕ)) × Splits bytes done (line ++ left) × WritesAnswers done old new
 
--- each line that ends in what was read is answered: what was read behind them is the beginning of one line
+-- each line that ends in what was read is answered: what was read after them is the beginning of one line
 abbrev pub AnswersGiven : Option (List ℕ) → Option (List ℕ) → Option (List ℕ) → Option (List ℕ) → Type 0
 AnswersGiven input left old new = (line : List ℕ) × IsOneLine line × IsUnderWay input left old new line

@@ -1,8 +1,8 @@
 //! The answer to a line.
 ghost use Rattle.std.specs.Prelude.{◌≡◌, ◌++◌, ◌&&◌, ℕ, List, IsTrue, OnOk, OnErr, Some, Ok};
-ghost use Rattle.postgres_types.specs.pg_base.Content.{content};
-ghost use Rattle.postgres_types.specs.pg_read.Reading.{cell_of};
-ghost use Rattle.postgres_types.specs.pg_base.Faults.{refusal_of};
+ghost use Rattle.postgres_types.specs.Content.{content};
+ghost use Rattle.postgres_types.specs.Cells.{cell_of};
+ghost use Rattle.postgres_types.specs.Faults.{refusal_of};
 ghost use Rattle.pgcell.specs.Answer.{Answer, AnswersAs, AnswersBase, AnswersCell, PrintsRefusal, printed};
 
 use crate::request::{Base, Name, Request};
@@ -10,7 +10,7 @@ use bytes::BytesMut;
 use postgres_types::{Fault, FromSql, IsNull, ToSql, Type, rewrite};
 use std::alloc::{AllocError, Global};
 
-/// Puts the answer to a line, without a byte 10, behind what is pending; where memory is refused
+/// Puts the answer to a line, without a byte 10, after what is pending; where memory is refused
 /// that stays as it was.
 pub fn answer(alloc: Global, line: &[u8], pending: &mut Vec<u8>) -> Result<(), AllocError>
     ensures ok { OnOk result ((text : List ℕ) × Answer line.now text × (pending.new.items ≡ pending.old.items ++ text)) }
@@ -79,7 +79,7 @@ fn norm_cell<'a, T: FromSql<'a> + ToSql>(
     }
 }
 
-/// Puts the text behind what is pending.
+/// Puts the text after what is pending.
 fn print(text: &[u8], pending: &mut Vec<u8>) -> Result<(), AllocError>
     ensures ok { OnOk result (pending.new.items ≡ pending.old.items ++ text.now) }
     ensures err { OnErr result (pending.new.items ≡ pending.old.items) }
@@ -95,8 +95,14 @@ fn print_bytes(alloc: Global, bytes: &[u8], pending: &mut Vec<u8>) -> Result<(),
     if bytes.is_empty() {
         return print(b"ok -", pending);
     }
-    let text = format!(in alloc; "ok {}", hex::encode(alloc, bytes)?)?;
-    print(text.as_bytes(), pending)
+    let digits = hex::encode(alloc, bytes)?;
+    let start = pending.len();
+    print(b"ok ", pending)?;
+    if print(digits.as_bytes(), pending).is_err() {
+        pending.truncate(start);
+        return Err(AllocError);
+    }
+    Ok(())
 }
 
 /// Prints the number of a refusal. Want of memory is no refusal, and is passed on.

@@ -2,7 +2,7 @@
 ghost use Rattle.std.specs.Prelude.{◌≡◌, ◌∷◌, [], ◌==◌, IfSome, IfNone, IfOk, option_map};
 ghost use Rattle.std.specs.List.{slice_split};
 ghost use Rattle.pgcell.specs.Request.{words, base_of, name_of, cell_of_word, request_of, seen_bytes, seen_cell, seen_request};
-ghost use Rattle.postgres_types.specs.pg_read.Reading.{cell_of};
+ghost use Rattle.postgres_types.specs.Cells.{cell_of};
 
 use crate::split::split_once;
 use hex::FromHexError;

@@ -33,7 +33,8 @@ const BLOCK: usize = 65_536;
 /// Answers each line of the input.
 ///
 /// A read or a write that was interrupted is tried again. After any fault but that of a write,
-/// whole answers to some first lines are written; after that of a write, a beginning of them.
+/// whole answers to some first lines are written; after that of a write, a beginning of them. The
+/// writer is not flushed.
 pub fn run<R: Read, W: Write>(alloc: Global, input: &mut R, output: &mut W) -> Result<(), RunFault>
     ensures ok { OnOk result (AnswersAll (R.remaining input.old)
         (W.contents output.old) (W.contents output.new)) }

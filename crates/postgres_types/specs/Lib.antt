@@ -1,5 +1,23 @@
-pub mod pg_base
-pub mod pg_read
-pub mod pg_write
+-- The words of reading and writing together, and those of the layers below.
+pub use Rattle.pg_base.specs.Appending
+pub use Rattle.pg_base.specs.BuiltInRows
+pub use Rattle.pg_base.specs.Bytes
+pub use Rattle.pg_base.specs.Cells
+pub use Rattle.pg_base.specs.Content
+pub use Rattle.pg_base.specs.Digest
+pub use Rattle.pg_base.specs.Faults
+pub use Rattle.pg_base.specs.FaultTexts
+pub use Rattle.pg_base.specs.FormatLaws
+pub use Rattle.pg_base.specs.Formats
+pub use Rattle.pg_base.specs.Numbers
+pub use Rattle.pg_base.specs.Options
+pub use Rattle.pg_base.specs.Sameness
+pub use Rattle.pg_base.specs.Seen
+pub use Rattle.pg_base.specs.Texts
+pub use Rattle.pg_read.specs.Framed
+pub use Rattle.pg_read.specs.OptionReading
+pub use Rattle.pg_read.specs.Reading
+pub use Rattle.pg_write.specs.OptionWriting
+pub use Rattle.pg_write.specs.Writing
 pub mod ReadingBack
 pub mod Rewriting

@@ -1,8 +1,8 @@
 -- What a written value is read back as, by the shape of the value.
 use Rattle.std.specs.Prelude.{Option, Some, None, Result, Ok, Err}
-use Rattle.postgres_types.specs.pg_base.Faults.{Outcome}
-use Rattle.postgres_types.specs.pg_base.Writing.{Wire}
-use Rattle.postgres_types.specs.pg_read.Options.{IsNoneOutcome}
+use Rattle.pg_base.specs.Faults.{Outcome}
+use Rattle.pg_base.specs.Appending.{Wire}
+use Rattle.pg_read.specs.OptionReading.{IsNoneOutcome}
 
 -- a plain value, of numbers and texts: the value itself
 abbrev pub BackSelf : {A : Type 0} → (A → A → Type 0) → A → Outcome A → Type 0

@@ -1,10 +1,11 @@
 -- What rewriting a cell answers.
 use Rattle.std.specs.Prelude.{◌≡◌, ℕ, List, Result, Ok, Err, IfSome, ◌⊎◌}
-use Rattle.postgres_types.specs.declared.pg_base.fault.Fault.{Fault}
-use Rattle.postgres_types.specs.declared.pg_base.format.IsNull.{IsNull}
-use Rattle.postgres_types.specs.pg_base.Cells.{Cell}
-use Rattle.postgres_types.specs.pg_base.Faults.{Outcome, refusal_of}
-use Rattle.postgres_types.specs.pg_base.Writing.{Wire, Writes}
+use Rattle.pg_base.specs.declared.fault.Fault.{Fault}
+use Rattle.pg_base.specs.declared.format.IsNull.{IsNull}
+use Rattle.pg_base.specs.Cells.{Cell}
+use Rattle.pg_base.specs.Faults.{Outcome, refusal_of}
+use Rattle.pg_base.specs.Appending.{Wire}
+use Rattle.pg_write.specs.Writing.{Writes}
 
 -- the cell reads as a value, which is written; or the cell is refused, or the value that it reads as, or memory ran
 -- out, and the bytes are as they were

@@ -5,18 +5,13 @@
 //! PostgreSQL's send and receive functions.
 #![tactic(auto)]
 
-mod pg_base;
-mod pg_read;
-mod pg_write;
 mod rewriting;
 
-pub use pg_base::fault::{Fault, Reason, WasNull, WrongType};
+pub use pg_base::fault::{Fault, REASON_LEN, Reason, WasNull, WrongType};
 pub use pg_base::format::{Format, IsNull};
+pub use pg_base::protocol;
 pub use pg_base::types::{Field, Kind, KindRef, Oid, PgType as Type};
 pub use pg_read::from_sql::{FromSql, from_sql_nullable};
 pub use pg_read::private;
 pub use pg_write::to_sql::{ToSql, to_sql_checked_as};
 pub use rewriting::rewrite;
-
-#[cfg(test)]
-mod tests;

@@ -1,16 +1,16 @@
 //! Reading a cell and writing it again.
 ghost use Rattle.std.specs.Prelude.{◌≡◌, ◌&&◌, Err, IsTrue, false, codes};
 ghost use Rattle.postgres_types.specs.Rewriting.{Rewrites};
-ghost use Rattle.postgres_types.specs.pg_base.Content.{content, IsBuiltIn};
-ghost use Rattle.postgres_types.specs.pg_base.Faults.{NeverMemory, WrongTypeRefusal};
-ghost use Rattle.postgres_types.specs.pg_base.Writing.{Writes};
-ghost use Rattle.postgres_types.specs.pg_read.Reading.{cell_of};
+ghost use Rattle.pg_base.specs.Content.{content, IsBuiltIn};
+ghost use Rattle.pg_base.specs.Faults.{NeverMemory, wrong_type};
+ghost use Rattle.pg_write.specs.Writing.{Writes};
+ghost use Rattle.pg_base.specs.Cells.{cell_of};
 
-use crate::pg_base::fault::Fault;
-use crate::pg_base::format::IsNull;
-use crate::pg_base::types::PgType;
-use crate::pg_read::from_sql::{FromSql, from_sql_nullable};
-use crate::pg_write::to_sql::{ToSql, wrong_type};
+use pg_base::fault::Fault;
+use pg_base::format::IsNull;
+use pg_base::types::PgType;
+use pg_read::from_sql::{FromSql, from_sql_nullable};
+use pg_write::to_sql::{ToSql, wrong_type};
 use bytes::BytesMut;
 use std::alloc::Global;
 
@@ -25,8 +25,8 @@ pub fn rewrite<'a, T: FromSql<'a> + ToSql>(
     out: &mut BytesMut,
 ) -> Result<IsNull, Fault>
     ensures refuses { (T.FromSql.accepted (content ty.now) && T.ToSql.accepted (content ty.now)) ≡ false
-        → Writes (Err (WrongTypeRefusal (content ty.now) (codes "rewrite"))) out.old.items out.new.items result }
-    ensures spared { (T.FromSql.accepted (content ty.now) && T.ToSql.accepted (content ty.now)) ≡ false
+        → Writes (Err (wrong_type (content ty.now) (codes "rewrite"))) out.old.items out.new.items result }
+    ensures never_memory { (T.FromSql.accepted (content ty.now) && T.ToSql.accepted (content ty.now)) ≡ false
         → IsBuiltIn (content ty.now) → NeverMemory result }
     ensures rewrites { IsTrue (T.FromSql.accepted (content ty.now) && T.ToSql.accepted (content ty.now))
         → Rewrites (T.reads (content ty.now)) (T.wire (content ty.now)) (cell_of raw.entry)

@@ -1,6 +1,6 @@
-use Rattle.postgres_types.specs.pg_base.Content.{content}
-use Rattle.postgres_types.specs.pg_base.Faults.{refusal_of}
-use Rattle.postgres_types.specs.pg_read.Reading.{cell_of}
+use Rattle.postgres_types.specs.Content.{content}
+use Rattle.postgres_types.specs.Faults.{refusal_of}
+use Rattle.postgres_types.specs.Cells.{cell_of}
 use Rattle.pgcell.proofs.Outcomes.{ok_weaker}
 use Rattle.pgcell.proofs.Printing.{refusal_answers}
 use Rattle.pgcell.proofs.answer.norm_cell.Goals as goal

@@ -1,0 +1,109 @@
+-- Two contents are the same just where the test says so.
+use Rattle.std.proofs.Common.{rules, ◌≡◌, refl, ap, ◌==◌, ◌&&◌, Bool, true, false, ℕ, List, [], ◌∷◌}
+use Rattle.std.specs.Cmp.Lexicographic.{pointwise}
+use Rattle.std.proofs.lemmas.Bool.{eqb-true, eq-eqb}
+use denote.Enum.Bare.{same_true, true_same}
+use Rattle.pg_base.specs.contracts.types.built_in.BuiltIn.{the_type}
+use Rattle.pg_base.specs.contracts.types.built_in.BuiltInPartialEq.TheImpl.{ghosts as rows}
+use Rattle.pg_base.specs.declared.types.built_in.BuiltIn.{BuiltIn as Row}
+use Rattle.pg_base.specs.Content.{Content, BuiltInType, MadeType, KindContent, SimpleKind, EnumKind, PseudoKind, ArrayKind, RangeKind, MultirangeKind, DomainKind, CompositeKind, FieldsContent, NoFields, FieldAnd, same_type, same_kind_content, same_fields}
+
+-- both sides of a true &&
+pub both : (a b : Bool) → (a && b) ≡ true → (a ≡ true) × (b ≡ true)
+both true b h = (refl, h)
+both false b h = cc
+
+-- texts that the test finds the same are the same
+pub bytes-same : (m n : List ℕ) → pointwise ◌==◌ m n ≡ true → m ≡ n
+bytes-same [] [] h = refl
+bytes-same [] (y ∷ ys) h = cc
+bytes-same (x ∷ xs) [] h = cc
+bytes-same (x ∷ xs) (y ∷ ys) h =
+    let p = both (x == y) (pointwise ◌==◌ xs ys) h in
+    let e = eqb-true x y p.0 in
+    let f = bytes-same xs ys p.1 in cc
+
+-- the same of lists of texts
+texts-same : (m n : List (List ℕ)) → pointwise (pointwise ◌==◌) m n ≡ true → m ≡ n
+texts-same [] [] h = refl
+texts-same [] (y ∷ ys) h = cc
+texts-same (x ∷ xs) [] h = cc
+texts-same (x ∷ xs) (y ∷ ys) h =
+    let p = both (pointwise ◌==◌ x y) (pointwise (pointwise ◌==◌) xs ys) h in
+    let e = bytes-same x y p.0 in
+    let f = texts-same xs ys p.1 in cc
+
+-- the same of rows
+row-same : (a b : Row) → rows.eq a b ≡ true → a ≡ b
+row-same a b h = same_true the_type (search rules) a b h
+
+mutual
+  -- types that the test finds the same are the same
+  pub type-same : (a b : Content) → same_type a b ≡ true → a ≡ b
+  type-same (BuiltInType a) (BuiltInType b) h = ap BuiltInType (row-same a b h)
+  type-same (MadeType m i k s) (MadeType n j l t) h =
+      let p = both (pointwise ◌==◌ m n) (i == j && (same_kind_content k l && pointwise ◌==◌ s t)) h in
+      let q = both (i == j) (same_kind_content k l && pointwise ◌==◌ s t) p.1 in
+      let r = both (same_kind_content k l) (pointwise ◌==◌ s t) q.1 in
+      let e = bytes-same m n p.0 in
+      let f = eqb-true i j q.0 in
+      let g = kind-same k l r.0 in
+      let w = bytes-same s t r.1 in cc
+  type-same (BuiltInType a) (MadeType n j l t) h = cc
+  type-same (MadeType m i k s) (BuiltInType b) h = cc
+
+  -- the same of kinds
+  pub kind-same : (a b : KindContent) → same_kind_content a b ≡ true → a ≡ b
+  kind-same SimpleKind SimpleKind h = refl
+  kind-same (EnumKind a) (EnumKind b) h = ap EnumKind (texts-same a b h)
+  kind-same PseudoKind PseudoKind h = refl
+  kind-same (ArrayKind a) (ArrayKind b) h = ap ArrayKind (type-same a b h)
+  kind-same (RangeKind a) (RangeKind b) h = ap RangeKind (type-same a b h)
+  kind-same (MultirangeKind a) (MultirangeKind b) h = ap MultirangeKind (type-same a b h)
+  kind-same (DomainKind a) (DomainKind b) h = ap DomainKind (type-same a b h)
+  kind-same (CompositeKind a) (CompositeKind b) h = ap CompositeKind (fields-same a b h)
+  kind-same a b h = cc
+
+  -- the same of fields
+  pub fields-same : (a b : FieldsContent) → same_fields a b ≡ true → a ≡ b
+  fields-same NoFields NoFields h = refl
+  fields-same (FieldAnd m a p) (FieldAnd n b q) h =
+      let u = both (pointwise ◌==◌ m n && same_type a b) (same_fields p q) h in
+      let v = both (pointwise ◌==◌ m n) (same_type a b) u.0 in
+      let e = bytes-same m n v.0 in
+      let f = type-same a b v.1 in
+      let g = fields-same p q u.1 in cc
+  fields-same NoFields (FieldAnd n b q) h = cc
+  fields-same (FieldAnd m a p) NoFields h = cc
+
+-- the test finds a text the same as itself
+pub bytes-self : (m : List ℕ) → pointwise ◌==◌ m m ≡ true
+bytes-self [] = refl
+bytes-self (x ∷ xs) = rw (eq-eqb x x refl, bytes-self xs) refl
+
+-- the same of a list of texts
+texts-self : (m : List (List ℕ)) → pointwise (pointwise ◌==◌) m m ≡ true
+texts-self [] = refl
+texts-self (x ∷ xs) = rw (bytes-self x, texts-self xs) refl
+
+mutual
+  -- the test finds a type the same as itself
+  pub type-self : (a : Content) → same_type a a ≡ true
+  type-self (BuiltInType a) = true_same the_type a a refl
+  type-self (MadeType m i k s) = rw (bytes-self m, eq-eqb i i refl, kind-self k, bytes-self s) refl
+
+  -- the same of a kind
+  pub kind-self : (a : KindContent) → same_kind_content a a ≡ true
+  kind-self SimpleKind = refl
+  kind-self (EnumKind a) = texts-self a
+  kind-self PseudoKind = refl
+  kind-self (ArrayKind a) = type-self a
+  kind-self (RangeKind a) = type-self a
+  kind-self (MultirangeKind a) = type-self a
+  kind-self (DomainKind a) = type-self a
+  kind-self (CompositeKind a) = fields-self a
+
+  -- the same of fields
+  pub fields-self : (a : FieldsContent) → same_fields a a ≡ true
+  fields-self NoFields = refl
+  fields-self (FieldAnd m a p) = rw (bytes-self m, type-self a, fields-self p) refl

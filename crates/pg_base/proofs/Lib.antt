@@ -1,0 +1,4 @@
+pub mod Contents
+pub mod DerivedTypes
+pub mod Fields
+pub mod TextLemmas

@@ -1,0 +1,20 @@
+-- What a value's cell is, and what an appender leaves in the buffer.
+use Rattle.std.specs.Prelude.{◌≡◌, ℕ, ◌+◌, ◌<◌, ◌≤◌, List, ◌++◌, length, Option, Some, None, Result, Ok, Err, ⊤}
+use Rattle.bytes.specs.Filled.{Filled}
+use Rattle.pg_base.specs.Cells.{Cell}
+use Rattle.pg_base.specs.Faults.{Refusal}
+use Rattle.pg_base.specs.declared.fault.Fault.{Fault}
+use Rattle.pg_base.specs.declared.fault.Fault.TheVariants.{Memory, Transmit}
+
+-- a written form: a cell, or a refusal
+abbrev pub Wire : Type 0
+Wire = Result Cell Refusal
+
+-- an appender appended these bytes, and used no more room than they take; or it left the bytes as they were with
+-- Memory, and there was less room than they take. Where a limit is passed there is nothing to append: it answered
+-- Transmit and left the buffer as it was
+abbrev pub Appends : Option (List ℕ) → Filled → Filled → Result ⊤ Fault → Type 0
+Appends (Some b) old new (Ok done) = (new.items ≡ old.items ++ b) × (old.spare ≤ new.spare + length b)
+Appends (Some b) old new (Err f) = (new.items ≡ old.items) × (f ≡ Memory) × (old.spare < length b) × (old.spare ≤ new.spare)
+Appends None old new (Ok done) = ⊥
+Appends None old new (Err f) = (new ≡ old) × (f ≡ Transmit)

@@ -1,0 +1,54 @@
+-- Cells, their frames, and cells in a row.
+-- PostgreSQL frames values so in DataRow and Bind (documentation, "Message Formats"), and in array_send, record_send and
+-- hstore_send: a length of four bytes, -1 for NULL, and that many bytes. That every negative length is NULL in reading is
+-- the upstream crate's rule; the server itself writes -1 alone.
+use Rattle.std.specs.Prelude.{◌≡◌, ℕ, ◌<◌, ◌≤◌, ◌^◌, ℤ, pos, negsuc, List, [], ◌∷◌, ◌++◌, length, Option, Some, None, ◌⊎◌, FitsSigned, if◌then◌else◌, nat_le}
+use mir.Val.{bits}
+use Rattle.std.specs.Borrow.{Bor}
+use Rattle.std.specs.Int.{Width, w32, to_be_bytes, cast_unsigned}
+
+-- a cell: NULL, or a list of bytes
+abbrev pub Cell : Type 0
+Cell = Option (List ℕ)
+
+-- the cell that a call is handed
+abbrev pub cell_of : Option (Bor (List ℕ)) → Cell
+cell_of None = None
+cell_of (Some bytes) = Some bytes.now
+
+-- the bytes of a signed number in a width, highest first, in two's complement (pq_sendint32 and its like); outside the
+-- width's range they are another number's, so rules speak of IsBe
+abbrev pub be : Width → ℤ → List ℕ
+be w z = to_be_bytes w (cast_unsigned w z)
+
+-- b is the bytes of z, a number that the width holds
+abbrev pub IsBe : Width → List ℕ → ℤ → Type 0
+IsBe w b z = FitsSigned w z × (b ≡ be w z)
+
+-- b is the bytes of n, a number without a sign that the width holds
+abbrev pub IsBeUnsigned : Width → List ℕ → ℕ → Type 0
+IsBeUnsigned w b n = (n < 2 ^ bits w) × (b ≡ to_be_bytes w n)
+
+-- the frame of a cell: its length in four bytes, then its bytes; for NULL the length -1. A cell that is longer
+-- than the length can say has no frame
+abbrev pub frame : Cell → Option (List ℕ)
+frame None = Some (be w32 (negsuc 0))
+frame (Some b) = if nat_le (length b) 2147483647 then Some (be w32 (pos (length b)) ++ b) else None
+
+-- s spells a cell: it is the cell's frame, and every negative length spells NULL
+abbrev pub Spells : List ℕ → Cell → Type 0
+Spells s None = (n : ℕ) × IsBe w32 s (negsuc n)
+Spells s (Some b) = frame (Some b) ≡ Some s
+
+-- no front of s spells a cell
+abbrev pub SpellsNone : List ℕ → Type 0
+SpellsNone s = (t rest : List ℕ) (c : Cell) → s ≡ t ++ rest → Spells t c → ⊥
+
+-- s is spellings of the cells, one after another, and then rest
+abbrev pub SpellsAll : List ℕ → List Cell → List ℕ → Type 0
+SpellsAll s [] rest = s ≡ rest
+SpellsAll s (c ∷ cs) rest = (t u : List ℕ) × (s ≡ t ++ u) × Spells t c × SpellsAll u cs rest
+
+-- s begins with the cells cs and then comes rest: there are n cells, or fewer where no further cell is whole
+abbrev pub CellsInRow : List ℕ → ℕ → List Cell → List ℕ → Type 0
+CellsInRow s n cs rest = SpellsAll s cs rest × (length cs ≤ n) × ((length cs ≡ n) ⊎ SpellsNone rest)

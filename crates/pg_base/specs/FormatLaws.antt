@@ -1,0 +1,85 @@
+-- Laws of formats: which of them are grammars.
+use Rattle.std.specs.Prelude.{◌≡◌, ℕ, suc, zero, ◌<◌, ◌^◌, ◌==◌, ℤ, List, [], ◌∷◌, length, Some, None, Bool, true, false, not, FitsSigned, refl}
+use Rattle.std.proofs.Common.{sym, ◌∙◌, ap, arith, drop}
+use Rattle.std.proofs.Math.Facts.{Fits-of_z}
+use Rattle.std.proofs.lemmas.Bool.{eq-eqb}
+use Rattle.std.proofs.lemmas.Int.{to_z-of_z}
+use Rattle.std.proofs.lemmas.Nat.{from_be_bytes-to_be_bytes_2, from_be_bytes-to_be_bytes_4, from_be_bytes-to_be_bytes_8}
+use Rattle.std.proofs.lemmas.Str.{is_utf8-from_IsUtf8}
+use Rattle.std.specs.Int.{Width, w8, w16, w32, w64, byte_len, bytes_high_first, cast_unsigned, cast_signed, to_be_bytes, from_be_bytes}
+use mir.Val.{bits}
+use Rattle.pg_base.specs.Bytes.{FormBytes, first_fault_bytes}
+use Rattle.pg_base.specs.Cells.{be, IsBe, IsBeUnsigned}
+use Rattle.pg_base.specs.Formats.{IsGrammar}
+use Rattle.pg_base.specs.Numbers.{FormSigned, FormUnsigned, FormBool, first_fault_number}
+use Rattle.pg_base.specs.Texts.{FormText, first_fault_text}
+
+length-bytes_high_first : (k n : ℕ) → length (bytes_high_first k n) ≡ k
+length-bytes_high_first zero n = refl
+length-bytes_high_first (suc k) n = ap suc (length-bytes_high_first k n)
+
+-- bytes of the width's length pass the check
+passes_number : (width : ℕ) (b : List ℕ) → length b ≡ width → first_fault_number width b ≡ None
+passes_number width b h = rw (eq-eqb (length b) width h) refl
+
+-- over a width whose bytes give the number back
+module _ (w : Width) (back : (n : ℕ) → n < 2 ^ bits w → from_be_bytes w (to_be_bytes w n) ≡ n) where
+  be_unsigned-single : (b : List ℕ) (m n : ℕ) → IsBeUnsigned w b m → IsBeUnsigned w b n → m ≡ n
+  be_unsigned-single b m n h k = sym (back m h.0) ∙ ap (from_be_bytes w) (sym h.1 ∙ k.1) ∙ back n k.0
+
+  be-back : (z : ℤ) → FitsSigned w z → cast_signed w (from_be_bytes w (be w z)) ≡ z
+  be-back z h = ap (cast_signed w) (back (cast_unsigned w z) (Fits-of_z h).fits) ∙ to_z-of_z w z h
+
+  -- bytes are those of one number
+  pub be-single : (b : List ℕ) (v u : ℤ) → IsBe w b v → IsBe w b u → v ≡ u
+  be-single b v u h k = sym (be-back v h.0) ∙ ap (λ s. cast_signed w (from_be_bytes w s)) (sym h.1 ∙ k.1) ∙ be-back u k.0
+
+  signed_grammar : IsGrammar (λ v u. v ≡ u) (FormSigned w) (first_fault_number (byte_len w))
+  signed_grammar = record {
+    passes = λ b v h. passes_number (byte_len w) b (ap length h.1 ∙ length-bytes_high_first (byte_len w) (cast_unsigned w v));
+    single = be-single;
+  }
+
+  unsigned_grammar : IsGrammar (λ m n. m ≡ n) (FormUnsigned w) (first_fault_number (byte_len w))
+  unsigned_grammar = record {
+    passes = λ b n h. passes_number (byte_len w) b (ap length h.1 ∙ length-bytes_high_first (byte_len w) n);
+    single = be_unsigned-single;
+  }
+
+one_byte-back : (n : ℕ) → n < 2 ^ bits w8 → from_be_bytes w8 (to_be_bytes w8 n) ≡ n
+one_byte-back n h = omega (arith, h)
+
+pub char_grammar : IsGrammar (λ v w. v ≡ w) (FormSigned w8) (first_fault_number 1)
+char_grammar = signed_grammar w8 one_byte-back
+
+pub int2_grammar : IsGrammar (λ v w. v ≡ w) (FormSigned w16) (first_fault_number 2)
+int2_grammar = signed_grammar w16 from_be_bytes-to_be_bytes_2
+
+pub int4_grammar : IsGrammar (λ v w. v ≡ w) (FormSigned w32) (first_fault_number 4)
+int4_grammar = signed_grammar w32 from_be_bytes-to_be_bytes_4
+
+pub int8_grammar : IsGrammar (λ v w. v ≡ w) (FormSigned w64) (first_fault_number 8)
+int8_grammar = signed_grammar w64 from_be_bytes-to_be_bytes_8
+
+pub oid_grammar : IsGrammar (λ v w. v ≡ w) (FormUnsigned w32) (first_fault_number 4)
+oid_grammar = unsigned_grammar w32 from_be_bytes-to_be_bytes_4
+
+pub bool_grammar : IsGrammar (λ v w. v ≡ w) FormBool (first_fault_number 1)
+bool_grammar = record {
+  passes = λ b v h. ap (first_fault_number 1) h.1;
+  single = λ b v w h k. let same : h.0 ≡ k.0 = cc (h.1, k.1) in h.2 ∙ ap (λ n. not (n == 0)) same ∙ sym k.2;
+}
+
+text_passes : {A : Type 0} (bytes_of : A → List ℕ) (versioned : Bool) (b : List ℕ) (v : A) → FormText bytes_of versioned b v → first_fault_text versioned b ≡ None
+text_passes bytes_of false b v h = ap (first_fault_text false) h.1 ∙ (rw (is_utf8-from_IsUtf8 (bytes_of v) h.0) refl)
+text_passes bytes_of true b v h = ap (first_fault_text true) h.1 ∙ (rw (is_utf8-from_IsUtf8 (bytes_of v) h.0) refl)
+
+text_single : {A : Type 0} (bytes_of : A → List ℕ) (versioned : Bool) (b : List ℕ) (v w : A) → FormText bytes_of versioned b v → FormText bytes_of versioned b w → bytes_of v ≡ bytes_of w
+text_single bytes_of false b v w h k = sym h.1 ∙ k.1
+text_single bytes_of true b v w h k = ap (drop 1) (sym h.1 ∙ k.1)
+
+pub text_grammar : {A : Type 0} (bytes_of : A → List ℕ) (versioned : Bool) → IsGrammar (λ v w. bytes_of v ≡ bytes_of w) (FormText bytes_of versioned) (first_fault_text versioned)
+text_grammar bytes_of versioned = record { passes = text_passes bytes_of versioned; single = text_single bytes_of versioned }
+
+pub bytes_grammar : {A : Type 0} (bytes_of : A → List ℕ) → IsGrammar (λ v w. bytes_of v ≡ bytes_of w) (FormBytes bytes_of) first_fault_bytes
+bytes_grammar bytes_of = record { passes = λ b v h. refl; single = λ b v w h k. h ∙ sym k }

@@ -1,0 +1,25 @@
+-- Plain formats: what bytes spell, and what cells read as.
+use Rattle.std.specs.Prelude.{◌≡◌, ℕ, List, [], ◌∷◌, Bool, if◌then◌else◌, Option, Some, None, Result, Ok, Err}
+use Rattle.pg_base.specs.Cells.{Cell}
+use Rattle.pg_base.specs.Faults.{Refusal, Outcome, was_null}
+
+-- the fault of the first check that fails: a check is whether it is met, and the fault where it is not
+abbrev pub first_fault_of : List (Bool × Refusal) → Option Refusal
+first_fault_of [] = None
+first_fault_of (check ∷ checks) = if check.0 then first_fault_of checks else Some check.1
+
+-- what bytes give in a plain format: a value that they spell, or the fault of the first check that they fail
+abbrev pub Decodes : {A : Type 0} → (List ℕ → A → Type 0) → (List ℕ → Option Refusal) → List ℕ → Outcome A → Type 0
+Decodes form first_fault b (Ok v) = form b v
+Decodes form first_fault b (Err r) = first_fault b ≡ Some r
+
+-- what a cell gives: NULL is refused
+abbrev pub ReadsPlain : {A : Type 0} → (List ℕ → A → Type 0) → (List ℕ → Option Refusal) → Cell → Outcome A → Type 0
+ReadsPlain form first_fault None (Ok v) = ⊥
+ReadsPlain form first_fault None (Err r) = r ≡ was_null
+ReadsPlain form first_fault (Some b) outcome = Decodes form first_fault b outcome
+
+-- a format is a grammar: bytes that spell a value pass every check, and spell no other value
+pub record IsGrammar {A : Type 0} (same : A → A → Type 0) (form : List ℕ → A → Type 0) (first_fault : List ℕ → Option Refusal) : Type 0 where
+  pub passes : (b : List ℕ) (v : A) → form b v → first_fault b ≡ None
+  pub single : (b : List ℕ) (v w : A) → form b v → form b w → same v w

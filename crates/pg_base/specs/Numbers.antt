@@ -1,0 +1,50 @@
+-- Whole numbers: CHAR (charsend), INT2, INT4, INT8 (int2send, int4send, int8send), OID (oidsend) and BOOL (boolsend).
+use Rattle.std.specs.Prelude.{◌≡◌, ℕ, ◌<◌, ◌-◌, ◌^◌, ◌==◌, ℤ, pos, negsuc, List, [], ◌∷◌, length, Option, Some, Bool, true, false, not, nat_lt, if◌then◌else◌, Ok, Err}
+use Rattle.std.specs.Int.{Width, byte_len, to_be_bytes}
+use mir.Val.{bits}
+use Rattle.pg_base.specs.Cells.{Cell, be, IsBe, IsBeUnsigned}
+use Rattle.pg_base.specs.Faults.{Refusal, Outcome, size, transmit}
+use Rattle.pg_base.specs.Formats.{first_fault_of, ReadsPlain}
+use Rattle.pg_base.specs.Appending.{Wire}
+
+-- any other length than the width's is Size
+abbrev pub first_fault_number : ℕ → List ℕ → Option Refusal
+first_fault_number width b = first_fault_of ((length b == width, size) ∷ [])
+
+-- CHAR, INT2, INT4, INT8: the bytes spell this number in the width, highest first, in two's complement
+abbrev pub FormSigned : Width → List ℕ → ℤ → Type 0
+FormSigned = IsBe
+
+abbrev pub ReadsSigned : Width → Cell → Outcome ℤ → Type 0
+ReadsSigned w = ReadsPlain (FormSigned w) (first_fault_number (byte_len w))
+
+-- whether the width holds the number
+abbrev pub fits_signed : Width → ℤ → Bool
+fits_signed w (pos n) = nat_lt n (2 ^ (bits w - 1))
+fits_signed w (negsuc n) = nat_lt n (2 ^ (bits w - 1))
+
+-- the cell of a number: its bytes in the width
+abbrev pub wire_signed : Width → ℤ → Wire
+wire_signed w z = if fits_signed w z then Ok (Some (be w z)) else Err transmit
+
+-- OID: the same of a number without a sign
+abbrev pub FormUnsigned : Width → List ℕ → ℕ → Type 0
+FormUnsigned = IsBeUnsigned
+
+abbrev pub ReadsUnsigned : Width → Cell → Outcome ℕ → Type 0
+ReadsUnsigned w = ReadsPlain (FormUnsigned w) (first_fault_number (byte_len w))
+
+abbrev pub wire_unsigned : Width → ℕ → Wire
+wire_unsigned w n = if nat_lt n (2 ^ bits w) then Ok (Some (to_be_bytes w n)) else Err transmit
+
+-- BOOL: one byte, and 0 is false and any other byte true
+abbrev pub FormBool : List ℕ → Bool → Type 0
+FormBool b v = (byte : ℕ) × (b ≡ byte ∷ []) × (v ≡ not (byte == 0))
+
+abbrev pub ReadsBool : Cell → Outcome Bool → Type 0
+ReadsBool = ReadsPlain FormBool (first_fault_number 1)
+
+-- the cell of a truth value: 0 or 1
+abbrev pub wire_bool : Bool → Wire
+wire_bool false = Ok (Some (0 ∷ []))
+wire_bool true = Ok (Some (1 ∷ []))

@@ -1,0 +1,11 @@
+//! Postgres types, faults, and the byte formats of plain values.
+//!
+//! A reader of [`protocol`] answers the value that its bytes spell, or the fault of the first check
+//! that they fail; an appender appends its value's bytes, or nothing.
+#![tactic(auto)]
+
+pub mod acceptance;
+pub mod fault;
+pub mod format;
+pub mod protocol;
+pub mod types;

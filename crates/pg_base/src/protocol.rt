@@ -1,0 +1,22 @@
+//! The byte formats: for each a reader and an appender, over bytes alone.
+//!
+//! A reader answers the value that its bytes spell, or the fault of the first check that they fail.
+//! An appender appends the bytes of its value, or leaves the buffer as it was with `Memory`, and
+//! that only where the buffer had less spare room than these bytes; where a limit is passed it
+//! answers `Transmit`.
+
+mod bytea;
+mod frames;
+mod numbers;
+mod texts;
+
+pub use bytea::{bytea_from_sql, bytea_to_sql};
+pub use frames::frame_to_sql;
+pub use numbers::{
+    bool_from_sql, bool_to_sql, char_from_sql, char_to_sql, int2_from_sql, int2_to_sql,
+    int4_from_sql, int4_to_sql, int8_from_sql, int8_to_sql, oid_from_sql, oid_to_sql,
+};
+pub use texts::{
+    lquery_from_sql, lquery_to_sql, ltree_from_sql, ltree_to_sql, ltxtquery_from_sql,
+    ltxtquery_to_sql, text_from_sql, text_to_sql,
+};

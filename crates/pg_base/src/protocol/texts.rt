@@ -1,0 +1,103 @@
+//! Texts, in UTF-8.
+ghost use Rattle.std.specs.Prelude.{◌∷◌, Some, true, false};
+ghost use Rattle.pg_base.specs.Faults.{Answers, NeverMemory};
+ghost use Rattle.pg_base.specs.Formats.{Decodes};
+ghost use Rattle.pg_base.specs.Texts.{FormText, first_fault_text};
+ghost use Rattle.pg_base.specs.Appending.{Appends};
+
+use crate::fault::Fault;
+use bytes::BytesMut;
+use std::alloc::Global;
+
+/// Reads a text: its bytes (`textrecv`). Bytes that are no UTF-8 are `Utf8`.
+#[tactic(auto, using(crate::proofs::TextLemmas::text_refused))]
+pub fn text_from_sql(raw: &[u8]) -> Result<&str, Fault>
+    ensures outcome { Answers (Decodes (FormText (λ text. text.now) false) (first_fault_text false) raw.now) result }
+    ensures never_memory { NeverMemory result }
+{
+    match str::from_utf8(raw) {
+        Ok(text) => Ok(text),
+        Err(_) => Err(Fault::Utf8),
+    }
+}
+
+/// Appends a text: its bytes (`textsend`).
+pub fn text_to_sql(_alloc: Global, v: &str, out: &mut BytesMut) -> Result<(), Fault>
+    ensures { Appends (Some v.now) out.old out.new result }
+{
+    out.extend_from_slice(v.as_bytes())?;
+    Ok(())
+}
+
+/// The first byte of the cells that have a version.
+const VERSION: u8 = 1;
+
+/// Reads a text behind the version 1. Another first byte, or none, is `TextVersion`; what is no
+/// UTF-8 behind it is `Utf8`.
+fn versioned_from_sql(raw: &[u8]) -> Result<&str, Fault>
+    ensures outcome { Answers (Decodes (FormText (λ text. text.now) true) (first_fault_text true) raw.now) result }
+    ensures never_memory { NeverMemory result }
+{
+    match raw {
+        [VERSION, text @ ..] => text_from_sql(text),
+        _ => Err(Fault::TextVersion),
+    }
+}
+
+/// Appends the version 1 and the text.
+fn versioned_to_sql(v: &str, out: &mut BytesMut) -> Result<(), Fault>
+    ensures { Appends (Some (1 ∷ v.now)) out.old out.new result }
+{
+    out.reserve(1 + v.len())?;
+    out.extend_reserved(&[VERSION]);
+    out.extend_reserved(v.as_bytes());
+    Ok(())
+}
+
+/// Reads ltree: the version 1 and the text (`ltree_recv`). Another first byte, or none, is
+/// `TextVersion`; what is no UTF-8 behind it is `Utf8`.
+pub fn ltree_from_sql(raw: &[u8]) -> Result<&str, Fault>
+    ensures outcome { Answers (Decodes (FormText (λ text. text.now) true) (first_fault_text true) raw.now) result }
+    ensures never_memory { NeverMemory result }
+{
+    versioned_from_sql(raw)
+}
+
+/// Appends ltree: the version 1 and the text (`ltree_send`).
+pub fn ltree_to_sql(_alloc: Global, v: &str, out: &mut BytesMut) -> Result<(), Fault>
+    ensures { Appends (Some (1 ∷ v.now)) out.old out.new result }
+{
+    versioned_to_sql(v, out)
+}
+
+/// Reads lquery: the version 1 and the text (`lquery_recv`). Another first byte, or none, is
+/// `TextVersion`; what is no UTF-8 behind it is `Utf8`.
+pub fn lquery_from_sql(raw: &[u8]) -> Result<&str, Fault>
+    ensures outcome { Answers (Decodes (FormText (λ text. text.now) true) (first_fault_text true) raw.now) result }
+    ensures never_memory { NeverMemory result }
+{
+    versioned_from_sql(raw)
+}
+
+/// Appends lquery: the version 1 and the text (`lquery_send`).
+pub fn lquery_to_sql(_alloc: Global, v: &str, out: &mut BytesMut) -> Result<(), Fault>
+    ensures { Appends (Some (1 ∷ v.now)) out.old out.new result }
+{
+    versioned_to_sql(v, out)
+}
+
+/// Reads ltxtquery: the version 1 and the text (`ltxtquery_recv`). Another first byte, or none, is
+/// `TextVersion`; what is no UTF-8 behind it is `Utf8`.
+pub fn ltxtquery_from_sql(raw: &[u8]) -> Result<&str, Fault>
+    ensures outcome { Answers (Decodes (FormText (λ text. text.now) true) (first_fault_text true) raw.now) result }
+    ensures never_memory { NeverMemory result }
+{
+    versioned_from_sql(raw)
+}
+
+/// Appends ltxtquery: the version 1 and the text (`ltxtquery_send`).
+pub fn ltxtquery_to_sql(_alloc: Global, v: &str, out: &mut BytesMut) -> Result<(), Fault>
+    ensures { Appends (Some (1 ∷ v.now)) out.old out.new result }
+{
+    versioned_to_sql(v, out)
+}

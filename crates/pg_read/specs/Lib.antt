@@ -1,0 +1,4 @@
+-- The words of reading.
+pub mod Framed
+pub mod OptionReading
+pub mod Reading

@@ -1,0 +1,147 @@
+//! Reading texts.
+ghost use Rattle.std.specs.Prelude.{◌≡◌, Some, string_bytes};
+ghost use Rattle.std.specs.Box.{boxed_str_bytes};
+ghost use Rattle.std.specs.Cow.{cow_str_bytes};
+ghost use Rattle.pg_base.specs.Content.{content};
+ghost use Rattle.pg_base.specs.Faults.{Answers, NeverMemory};
+ghost use Rattle.pg_base.specs.FormatLaws.{text_grammar};
+ghost use Rattle.pg_base.specs.Sameness.{content_equivalence};
+ghost use Rattle.pg_base.specs.Texts.{accepted_text, FormText, ReadsText, first_fault_text, has_version};
+ghost use Rattle.pg_read.specs.Reading.{EveryCell, NullAlone, plain_single};
+
+use crate::from_sql::FromSql;
+use pg_base::acceptance::{has_version, is_text};
+use pg_base::fault::Fault;
+use pg_base::protocol::{ltree_from_sql, text_from_sql};
+use pg_base::types::PgType;
+use std::alloc::Global;
+use std::borrow::CowStr;
+use std::boxed::BoxedStr;
+
+/// The text of a cell of that type.
+fn text_of<'a>(ty: &PgType, raw: &'a [u8]) -> Result<&'a str, Fault>
+    ensures outcome { Answers (ReadsText (λ s. s.now) (has_version (content ty.now)) (Some raw.now)) result }
+    ensures never_memory { NeverMemory result }
+{
+    if has_version(ty) {
+        ltree_from_sql(raw)
+    } else {
+        text_from_sql(raw)
+    }
+}
+
+/// The text's bytes, in place. A type that is named ltree, lquery or ltxtquery has the version 1 first, and
+/// another first byte, or none, is `TextVersion`. What is no UTF-8 is `Utf8`, and NULL is `WasNull`.
+impl<'a> FromSql<'a> for &'a str {
+    ghost same = { λ s t. s.now ≡ t.now };
+
+    ghost accepted = { accepted_text };
+
+    ghost reads = { λ ty. ReadsText (λ s. s.now) (has_version ty) };
+
+    ghost memory_free = { EveryCell };
+
+    ghost equivalence = { content_equivalence (λ s. s.now) };
+
+    ghost single = { λ ty _. plain_single (λ s t. s.now ≡ t.now) (FormText (λ s. s.now) (has_version ty)) (first_fault_text (has_version ty)) (text_grammar (λ s. s.now) (has_version ty)) };
+
+    fn from_sql(_alloc: Global, ty: &PgType, raw: &'a [u8]) -> Result<&'a str, Fault> {
+        text_of(ty, raw)
+    }
+
+    fn from_sql_null(_alloc: Global, _ty: &PgType) -> Result<&'a str, Fault> {
+        Err(Fault::WasNull)
+    }
+
+    fn accepts(ty: &PgType) -> bool
+        ensures { result ≡ accepted_text (content ty.now) }
+    {
+        is_text(ty)
+    }
+}
+
+/// The text's bytes, always borrowed. A type that is named ltree, lquery or ltxtquery has the version 1 first, and
+/// another first byte, or none, is `TextVersion`. What is no UTF-8 is `Utf8`, and NULL is `WasNull`.
+impl<'a> FromSql<'a> for CowStr<'a> {
+    ghost same = { λ s t. cow_str_bytes s ≡ cow_str_bytes t };
+
+    ghost accepted = { accepted_text };
+
+    ghost reads = { λ ty. ReadsText cow_str_bytes (has_version ty) };
+
+    ghost memory_free = { EveryCell };
+
+    ghost equivalence = { content_equivalence cow_str_bytes };
+
+    ghost single = { λ ty _. plain_single (λ s t. cow_str_bytes s ≡ cow_str_bytes t) (FormText cow_str_bytes (has_version ty)) (first_fault_text (has_version ty)) (text_grammar cow_str_bytes (has_version ty)) };
+
+    fn from_sql(_alloc: Global, ty: &PgType, raw: &'a [u8]) -> Result<CowStr<'a>, Fault> {
+        Ok(CowStr::Borrowed(text_of(ty, raw)?))
+    }
+
+    fn from_sql_null(_alloc: Global, _ty: &PgType) -> Result<CowStr<'a>, Fault> {
+        Err(Fault::WasNull)
+    }
+
+    fn accepts(ty: &PgType) -> bool
+        ensures { result ≡ accepted_text (content ty.now) }
+    {
+        is_text(ty)
+    }
+}
+
+/// A copy of the text's bytes. A type that is named ltree, lquery or ltxtquery has the version 1 first, and
+/// another first byte, or none, is `TextVersion`. What is no UTF-8 is `Utf8`, and NULL is `WasNull`.
+impl<'a> FromSql<'a> for String {
+    ghost same = { λ s t. string_bytes s ≡ string_bytes t };
+
+    ghost accepted = { accepted_text };
+
+    ghost reads = { λ ty. ReadsText string_bytes (has_version ty) };
+
+    ghost memory_free = { NullAlone };
+
+    ghost equivalence = { content_equivalence string_bytes };
+
+    ghost single = { λ ty _. plain_single (λ s t. string_bytes s ≡ string_bytes t) (FormText string_bytes (has_version ty)) (first_fault_text (has_version ty)) (text_grammar string_bytes (has_version ty)) };
+
+    fn from_sql(alloc: Global, ty: &PgType, raw: &'a [u8]) -> Result<String, Fault> {
+        Ok(String::from_str(alloc, text_of(ty, raw)?)?)
+    }
+
+    fn from_sql_null(_alloc: Global, _ty: &PgType) -> Result<String, Fault> {
+        Err(Fault::WasNull)
+    }
+
+    fn accepts(ty: &PgType) -> bool {
+        is_text(ty)
+    }
+}
+
+/// A copy of the text's bytes. A type that is named ltree, lquery or ltxtquery has the version 1 first, and
+/// another first byte, or none, is `TextVersion`. What is no UTF-8 is `Utf8`, and NULL is `WasNull`.
+impl<'a> FromSql<'a> for BoxedStr {
+    ghost same = { λ s t. boxed_str_bytes s ≡ boxed_str_bytes t };
+
+    ghost accepted = { accepted_text };
+
+    ghost reads = { λ ty. ReadsText boxed_str_bytes (has_version ty) };
+
+    ghost memory_free = { NullAlone };
+
+    ghost equivalence = { content_equivalence boxed_str_bytes };
+
+    ghost single = { λ ty _. plain_single (λ s t. boxed_str_bytes s ≡ boxed_str_bytes t) (FormText boxed_str_bytes (has_version ty)) (first_fault_text (has_version ty)) (text_grammar boxed_str_bytes (has_version ty)) };
+
+    fn from_sql(alloc: Global, ty: &PgType, raw: &'a [u8]) -> Result<BoxedStr, Fault> {
+        Ok(String::from_str(alloc, text_of(ty, raw)?)?.into_boxed_str())
+    }
+
+    fn from_sql_null(_alloc: Global, _ty: &PgType) -> Result<BoxedStr, Fault> {
+        Err(Fault::WasNull)
+    }
+
+    fn accepts(ty: &PgType) -> bool {
+        is_text(ty)
+    }
+}

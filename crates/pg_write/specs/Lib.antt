@@ -1,0 +1,3 @@
+-- The words of writing.
+pub mod OptionWriting
+pub mod Writing

@@ -1,0 +1,35 @@
+-- What a value is written as, and what a write leaves in the buffer.
+use Rattle.std.specs.Prelude.{◌≡◌, ℕ, ◌<◌, List, ◌++◌, length, Bool, true, false, Some, None, Result, Ok, Err, IfSome, IfNone}
+use Rattle.pg_base.specs.Appending.{Wire}
+use Rattle.pg_base.specs.Content.{Content}
+use Rattle.pg_base.specs.Faults.{refusal_of, wrong_type}
+use Rattle.pg_base.specs.declared.fault.Fault.{Fault}
+use Rattle.pg_base.specs.declared.format.IsNull.{IsNull}
+use Rattle.pg_base.specs.declared.format.IsNull.TheVariants.{Yes, No}
+
+-- checked writing: a type that is not accepted is WrongType, with the type and the name of the Rust type
+abbrev pub checked_by : Bool → Content → List ℕ → Wire → Wire
+checked_by true ty rust w = w
+checked_by false ty rust w = Err (wrong_type ty rust)
+
+-- the fault is WrongType, with the type and the name of the Rust type, or memory ran out
+abbrev pub IsWrongType : Content → List ℕ → Fault → Type 0
+IsWrongType ty rust f = IfSome (refusal_of f) (λ r. r ≡ wrong_type ty rust)
+
+-- a write that answered No appended the cell's bytes. One that answered Yes, of a NULL, or the written form's fault, or
+-- Memory, left the bytes as they were
+abbrev pub Writes : Wire → List ℕ → List ℕ → Result IsNull Fault → Type 0
+Writes w old new (Ok No) = (b : List ℕ) × (w ≡ Ok (Some b)) × (new ≡ old ++ b)
+Writes w old new (Ok Yes) = (w ≡ Ok None) × (new ≡ old)
+Writes w old new (Err f) = (new ≡ old) × IfSome (refusal_of f) (λ r. w ≡ Err r)
+
+-- how many bytes a written form appends
+abbrev pub appended_len : Wire → ℕ
+appended_len (Ok None) = 0
+appended_len (Ok (Some b)) = length b
+appended_len (Err r) = 0
+
+-- the room rule: Memory is answered only where there was less room than the bytes to append
+abbrev pub KeepsRoomRule : Wire → ℕ → Result IsNull Fault → Type 0
+KeepsRoomRule w room (Ok null) = Unit {0}
+KeepsRoomRule w room (Err f) = IfNone (refusal_of f) (room < appended_len w)

@@ -1,0 +1,205 @@
+//! Writing bytes.
+ghost use Rattle.std.specs.Prelude.{◌≡◌, true, codes, refl};
+ghost use Rattle.std.specs.Cow.{cow_slice_items};
+ghost use Rattle.pg_base.specs.declared.format.Format.TheVariants.{Binary};
+ghost use Rattle.pg_base.specs.declared.types.built_in.BuiltIn.TheVariants.{Bytea};
+ghost use Rattle.pg_base.specs.Bytes.{wire_bytes};
+ghost use Rattle.pg_base.specs.Content.{content, is_row};
+ghost use Rattle.pg_write.specs.Writing.{checked_by};
+
+use crate::to_sql::{ToSql, wrong_type};
+use bytes::BytesMut;
+use pg_base::fault::Fault;
+use pg_base::format::{Format, IsNull};
+use pg_base::protocol::bytea_to_sql;
+use pg_base::types::PgType;
+use std::alloc::Global;
+use std::borrow::CowSlice;
+
+/// BYTEA: the bytes. They are never NULL, even where there are none.
+impl<'b> ToSql for &'b [u8] {
+    ghost accepted = { is_row Bytea };
+
+    ghost name = { codes "&[u8]" };
+
+    ghost wire = { λ _ v. wire_bytes v.now };
+
+    ghost checked = { λ ty v. checked_by (is_row Bytea ty) ty (codes "&[u8]") (wire_bytes v.now) };
+
+    ghost format = { λ _ _. Binary };
+
+    ghost by_room = { λ _. Unit {0} };
+
+    ghost refuses_memory_free = { true };
+
+    fn to_sql(&self, alloc: Global, _ty: &PgType, out: &mut BytesMut) -> Result<IsNull, Fault> {
+        bytea_to_sql(alloc, *self, out)?;
+        Ok(IsNull::No)
+    }
+
+    #[tactic(auto, using(pg_base::proofs::DerivedTypes::eq_content))]
+    fn accepts(ty: &PgType) -> bool
+        ensures { result ≡ is_row Bytea (content ty.now) }
+    {
+        *ty == PgType::BYTEA
+    }
+
+    fn to_sql_checked(
+        &self,
+        alloc: Global,
+        ty: &PgType,
+        out: &mut BytesMut,
+    ) -> Result<IsNull, Fault> {
+        if <&'b [u8] as ToSql>::accepts(ty) {
+            self.to_sql(alloc, ty, out)
+        } else {
+            Err(wrong_type(ty, "&[u8]"))
+        }
+    }
+
+    fn encode_format(&self, _ty: &PgType) -> Format {
+        Format::Binary
+    }
+
+    ghost checks = { λ _ _. refl };
+}
+
+/// BYTEA: the bytes. They are never NULL, even where there are none.
+impl ToSql for Vec<u8> {
+    ghost accepted = { is_row Bytea };
+
+    ghost name = { codes "Vec<u8>" };
+
+    ghost wire = { λ _ v. wire_bytes v.items };
+
+    ghost checked = { λ ty v. checked_by (is_row Bytea ty) ty (codes "Vec<u8>") (wire_bytes v.items) };
+
+    ghost format = { λ _ _. Binary };
+
+    ghost by_room = { λ _. Unit {0} };
+
+    ghost refuses_memory_free = { true };
+
+    fn to_sql(&self, alloc: Global, _ty: &PgType, out: &mut BytesMut) -> Result<IsNull, Fault> {
+        bytea_to_sql(alloc, self.as_slice(), out)?;
+        Ok(IsNull::No)
+    }
+
+    #[tactic(auto, using(pg_base::proofs::DerivedTypes::eq_content))]
+    fn accepts(ty: &PgType) -> bool {
+        *ty == PgType::BYTEA
+    }
+
+    fn to_sql_checked(
+        &self,
+        alloc: Global,
+        ty: &PgType,
+        out: &mut BytesMut,
+    ) -> Result<IsNull, Fault> {
+        if <Vec<u8> as ToSql>::accepts(ty) {
+            self.to_sql(alloc, ty, out)
+        } else {
+            Err(wrong_type(ty, "Vec<u8>"))
+        }
+    }
+
+    fn encode_format(&self, _ty: &PgType) -> Format {
+        Format::Binary
+    }
+
+    ghost checks = { λ _ _. refl };
+}
+
+/// BYTEA: the bytes. They are never NULL, even where there are none.
+impl<const N: usize> ToSql for [u8; N] {
+    ghost accepted = { is_row Bytea };
+
+    ghost name = { codes "[u8; N]" };
+
+    ghost wire = { λ _ v. wire_bytes v };
+
+    ghost checked = { λ ty v. checked_by (is_row Bytea ty) ty (codes "[u8; N]") (wire_bytes v) };
+
+    ghost format = { λ _ _. Binary };
+
+    ghost by_room = { λ _. Unit {0} };
+
+    ghost refuses_memory_free = { true };
+
+    fn to_sql(&self, alloc: Global, _ty: &PgType, out: &mut BytesMut) -> Result<IsNull, Fault> {
+        bytea_to_sql(alloc, self.as_slice(), out)?;
+        Ok(IsNull::No)
+    }
+
+    #[tactic(auto, using(pg_base::proofs::DerivedTypes::eq_content))]
+    fn accepts(ty: &PgType) -> bool {
+        *ty == PgType::BYTEA
+    }
+
+    fn to_sql_checked(
+        &self,
+        alloc: Global,
+        ty: &PgType,
+        out: &mut BytesMut,
+    ) -> Result<IsNull, Fault> {
+        if <[u8; N] as ToSql>::accepts(ty) {
+            self.to_sql(alloc, ty, out)
+        } else {
+            Err(wrong_type(ty, "[u8; N]"))
+        }
+    }
+
+    fn encode_format(&self, _ty: &PgType) -> Format {
+        Format::Binary
+    }
+
+    ghost checks = { λ _ _. refl };
+}
+
+/// BYTEA: the bytes. They are never NULL, even where there are none.
+impl<'b> ToSql for CowSlice<'b, u8> {
+    ghost accepted = { is_row Bytea };
+
+    ghost name = { codes "Cow<[u8]>" };
+
+    ghost wire = { λ _ v. wire_bytes (cow_slice_items v) };
+
+    ghost checked = { λ ty v. checked_by (is_row Bytea ty) ty (codes "Cow<[u8]>") (wire_bytes (cow_slice_items v)) };
+
+    ghost format = { λ _ _. Binary };
+
+    ghost by_room = { λ _. Unit {0} };
+
+    ghost refuses_memory_free = { true };
+
+    fn to_sql(&self, alloc: Global, _ty: &PgType, out: &mut BytesMut) -> Result<IsNull, Fault> {
+        bytea_to_sql(alloc, self.as_slice(), out)?;
+        Ok(IsNull::No)
+    }
+
+    #[tactic(auto, using(pg_base::proofs::DerivedTypes::eq_content))]
+    fn accepts(ty: &PgType) -> bool
+        ensures { result ≡ is_row Bytea (content ty.now) }
+    {
+        *ty == PgType::BYTEA
+    }
+
+    fn to_sql_checked(
+        &self,
+        alloc: Global,
+        ty: &PgType,
+        out: &mut BytesMut,
+    ) -> Result<IsNull, Fault> {
+        if <CowSlice<'b, u8> as ToSql>::accepts(ty) {
+            self.to_sql(alloc, ty, out)
+        } else {
+            Err(wrong_type(ty, "Cow<[u8]>"))
+        }
+    }
+
+    fn encode_format(&self, _ty: &PgType) -> Format {
+        Format::Binary
+    }
+
+    ghost checks = { λ _ _. refl };
+}

@@ -1,0 +1,13 @@
+//! Writing: a type and a value to a cell.
+//!
+//! [`to_sql`](to_sql::ToSql::to_sql) appends the cell that the type's writing gives the value, or
+//! answers its NULL, its fault, or Memory, and then leaves the buffer's bytes as they were.
+#![tactic(auto)]
+
+mod bytea;
+pub mod laws;
+mod numbers;
+mod options;
+mod references;
+mod texts;
+pub mod to_sql;

@@ -1,0 +1,294 @@
+//! Writing whole numbers and truth values.
+ghost use Rattle.std.specs.Prelude.{true, codes, refl};
+ghost use Rattle.std.specs.Int.{w8, w16, w32, w64};
+ghost use Rattle.pg_base.specs.declared.format.Format.TheVariants.{Binary};
+ghost use Rattle.pg_base.specs.declared.types.built_in.BuiltIn.TheVariants.{Bool, Char, Int2, Int4, Int8, Oid};
+ghost use Rattle.pg_base.specs.Content.{is_row};
+ghost use Rattle.pg_base.specs.Numbers.{wire_bool, wire_signed, wire_unsigned};
+ghost use Rattle.pg_write.specs.Writing.{checked_by};
+
+use crate::to_sql::{ToSql, wrong_type};
+use bytes::BytesMut;
+use pg_base::fault::Fault;
+use pg_base::format::{Format, IsNull};
+use pg_base::protocol::{
+    bool_to_sql, char_to_sql, int2_to_sql, int4_to_sql, int8_to_sql, oid_to_sql,
+};
+use pg_base::types::PgType;
+use std::alloc::Global;
+
+/// BOOL: 1 byte, 0 or 1.
+impl ToSql for bool {
+    ghost accepted = { is_row Bool };
+
+    ghost name = { codes "bool" };
+
+    ghost wire = { λ _ v. wire_bool v };
+
+    ghost checked = { λ ty v. checked_by (is_row Bool ty) ty (codes "bool") (wire_bool v) };
+
+    ghost format = { λ _ _. Binary };
+
+    ghost by_room = { λ _. Unit {0} };
+
+    ghost refuses_memory_free = { true };
+
+    fn to_sql(&self, alloc: Global, _ty: &PgType, out: &mut BytesMut) -> Result<IsNull, Fault> {
+        bool_to_sql(alloc, *self, out)?;
+        Ok(IsNull::No)
+    }
+
+    #[tactic(auto, using(pg_base::proofs::DerivedTypes::eq_content))]
+    fn accepts(ty: &PgType) -> bool {
+        *ty == PgType::BOOL
+    }
+
+    fn to_sql_checked(
+        &self,
+        alloc: Global,
+        ty: &PgType,
+        out: &mut BytesMut,
+    ) -> Result<IsNull, Fault> {
+        if <bool as ToSql>::accepts(ty) {
+            self.to_sql(alloc, ty, out)
+        } else {
+            Err(wrong_type(ty, "bool"))
+        }
+    }
+
+    fn encode_format(&self, _ty: &PgType) -> Format {
+        Format::Binary
+    }
+
+    ghost checks = { λ _ _. refl };
+}
+
+/// CHAR: 1 byte.
+impl ToSql for i8 {
+    ghost accepted = { is_row Char };
+
+    ghost name = { codes "i8" };
+
+    ghost wire = { λ _ v. wire_signed w8 v };
+
+    ghost checked = { λ ty v. checked_by (is_row Char ty) ty (codes "i8") (wire_signed w8 v) };
+
+    ghost format = { λ _ _. Binary };
+
+    ghost by_room = { λ _. Unit {0} };
+
+    ghost refuses_memory_free = { true };
+
+    fn to_sql(&self, alloc: Global, _ty: &PgType, out: &mut BytesMut) -> Result<IsNull, Fault> {
+        char_to_sql(alloc, *self, out)?;
+        Ok(IsNull::No)
+    }
+
+    #[tactic(auto, using(pg_base::proofs::DerivedTypes::eq_content))]
+    fn accepts(ty: &PgType) -> bool {
+        *ty == PgType::CHAR
+    }
+
+    fn to_sql_checked(
+        &self,
+        alloc: Global,
+        ty: &PgType,
+        out: &mut BytesMut,
+    ) -> Result<IsNull, Fault> {
+        if <i8 as ToSql>::accepts(ty) {
+            self.to_sql(alloc, ty, out)
+        } else {
+            Err(wrong_type(ty, "i8"))
+        }
+    }
+
+    fn encode_format(&self, _ty: &PgType) -> Format {
+        Format::Binary
+    }
+
+    ghost checks = { λ _ _. refl };
+}
+
+/// INT2: 2 bytes, highest first.
+impl ToSql for i16 {
+    ghost accepted = { is_row Int2 };
+
+    ghost name = { codes "i16" };
+
+    ghost wire = { λ _ v. wire_signed w16 v };
+
+    ghost checked = { λ ty v. checked_by (is_row Int2 ty) ty (codes "i16") (wire_signed w16 v) };
+
+    ghost format = { λ _ _. Binary };
+
+    ghost by_room = { λ _. Unit {0} };
+
+    ghost refuses_memory_free = { true };
+
+    fn to_sql(&self, alloc: Global, _ty: &PgType, out: &mut BytesMut) -> Result<IsNull, Fault> {
+        int2_to_sql(alloc, *self, out)?;
+        Ok(IsNull::No)
+    }
+
+    #[tactic(auto, using(pg_base::proofs::DerivedTypes::eq_content))]
+    fn accepts(ty: &PgType) -> bool {
+        *ty == PgType::INT2
+    }
+
+    fn to_sql_checked(
+        &self,
+        alloc: Global,
+        ty: &PgType,
+        out: &mut BytesMut,
+    ) -> Result<IsNull, Fault> {
+        if <i16 as ToSql>::accepts(ty) {
+            self.to_sql(alloc, ty, out)
+        } else {
+            Err(wrong_type(ty, "i16"))
+        }
+    }
+
+    fn encode_format(&self, _ty: &PgType) -> Format {
+        Format::Binary
+    }
+
+    ghost checks = { λ _ _. refl };
+}
+
+/// INT4: 4 bytes, highest first.
+impl ToSql for i32 {
+    ghost accepted = { is_row Int4 };
+
+    ghost name = { codes "i32" };
+
+    ghost wire = { λ _ v. wire_signed w32 v };
+
+    ghost checked = { λ ty v. checked_by (is_row Int4 ty) ty (codes "i32") (wire_signed w32 v) };
+
+    ghost format = { λ _ _. Binary };
+
+    ghost by_room = { λ _. Unit {0} };
+
+    ghost refuses_memory_free = { true };
+
+    fn to_sql(&self, alloc: Global, _ty: &PgType, out: &mut BytesMut) -> Result<IsNull, Fault> {
+        int4_to_sql(alloc, *self, out)?;
+        Ok(IsNull::No)
+    }
+
+    #[tactic(auto, using(pg_base::proofs::DerivedTypes::eq_content))]
+    fn accepts(ty: &PgType) -> bool {
+        *ty == PgType::INT4
+    }
+
+    fn to_sql_checked(
+        &self,
+        alloc: Global,
+        ty: &PgType,
+        out: &mut BytesMut,
+    ) -> Result<IsNull, Fault> {
+        if <i32 as ToSql>::accepts(ty) {
+            self.to_sql(alloc, ty, out)
+        } else {
+            Err(wrong_type(ty, "i32"))
+        }
+    }
+
+    fn encode_format(&self, _ty: &PgType) -> Format {
+        Format::Binary
+    }
+
+    ghost checks = { λ _ _. refl };
+}
+
+/// INT8: 8 bytes, highest first.
+impl ToSql for i64 {
+    ghost accepted = { is_row Int8 };
+
+    ghost name = { codes "i64" };
+
+    ghost wire = { λ _ v. wire_signed w64 v };
+
+    ghost checked = { λ ty v. checked_by (is_row Int8 ty) ty (codes "i64") (wire_signed w64 v) };
+
+    ghost format = { λ _ _. Binary };
+
+    ghost by_room = { λ _. Unit {0} };
+
+    ghost refuses_memory_free = { true };
+
+    fn to_sql(&self, alloc: Global, _ty: &PgType, out: &mut BytesMut) -> Result<IsNull, Fault> {
+        int8_to_sql(alloc, *self, out)?;
+        Ok(IsNull::No)
+    }
+
+    #[tactic(auto, using(pg_base::proofs::DerivedTypes::eq_content))]
+    fn accepts(ty: &PgType) -> bool {
+        *ty == PgType::INT8
+    }
+
+    fn to_sql_checked(
+        &self,
+        alloc: Global,
+        ty: &PgType,
+        out: &mut BytesMut,
+    ) -> Result<IsNull, Fault> {
+        if <i64 as ToSql>::accepts(ty) {
+            self.to_sql(alloc, ty, out)
+        } else {
+            Err(wrong_type(ty, "i64"))
+        }
+    }
+
+    fn encode_format(&self, _ty: &PgType) -> Format {
+        Format::Binary
+    }
+
+    ghost checks = { λ _ _. refl };
+}
+
+/// OID: 4 bytes without a sign, highest first.
+impl ToSql for u32 {
+    ghost accepted = { is_row Oid };
+
+    ghost name = { codes "u32" };
+
+    ghost wire = { λ _ v. wire_unsigned w32 v };
+
+    ghost checked = { λ ty v. checked_by (is_row Oid ty) ty (codes "u32") (wire_unsigned w32 v) };
+
+    ghost format = { λ _ _. Binary };
+
+    ghost by_room = { λ _. Unit {0} };
+
+    ghost refuses_memory_free = { true };
+
+    fn to_sql(&self, alloc: Global, _ty: &PgType, out: &mut BytesMut) -> Result<IsNull, Fault> {
+        oid_to_sql(alloc, *self, out)?;
+        Ok(IsNull::No)
+    }
+
+    #[tactic(auto, using(pg_base::proofs::DerivedTypes::eq_content))]
+    fn accepts(ty: &PgType) -> bool {
+        *ty == PgType::OID
+    }
+
+    fn to_sql_checked(
+        &self,
+        alloc: Global,
+        ty: &PgType,
+        out: &mut BytesMut,
+    ) -> Result<IsNull, Fault> {
+        if <u32 as ToSql>::accepts(ty) {
+            self.to_sql(alloc, ty, out)
+        } else {
+            Err(wrong_type(ty, "u32"))
+        }
+    }
+
+    fn encode_format(&self, _ty: &PgType) -> Format {
+        Format::Binary
+    }
+
+    ghost checks = { λ _ _. refl };
+}

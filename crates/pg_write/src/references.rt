@@ -1,0 +1,54 @@
+//! Writing through a reference.
+ghost use Rattle.std.specs.Prelude.{true, codes, refl};
+ghost use Rattle.pg_write.specs.Writing.{checked_by};
+
+use crate::to_sql::{ToSql, wrong_type};
+use bytes::BytesMut;
+use pg_base::fault::Fault;
+use pg_base::format::{Format, IsNull};
+use pg_base::types::PgType;
+use std::alloc::Global;
+
+/// As the value is written, NULL included.
+impl<'b, T: ToSql> ToSql for &'b T {
+    ghost accepted = { T.accepted };
+
+    ghost name = { codes "&T" };
+
+    ghost wire = { λ ty v. T.wire ty v.now };
+
+    ghost checked = { λ ty v. checked_by (T.accepted ty) ty (codes "&T") (T.wire ty v.now) };
+
+    ghost format = { λ ty v. T.format ty v.now };
+
+    ghost by_room = { λ v. T.by_room v.now };
+
+    ghost refuses_memory_free = { true };
+
+    fn to_sql(&self, alloc: Global, ty: &PgType, out: &mut BytesMut) -> Result<IsNull, Fault> {
+        (**self).to_sql(alloc, ty, out)
+    }
+
+    fn accepts(ty: &PgType) -> bool {
+        T::accepts(ty)
+    }
+
+    fn to_sql_checked(
+        &self,
+        alloc: Global,
+        ty: &PgType,
+        out: &mut BytesMut,
+    ) -> Result<IsNull, Fault> {
+        if <&'b T as ToSql>::accepts(ty) {
+            self.to_sql(alloc, ty, out)
+        } else {
+            Err(wrong_type(ty, "&T"))
+        }
+    }
+
+    fn encode_format(&self, ty: &PgType) -> Format {
+        (**self).encode_format(ty)
+    }
+
+    ghost checks = { λ _ _. refl };
+}

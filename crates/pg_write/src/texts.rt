@@ -1,0 +1,227 @@
+//! Writing texts.
+ghost use Rattle.std.specs.Prelude.{◌≡◌, Some, true, codes, refl, string_bytes};
+ghost use Rattle.std.specs.Box.{boxed_str_bytes};
+ghost use Rattle.std.specs.Cow.{cow_str_bytes};
+ghost use Rattle.pg_base.specs.declared.format.Format.TheVariants.{Binary};
+ghost use Rattle.pg_base.specs.Appending.{Appends};
+ghost use Rattle.pg_base.specs.Content.{content};
+ghost use Rattle.pg_base.specs.Texts.{accepted_text, has_version, text_cell, wire_text};
+ghost use Rattle.pg_write.specs.Writing.{checked_by};
+
+use crate::to_sql::{ToSql, wrong_type};
+use bytes::BytesMut;
+use pg_base::acceptance::{has_version, is_text};
+use pg_base::fault::Fault;
+use pg_base::format::{Format, IsNull};
+use pg_base::protocol::{ltree_to_sql, text_to_sql};
+use pg_base::types::PgType;
+use std::alloc::Global;
+use std::borrow::CowStr;
+use std::boxed::BoxedStr;
+
+/// Appends the cell of a text for that type.
+fn append_text(alloc: Global, ty: &PgType, text: &str, out: &mut BytesMut) -> Result<(), Fault>
+    ensures { Appends (Some (text_cell (has_version (content ty.now)) text.now)) out.old out.new result }
+{
+    if has_version(ty) {
+        ltree_to_sql(alloc, text, out)
+    } else {
+        text_to_sql(alloc, text, out)
+    }
+}
+
+/// The text's bytes, after the version 1 where the type is named ltree, lquery or ltxtquery. No text
+/// is NULL, the empty one included.
+impl<'b> ToSql for &'b str {
+    ghost accepted = { accepted_text };
+
+    ghost name = { codes "&str" };
+
+    ghost wire = { λ ty v. wire_text (has_version ty) v.now };
+
+    ghost checked = { λ ty v. checked_by (accepted_text ty) ty (codes "&str") (wire_text (has_version ty) v.now) };
+
+    ghost format = { λ _ _. Binary };
+
+    ghost by_room = { λ _. Unit {0} };
+
+    ghost refuses_memory_free = { true };
+
+    #[tactic(auto, using(pg_base::proofs::TextLemmas::wire_utf8))]
+    fn to_sql(&self, alloc: Global, ty: &PgType, out: &mut BytesMut) -> Result<IsNull, Fault> {
+        let text: &str = *self;
+        append_text(alloc, ty, text, out)?;
+        Ok(IsNull::No)
+    }
+
+    fn accepts(ty: &PgType) -> bool
+        ensures { result ≡ accepted_text (content ty.now) }
+    {
+        is_text(ty)
+    }
+
+    fn to_sql_checked(
+        &self,
+        alloc: Global,
+        ty: &PgType,
+        out: &mut BytesMut,
+    ) -> Result<IsNull, Fault> {
+        if <&'b str as ToSql>::accepts(ty) {
+            self.to_sql(alloc, ty, out)
+        } else {
+            Err(wrong_type(ty, "&str"))
+        }
+    }
+
+    fn encode_format(&self, _ty: &PgType) -> Format {
+        Format::Binary
+    }
+
+    ghost checks = { λ _ _. refl };
+}
+
+/// The text's bytes, after the version 1 where the type is named ltree, lquery or ltxtquery. No text
+/// is NULL, the empty one included.
+impl ToSql for String {
+    ghost accepted = { accepted_text };
+
+    ghost name = { codes "String" };
+
+    ghost wire = { λ ty v. wire_text (has_version ty) (string_bytes v) };
+
+    ghost checked = { λ ty v. checked_by (accepted_text ty) ty (codes "String") (wire_text (has_version ty) (string_bytes v)) };
+
+    ghost format = { λ _ _. Binary };
+
+    ghost by_room = { λ _. Unit {0} };
+
+    ghost refuses_memory_free = { true };
+
+    #[tactic(auto, using(pg_base::proofs::TextLemmas::wire_utf8))]
+    fn to_sql(&self, alloc: Global, ty: &PgType, out: &mut BytesMut) -> Result<IsNull, Fault> {
+        let text: &str = self.as_str();
+        append_text(alloc, ty, text, out)?;
+        Ok(IsNull::No)
+    }
+
+    fn accepts(ty: &PgType) -> bool {
+        is_text(ty)
+    }
+
+    fn to_sql_checked(
+        &self,
+        alloc: Global,
+        ty: &PgType,
+        out: &mut BytesMut,
+    ) -> Result<IsNull, Fault> {
+        if <String as ToSql>::accepts(ty) {
+            self.to_sql(alloc, ty, out)
+        } else {
+            Err(wrong_type(ty, "String"))
+        }
+    }
+
+    fn encode_format(&self, _ty: &PgType) -> Format {
+        Format::Binary
+    }
+
+    ghost checks = { λ _ _. refl };
+}
+
+/// The text's bytes, after the version 1 where the type is named ltree, lquery or ltxtquery. No text
+/// is NULL, the empty one included.
+impl ToSql for BoxedStr {
+    ghost accepted = { accepted_text };
+
+    ghost name = { codes "Box<str>" };
+
+    ghost wire = { λ ty v. wire_text (has_version ty) (boxed_str_bytes v) };
+
+    ghost checked = { λ ty v. checked_by (accepted_text ty) ty (codes "Box<str>") (wire_text (has_version ty) (boxed_str_bytes v)) };
+
+    ghost format = { λ _ _. Binary };
+
+    ghost by_room = { λ _. Unit {0} };
+
+    ghost refuses_memory_free = { true };
+
+    #[tactic(auto, using(pg_base::proofs::TextLemmas::wire_utf8))]
+    fn to_sql(&self, alloc: Global, ty: &PgType, out: &mut BytesMut) -> Result<IsNull, Fault> {
+        let text: &str = self.as_str();
+        append_text(alloc, ty, text, out)?;
+        Ok(IsNull::No)
+    }
+
+    fn accepts(ty: &PgType) -> bool {
+        is_text(ty)
+    }
+
+    fn to_sql_checked(
+        &self,
+        alloc: Global,
+        ty: &PgType,
+        out: &mut BytesMut,
+    ) -> Result<IsNull, Fault> {
+        if <BoxedStr as ToSql>::accepts(ty) {
+            self.to_sql(alloc, ty, out)
+        } else {
+            Err(wrong_type(ty, "Box<str>"))
+        }
+    }
+
+    fn encode_format(&self, _ty: &PgType) -> Format {
+        Format::Binary
+    }
+
+    ghost checks = { λ _ _. refl };
+}
+
+/// The text's bytes, after the version 1 where the type is named ltree, lquery or ltxtquery. No text
+/// is NULL, the empty one included.
+impl<'b> ToSql for CowStr<'b> {
+    ghost accepted = { accepted_text };
+
+    ghost name = { codes "Cow<str>" };
+
+    ghost wire = { λ ty v. wire_text (has_version ty) (cow_str_bytes v) };
+
+    ghost checked = { λ ty v. checked_by (accepted_text ty) ty (codes "Cow<str>") (wire_text (has_version ty) (cow_str_bytes v)) };
+
+    ghost format = { λ _ _. Binary };
+
+    ghost by_room = { λ _. Unit {0} };
+
+    ghost refuses_memory_free = { true };
+
+    #[tactic(auto, using(pg_base::proofs::TextLemmas::wire_utf8))]
+    fn to_sql(&self, alloc: Global, ty: &PgType, out: &mut BytesMut) -> Result<IsNull, Fault> {
+        let text: &str = self.as_str();
+        append_text(alloc, ty, text, out)?;
+        Ok(IsNull::No)
+    }
+
+    fn accepts(ty: &PgType) -> bool
+        ensures { result ≡ accepted_text (content ty.now) }
+    {
+        is_text(ty)
+    }
+
+    fn to_sql_checked(
+        &self,
+        alloc: Global,
+        ty: &PgType,
+        out: &mut BytesMut,
+    ) -> Result<IsNull, Fault> {
+        if <CowStr<'b> as ToSql>::accepts(ty) {
+            self.to_sql(alloc, ty, out)
+        } else {
+            Err(wrong_type(ty, "Cow<str>"))
+        }
+    }
+
+    fn encode_format(&self, _ty: &PgType) -> Format {
+        Format::Binary
+    }
+
+    ghost checks = { λ _ _. refl };
+}

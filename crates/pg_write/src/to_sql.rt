@@ -1,0 +1,113 @@
+//! The trait of writing.
+ghost use Rattle.std.specs.Prelude.{◌≡◌, ◌≤◌, ℕ, List, Bool, IsTrue, IsSome, true, false, length};
+ghost use Rattle.pg_base.specs.declared.format.Format.{Format};
+ghost use Rattle.pg_base.specs.Content.{Content, content, IsBuiltIn};
+ghost use Rattle.pg_base.specs.Faults.{NeverMemory, refusal_of};
+ghost use Rattle.pg_base.specs.Appending.{Wire};
+ghost use Rattle.pg_write.specs.Writing.{Writes, KeepsRoomRule, checked_by, IsWrongType};
+
+use bytes::BytesMut;
+use pg_base::fault::{Fault, REASON_LEN, WrongType};
+use pg_base::format::{Format, IsNull};
+use pg_base::types::PgType;
+use std::alloc::Global;
+use std::fmt;
+
+/// A type that is written as a cell in PostgreSQL's binary format.
+///
+/// An implementation says by its ghost members what it writes, and proves that its functions write
+/// so. A refused write, `Memory` included, and a NULL leave the buffer's bytes as they were.
+pub trait ToSql: fmt::Debug + Drop {
+    /// The Postgres type is accepted.
+    ghost accepted: { Content → Bool };
+
+    /// The name of the Rust type in a `WrongType`.
+    ghost name: { List ℕ };
+
+    /// What the value is written as for that type: NULL, bytes, or a fault.
+    ghost wire: { Content → Self → Wire };
+
+    /// What checked writing of the value writes.
+    ghost checked: { Content → Self → Wire };
+
+    /// The format of the value for that type.
+    ghost format: { Content → Self → Format };
+
+    /// Where the buffer has room for the cell, writing the value takes no memory. An implementation
+    /// that says nothing claims it of no value.
+    ghost by_room: { Self → Type 0 } = { λ _. ⊥ };
+
+    /// Checked writing refuses a built-in type that is not accepted without memory. An
+    /// implementation that says nothing does not claim it.
+    ghost refuses_memory_free: { Bool } = { false };
+
+    /// Appends the bytes of the value's cell, without its length. The type must be accepted.
+    fn to_sql(&self, alloc: Global, ty: &PgType, out: &mut BytesMut) -> Result<IsNull, Fault>
+    where
+        Self: Sized,
+        requires { IsTrue (accepted (content ty.now)) }
+        ensures writes { Writes (wire (content ty.now) self.now) out.old.items out.new.items result }
+        ensures room { by_room self.now
+            → KeepsRoomRule (wire (content ty.now) self.now) out.old.spare result };
+
+    /// Whether values are written for that type.
+    fn accepts(ty: &PgType) -> bool
+    where
+        Self: Sized,
+        ensures { result ≡ accepted (content ty.now) };
+
+    /// Does what `to_sql` does where the type is accepted, and answers `WrongType` where it is not.
+    fn to_sql_checked(
+        &self,
+        alloc: Global,
+        ty: &PgType,
+        out: &mut BytesMut,
+    ) -> Result<IsNull, Fault>
+        ensures writes { Writes (checked (content ty.now) self.now) out.old.items out.new.items result }
+        ensures room { by_room self.now → IsTrue (accepted (content ty.now))
+            → KeepsRoomRule (wire (content ty.now) self.now) out.old.spare result }
+        ensures never_memory { IsTrue refuses_memory_free → accepted (content ty.now) ≡ false
+            → IsBuiltIn (content ty.now) → NeverMemory result };
+
+    /// The format of the value's cell.
+    fn encode_format(&self, ty: &PgType) -> Format
+        ensures { result ≡ format (content ty.now) self.now };
+
+    /// Law: checked writing writes the written form of an accepted type, and refuses every other.
+    ghost checks: { (ty : Content) (v : Self) → checked ty v ≡ checked_by (accepted ty) ty name (wire ty v) };
+}
+
+/// Does what `to_sql` does where the type is accepted, and answers [`WrongType`] with the name
+/// `rust`, of at most [`REASON_LEN`] bytes, where it is not.
+pub fn to_sql_checked_as<T: ToSql>(
+    alloc: Global,
+    v: &T,
+    rust: &'static str,
+    ty: &PgType,
+    out: &mut BytesMut,
+) -> Result<IsNull, Fault>
+    requires { length rust.now ≤ REASON_LEN }
+    ensures writes { Writes (checked_by (T.accepted (content ty.now)) (content ty.now) rust.now (T.wire (content ty.now) v.now))
+        out.old.items out.new.items result }
+    ensures room { T.by_room v.now → IsTrue (T.accepted (content ty.now))
+        → KeepsRoomRule (T.wire (content ty.now) v.now) out.old.spare result }
+    ensures never_memory { T.accepted (content ty.now) ≡ false → IsBuiltIn (content ty.now) → NeverMemory result }
+{
+    if T::accepts(ty) {
+        v.to_sql(alloc, ty, out)
+    } else {
+        Err(wrong_type(ty, rust))
+    }
+}
+
+/// The fault of a type that is not accepted; `Memory` where a made type's owners can't be counted.
+pub fn wrong_type(ty: &PgType, rust: &'static str) -> Fault
+    requires { length rust.now ≤ REASON_LEN }
+    ensures refuses { IsWrongType (content ty.now) rust.now result }
+    ensures never_memory { IsBuiltIn (content ty.now) → IsSome (refusal_of result) }
+{
+    match ty.try_clone() {
+        Ok(ty) => Fault::WrongType(WrongType::new(ty, rust)),
+        Err(fault) => fault,
+    }
+}

@@ -1,2 +1,0 @@
--- The words of writing.
-pub mod Options
