@@ -1,5 +1,5 @@
 -- Lemmas on frames.
-use Rattle.std.proofs.Common.{◌≡◌, ◌<◌, ◌≤◌, ◌^◌, ℕ, ℤ, pos, List, ◌++◌, length, Some, Bool, true, cond, refl, sym, ◌∙◌, ap, subst, append_assoc, arith, nat_le, FitsSigned, Option, None}
+use Rattle.std.proofs.Common.{◌≡◌, ◌<◌, ◌^◌, ℕ, ℤ, pos, List, ◌++◌, length, Some, true, cond, sym, ◌∙◌, ap, subst, append_assoc, arith, nat_le, FitsSigned, None}
 use Rattle.std.proofs.lemmas.Bool.Decides.{nat_tests}
 use Rattle.std.proofs.lemmas.Int.{ints}
 use Rattle.std.specs.Int.{w32}

@@ -1,9 +1,9 @@
 -- Reading an option.
-use Rattle.std.specs.Prelude.{◌≡◌, List, ℕ, Option, Some, None, Result, Ok, Err}
+use Rattle.std.specs.Prelude.{Option, Some, None, Ok, Err}
 use Rattle.pg_base.specs.Cells.{Cell}
-use Rattle.pg_base.specs.Faults.{Refusal, Outcome}
+use Rattle.pg_base.specs.Faults.{Outcome}
 use Rattle.pg_base.specs.Sameness.{SameOption}
-use Rattle.pg_read.specs.Reading.{ReadsSingle, SameOutcome}
+use Rattle.pg_read.specs.Reading.{ReadsSingle}
 
 -- the outcome None
 abbrev pub IsNoneOutcome : {A : Type 0} → Outcome (Option A) → Type 0

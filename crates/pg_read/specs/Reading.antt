@@ -1,8 +1,8 @@
 -- What reading is: a relation between a cell and its outcome.
-use Rattle.std.specs.Prelude.{◌≡◌, ℕ, List, Option, Some, None, Result, Ok, Err}
+use Rattle.std.specs.Prelude.{◌≡◌, ℕ, List, Option, Some, None, Ok, Err}
 use Rattle.std.proofs.Common.{sym, ◌∙◌}
 use Rattle.pg_base.specs.Cells.{Cell}
-use Rattle.pg_base.specs.Faults.{Refusal, Outcome, was_null}
+use Rattle.pg_base.specs.Faults.{Refusal, Outcome}
 use Rattle.pg_base.specs.Formats.{ReadsPlain, IsGrammar}
 
 -- two outcomes are the same value, or the same fault

@@ -1,5 +1,5 @@
 -- Lemmas on what is printed.
-use Rattle.std.proofs.Common.{◌≡◌, ℕ, List, ◌++◌, Option, Some, None, Ok, Err, IfSome, ◌⊎◌, inl, inr, refl, sym, ap, subst, codes}
+use Rattle.std.proofs.Common.{◌≡◌, ℕ, List, ◌++◌, Option, Some, None, Ok, Err, IfSome, ◌⊎◌, inl, inr, refl, sym, ap, subst}
 use Rattle.postgres_types.specs.Cells.{Cell}
 use Rattle.postgres_types.specs.Faults.{Outcome, Refusal}
 use Rattle.postgres_types.specs.Appending.{Wire}

@@ -1,7 +1,7 @@
 -- Lemmas on the words of a line.
-use Rattle.std.proofs.Common.{◌≡◌, ◌==◌, ℕ, List, [], ◌∷◌, ◌++◌, Option, None, cond, true, false, refl, ap, ◌∙◌}
+use Rattle.std.proofs.Common.{◌≡◌, ◌==◌, ℕ, List, [], ◌∷◌, ◌++◌, None, cond, true, false, refl, ap, ◌∙◌}
 use Rattle.std.specs.List.{onto_first}
-use Rattle.pgcell.specs.Request.{Asked, words, request_of}
+use Rattle.pgcell.specs.Request.{words, request_of}
 use Rattle.pgcell.specs.Split.{Lacks}
 
 -- the first word ends at the first space

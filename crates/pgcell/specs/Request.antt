@@ -1,5 +1,5 @@
 -- What a line asks for.
-use Rattle.std.specs.Prelude.{◌≡◌, ℕ, ◌-◌, ◌==◌, Bool, true, false, List, [], ◌∷◌, length, take, Option, Some, None, option_map, option_and_then, Result, Ok, Err, if◌then◌else◌, codes, nat_eq, Vec}
+use Rattle.std.specs.Prelude.{ℕ, ◌-◌, ◌==◌, Bool, true, false, List, [], ◌∷◌, length, take, Option, Some, None, option_map, option_and_then, Result, Ok, Err, if◌then◌else◌, codes, nat_eq, Vec}
 use Rattle.std.specs.Cmp.Lexicographic.{pointwise}
 use Rattle.std.specs.Global.{Global}
 use Rattle.std.specs.List.{slice_split, ends_with}

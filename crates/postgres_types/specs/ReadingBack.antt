@@ -1,5 +1,5 @@
 -- What a written value is read back as, by the shape of the value.
-use Rattle.std.specs.Prelude.{Option, Some, None, Result, Ok, Err}
+use Rattle.std.specs.Prelude.{Option, Some, None, Ok, Err}
 use Rattle.pg_base.specs.Faults.{Outcome}
 use Rattle.pg_base.specs.Appending.{Wire}
 use Rattle.pg_read.specs.OptionReading.{IsNoneOutcome}

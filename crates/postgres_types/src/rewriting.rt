@@ -6,12 +6,12 @@ ghost use Rattle.pg_base.specs.Faults.{NeverMemory, wrong_type};
 ghost use Rattle.pg_write.specs.Writing.{Writes};
 ghost use Rattle.pg_base.specs.Cells.{cell_of};
 
+use bytes::BytesMut;
 use pg_base::fault::Fault;
 use pg_base::format::IsNull;
 use pg_base::types::PgType;
 use pg_read::from_sql::{FromSql, from_sql_nullable};
 use pg_write::to_sql::{ToSql, wrong_type};
-use bytes::BytesMut;
 use std::alloc::Global;
 
 /// Reads the cell, of which `None` is NULL, as a `T`, and appends the value's cell.

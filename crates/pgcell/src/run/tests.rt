@@ -239,6 +239,24 @@ fn a_reader_that_fails(rt: HostRuntime) -> Result<(), Fail> {
 }
 
 #[test]
+fn a_reader_that_fails_at_its_end(rt: HostRuntime) -> Result<(), Fail> {
+    let mut ended = Vec::from_slice(rt.alloc(), INPUT)?;
+    ended.push(b'\n')?;
+    for (text, answers) in [(INPUT, FIRST_TWO), (ended.as_slice(), OUTPUT)] {
+        let mut input = Pieces {
+            rest: text,
+            step: ROOM,
+            left: text.len(),
+        };
+        let mut output = make_narrow(rt.alloc(), ROOM)?;
+        let outcome = run(rt.alloc(), &mut input, &mut output);
+        assert_eq!(rt; outcome, Err(RunFault::Read));
+        assert_eq!(rt; output.taken.as_slice(), answers);
+    }
+    Ok(())
+}
+
+#[test]
 fn a_writer_that_fails(rt: HostRuntime) -> Result<(), Fail> {
     for room in 0..OUTPUT.len() {
         let mut input = INPUT;

@@ -2,7 +2,7 @@ use Rattle.std.proofs.Common.{◌≡◌, ◌++◌, ℕ, List, None, Some, refl, 
 use Rattle.pgcell.proofs.Outcomes.{ok_weaker}
 use Rattle.pgcell.proofs.Printing.{answers_line}
 use Rattle.pgcell.specs.Answer.{AnswersBase}
-use Rattle.pgcell.specs.Request.{Asked, seen_bytes}
+use Rattle.pgcell.specs.Request.{seen_bytes}
 use Rattle.pgcell.proofs.answer.answer.Goals as goal
 
 pub returns-in-None-clause-ok : goal.returns-in-None-clause-ok
