@@ -1,9 +1,9 @@
 -- Lemmas on texts.
-use Rattle.std.proofs.Common.{◌≡◌, ◌==◌, ℕ, List, [], ◌∷◌, ◌++◌, Bool, true, false, Option, Some, None, Ok, Err, refl, ap, cond, drop}
+use Rattle.std.proofs.Common.{◌≡◌, ℕ, List, Bool, true, false, Some, None, Ok, Err, refl, ap, cond}
 use Rattle.std.specs.Prelude.{IsUtf8}
 use Rattle.std.specs.Str.{is_utf8}
 use Rattle.std.proofs.lemmas.Str.{is_utf8-from_IsUtf8, IsUtf8-from_is_utf8}
-use Rattle.pg_base.specs.Faults.{Refusal, utf8, transmit}
+use Rattle.pg_base.specs.Faults.{utf8, transmit}
 use Rattle.pg_base.specs.Texts.{first_fault_text, text_cell, wire_text}
 
 not_utf8 : (b : List ℕ) (t : Bool) → is_utf8 b ≡ t → (IsUtf8 b → ⊥) → is_utf8 b ≡ false

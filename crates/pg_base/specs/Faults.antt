@@ -1,5 +1,5 @@
 -- Faults as plain data, and what a call may answer.
-use Rattle.std.specs.Prelude.{◌≡◌, ℕ, List, Option, Some, None, Result, Ok, Err, IfSome, IsSome}
+use Rattle.std.specs.Prelude.{ℕ, List, Option, Some, None, Result, Ok, Err, IfSome, IsSome}
 use Rattle.std.specs.Option.{option_map_or}
 use Rattle.pg_base.specs.Content.{Content}
 use Rattle.pg_base.specs.FaultTexts.{postgres_type, rust_name}

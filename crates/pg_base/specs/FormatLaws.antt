@@ -1,5 +1,5 @@
 -- Laws of formats: which of them are grammars.
-use Rattle.std.specs.Prelude.{◌≡◌, ℕ, suc, zero, ◌<◌, ◌^◌, ◌==◌, ℤ, List, [], ◌∷◌, length, Some, None, Bool, true, false, not, FitsSigned, refl}
+use Rattle.std.specs.Prelude.{◌≡◌, ℕ, suc, zero, ◌<◌, ◌^◌, ◌==◌, ℤ, List, length, None, Bool, true, false, not, FitsSigned, refl}
 use Rattle.std.proofs.Common.{sym, ◌∙◌, ap, arith, drop}
 use Rattle.std.proofs.Math.Facts.{Fits-of_z}
 use Rattle.std.proofs.lemmas.Bool.{eq-eqb}

@@ -1,5 +1,5 @@
 -- Whole numbers: CHAR (charsend), INT2, INT4, INT8 (int2send, int4send, int8send), OID (oidsend) and BOOL (boolsend).
-use Rattle.std.specs.Prelude.{◌≡◌, ℕ, ◌<◌, ◌-◌, ◌^◌, ◌==◌, ℤ, pos, negsuc, List, [], ◌∷◌, length, Option, Some, Bool, true, false, not, nat_lt, if◌then◌else◌, Ok, Err}
+use Rattle.std.specs.Prelude.{◌≡◌, ℕ, ◌-◌, ◌^◌, ◌==◌, ℤ, pos, negsuc, List, [], ◌∷◌, length, Option, Some, Bool, true, false, not, nat_lt, if◌then◌else◌, Ok, Err}
 use Rattle.std.specs.Int.{Width, byte_len, to_be_bytes}
 use mir.Val.{bits}
 use Rattle.pg_base.specs.Cells.{Cell, be, IsBe, IsBeUnsigned}

@@ -1,6 +1,6 @@
 -- Texts in UTF-8: the text types (textsend), and ltree, lquery and ltxtquery (ltree_send and its like), whose cells
 -- begin with a version.
-use Rattle.std.specs.Prelude.{◌≡◌, ℕ, ◌==◌, ◌||◌, List, [], ◌∷◌, Bool, true, false, Option, Some, None, IsUtf8, drop, slice_index, if◌then◌else◌, codes, Ok, Err}
+use Rattle.std.specs.Prelude.{◌≡◌, ℕ, ◌==◌, ◌||◌, List, [], ◌∷◌, Bool, true, false, Option, Some, IsUtf8, drop, slice_index, if◌then◌else◌, codes, Ok, Err}
 use Rattle.std.specs.Cmp.Lexicographic.{pointwise}
 use Rattle.std.specs.Str.{is_utf8}
 use Rattle.pg_base.specs.declared.types.built_in.BuiltIn.TheVariants.{Varchar, Text, Bpchar, Name, Unknown}
