@@ -16,7 +16,8 @@ use pg_base::protocol::{
 use pg_base::types::PgType;
 use std::alloc::Global;
 
-/// BOOL: 1 byte, of which 0 is false and any other true. Any other length is `Size`, and NULL is `WasNull`.
+/// BOOL: 1 byte, of which 0 is false and any other true. Any other length is `Size`, and NULL is
+/// `WasNull`.
 impl<'a> FromSql<'a> for bool {
     ghost same = { λ v w. v ≡ w };
 

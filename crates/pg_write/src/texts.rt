@@ -30,8 +30,8 @@ fn append_text(alloc: Global, ty: &PgType, text: &str, out: &mut BytesMut) -> Re
     }
 }
 
-/// The text's bytes, after the version 1 where the type is named ltree, lquery or ltxtquery. No text
-/// is NULL, the empty one included.
+/// The text's bytes, after the version 1 where the type is named ltree, lquery or ltxtquery. No
+/// text is NULL, the empty one included.
 impl<'b> ToSql for &'b str {
     ghost accepted = { accepted_text };
 
@@ -80,8 +80,8 @@ impl<'b> ToSql for &'b str {
     ghost checks = { λ _ _. refl };
 }
 
-/// The text's bytes, after the version 1 where the type is named ltree, lquery or ltxtquery. No text
-/// is NULL, the empty one included.
+/// The text's bytes, after the version 1 where the type is named ltree, lquery or ltxtquery. No
+/// text is NULL, the empty one included.
 impl ToSql for String {
     ghost accepted = { accepted_text };
 
@@ -128,8 +128,8 @@ impl ToSql for String {
     ghost checks = { λ _ _. refl };
 }
 
-/// The text's bytes, after the version 1 where the type is named ltree, lquery or ltxtquery. No text
-/// is NULL, the empty one included.
+/// The text's bytes, after the version 1 where the type is named ltree, lquery or ltxtquery. No
+/// text is NULL, the empty one included.
 impl ToSql for BoxedStr {
     ghost accepted = { accepted_text };
 
@@ -176,8 +176,8 @@ impl ToSql for BoxedStr {
     ghost checks = { λ _ _. refl };
 }
 
-/// The text's bytes, after the version 1 where the type is named ltree, lquery or ltxtquery. No text
-/// is NULL, the empty one included.
+/// The text's bytes, after the version 1 where the type is named ltree, lquery or ltxtquery. No
+/// text is NULL, the empty one included.
 impl<'b> ToSql for CowStr<'b> {
     ghost accepted = { accepted_text };
 

@@ -1,4 +1,8 @@
 use super::{made, made_of, read, refusal, writes};
+use postgres_types::private::BytesMut;
+use postgres_types::protocol::{
+    lquery_from_sql, lquery_to_sql, ltree_to_sql, ltxtquery_from_sql, ltxtquery_to_sql,
+};
 use postgres_types::{FromSql, Kind, Type};
 use std::borrow::CowStr;
 use std::boxed::BoxedStr;
@@ -54,6 +58,20 @@ fn some_texts_have_a_version(rt: HostRuntime) -> Result<(), Fail> {
     assert_eq!(rt; refusal::<String>(alloc, &ltree, Some(&[0x61])), 14);
     assert_eq!(rt; refusal::<String>(alloc, &ltree, Some(&[])), 14);
     assert_eq!(rt; refusal::<String>(alloc, &ltxtquery, Some(&[1, 0xff])), 5);
+    Ok(())
+}
+
+#[test]
+fn the_versioned_formats_are_alike(rt: HostRuntime) -> Result<(), Fail> {
+    let alloc = rt.alloc();
+    let mut out = BytesMut::new(alloc);
+    ltree_to_sql(alloc, "a", &mut out)?;
+    lquery_to_sql(alloc, "b", &mut out)?;
+    ltxtquery_to_sql(alloc, "c", &mut out)?;
+    assert_eq!(rt; out.as_slice(), [1, 0x61, 1, 0x62, 1, 0x63].as_slice());
+    assert_eq!(rt; lquery_from_sql(&[1, 0x62])?, "b");
+    let refused = ltxtquery_from_sql(&[0x63]);
+    assert_eq!(rt; refused.err().map(|fault| fault.code()), Some(14));
     Ok(())
 }
 

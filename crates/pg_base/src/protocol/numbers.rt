@@ -11,7 +11,8 @@ use crate::fault::Fault;
 use bytes::{BufMut, BytesMut};
 use std::alloc::Global;
 
-/// Reads BOOL: 1 byte, of which 0 is false and any other true (`boolrecv`). Any other length is `Size`.
+/// Reads BOOL: 1 byte, of which 0 is false and any other true (`boolrecv`). Any other length is
+/// `Size`.
 pub fn bool_from_sql(raw: &[u8]) -> Result<bool, Fault>
     ensures outcome { Answers (Decodes FormBool (first_fault_number 1) raw.now) result }
     ensures never_memory { NeverMemory result }
