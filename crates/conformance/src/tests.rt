@@ -1,7 +1,13 @@
+mod bits;
 mod bytes;
 mod faults;
 mod framed;
+mod hstore;
+mod lsn;
 mod memory;
+mod moments;
+mod names;
+mod network;
 mod numbers;
 mod texts;
 mod types;
@@ -62,6 +68,34 @@ fn refusal<'a, T: FromSql<'a>>(alloc: Global, ty: &Type, cell: Option<&'a [u8]>)
         Ok(_) => 0,
         Err(fault) => fault.code(),
     }
+}
+
+/// A table of a format: each value is written as its cell, and the cell is read as the value.
+fn spells<'a, T: FromSql<'a> + ToSql + PartialEq>(
+    rt: &impl Abort,
+    alloc: Global,
+    ty: &Type,
+    rows: &'a [(T, &'a [u8])],
+) -> Result<(), Fail> {
+    for (value, cell) in rows {
+        writes(rt, alloc, value, ty, cell)?;
+        let found: T = read(alloc, ty, Some(*cell))?;
+        assert!(rt; found == *value);
+    }
+    Ok(())
+}
+
+/// A table of a format: each cell is refused with the fault of that number.
+fn refuses<'a, T: FromSql<'a>>(
+    rt: &impl Abort,
+    alloc: Global,
+    ty: &Type,
+    rows: &'a [(Option<&'a [u8]>, u32)],
+) -> Result<(), Fail> {
+    for (cell, code) in rows {
+        assert_eq!(rt; refusal::<T>(alloc, ty, *cell), *code);
+    }
+    Ok(())
 }
 
 /// A made type of kind Simple.

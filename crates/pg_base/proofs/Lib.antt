@@ -1,4 +1,12 @@
+pub mod BitLemmas
+pub mod CellLemmas
 pub mod Contents
 pub mod DerivedTypes
 pub mod Fields
+pub mod HostBits
+pub mod HstoreLengths
+pub mod HstoreSteps
+pub mod LsnLemmas
+pub mod Octets
+pub mod PadLemmas
 pub mod TextLemmas

@@ -19,7 +19,7 @@ length-bytes_high_first zero n = refl
 length-bytes_high_first (suc k) n = ap suc (length-bytes_high_first k n)
 
 -- bytes of the width's length pass the check
-passes_number : (width : ℕ) (b : List ℕ) → length b ≡ width → first_fault_number width b ≡ None
+pub passes_number : (width : ℕ) (b : List ℕ) → length b ≡ width → first_fault_number width b ≡ None
 passes_number width b h = rw (eq-eqb (length b) width h) refl
 
 -- over a width whose bytes give the number back
@@ -27,7 +27,7 @@ module _ (w : Width) (back : (n : ℕ) → n < 2 ^ bits w → from_be_bytes w (t
   be_unsigned-single : (b : List ℕ) (m n : ℕ) → IsBeUnsigned w b m → IsBeUnsigned w b n → m ≡ n
   be_unsigned-single b m n h k = sym (back m h.0) ∙ ap (from_be_bytes w) (sym h.1 ∙ k.1) ∙ back n k.0
 
-  be-back : (z : ℤ) → FitsSigned w z → cast_signed w (from_be_bytes w (be w z)) ≡ z
+  pub be-back : (z : ℤ) → FitsSigned w z → cast_signed w (from_be_bytes w (be w z)) ≡ z
   be-back z h = ap (cast_signed w) (back (cast_unsigned w z) (Fits-of_z h).fits) ∙ to_z-of_z w z h
 
   -- bytes are those of one number
@@ -40,7 +40,7 @@ module _ (w : Width) (back : (n : ℕ) → n < 2 ^ bits w → from_be_bytes w (t
     single = be-single;
   }
 
-  unsigned_grammar : IsGrammar (λ m n. m ≡ n) (FormUnsigned w) (first_fault_number (byte_len w))
+  pub unsigned_grammar : IsGrammar (λ m n. m ≡ n) (FormUnsigned w) (first_fault_number (byte_len w))
   unsigned_grammar = record {
     passes = λ b n h. passes_number (byte_len w) b (ap length h.1 ∙ length-bytes_high_first (byte_len w) n);
     single = be_unsigned-single;

@@ -1,5 +1,7 @@
 -- The words of types, faults, cells and formats.
 pub mod Appending
+pub mod Bits
+pub mod BitsLaws
 pub mod BuiltInRows
 pub mod Bytes
 pub mod Cells
@@ -9,6 +11,16 @@ pub mod Faults
 pub mod FaultTexts
 pub mod FormatLaws
 pub mod Formats
+pub mod FrameLaws
+pub mod Hstore
+pub mod HstoreLaws
+pub mod Identifiers
+pub mod Lsn
+pub mod LsnLaws
+pub mod Moments
+pub mod MomentsLaws
+pub mod Network
+pub mod NetworkLaws
 pub mod Numbers
 pub mod Options
 pub mod Sameness

@@ -1,4 +1,5 @@
--- Whole numbers: CHAR (charsend), INT2, INT4, INT8 (int2send, int4send, int8send), OID (oidsend) and BOOL (boolsend).
+-- Whole numbers: CHAR (charsend), INT2, INT4, INT8 (int2send, int4send, int8send), OID (oidsend), PG_LSN (pg_lsn_send) and
+-- BOOL (boolsend).
 use Rattle.std.specs.Prelude.{◌≡◌, ℕ, ◌-◌, ◌^◌, ◌==◌, ℤ, pos, negsuc, List, [], ◌∷◌, length, Option, Some, Bool, true, false, not, nat_lt, if◌then◌else◌, Ok, Err}
 use Rattle.std.specs.Int.{Width, byte_len, to_be_bytes}
 use mir.Val.{bits}
@@ -27,7 +28,7 @@ fits_signed w (negsuc n) = nat_lt n (2 ^ (bits w - 1))
 abbrev pub wire_signed : Width → ℤ → Wire
 wire_signed w z = if fits_signed w z then Ok (Some (be w z)) else Err transmit
 
--- OID: the same of a number without a sign
+-- OID, PG_LSN: the same of a number without a sign
 abbrev pub FormUnsigned : Width → List ℕ → ℕ → Type 0
 FormUnsigned = IsBeUnsigned
 

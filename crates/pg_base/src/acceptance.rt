@@ -1,7 +1,9 @@
 //! Tests of acceptance that reading and writing share.
-ghost use Rattle.std.specs.Prelude.{◌≡◌};
+ghost use Rattle.std.specs.Prelude.{◌≡◌, codes};
+ghost use Rattle.pg_base.specs.Bits.{accepted_bits};
 ghost use Rattle.pg_base.specs.Content.{content};
-ghost use Rattle.pg_base.specs.Texts.{accepted_text, has_version};
+ghost use Rattle.pg_base.specs.Moments.{accepted_moment};
+ghost use Rattle.pg_base.specs.Texts.{accepted_text, has_version, is_named};
 
 use crate::types::PgType;
 
@@ -27,4 +29,28 @@ pub fn has_version(ty: &PgType) -> bool
     ensures { result ≡ has_version (content ty.now) }
 {
     ty.name() == "ltree" || ty.name() == "lquery" || ty.name() == "ltxtquery"
+}
+
+/// Whether maps are read from cells of that type and written to them: it is named hstore, whatever
+/// its schema and its kind.
+pub fn is_hstore(ty: &PgType) -> bool
+    ensures { result ≡ is_named (codes "hstore") (content ty.now) }
+{
+    ty.name() == "hstore"
+}
+
+/// Whether lists of bits are read from cells of that type and written to them: BIT and VARBIT.
+#[tactic(auto, using(crate::proofs::DerivedTypes::eq_content))]
+pub fn is_bits(ty: &PgType) -> bool
+    ensures { result ≡ accepted_bits (content ty.now) }
+{
+    *ty == PgType::BIT || *ty == PgType::VARBIT
+}
+
+/// Whether moments are read from cells of that type and written to them: TIMESTAMP and TIMESTAMPTZ.
+#[tactic(auto, using(crate::proofs::DerivedTypes::eq_content))]
+pub fn is_moment(ty: &PgType) -> bool
+    ensures { result ≡ accepted_moment (content ty.now) }
+{
+    *ty == PgType::TIMESTAMP || *ty == PgType::TIMESTAMPTZ
 }

@@ -5,7 +5,11 @@
 #![tactic(auto)]
 
 pub mod acceptance;
+pub mod bits;
 pub mod fault;
 pub mod format;
+pub mod lsn;
+pub mod network;
 pub mod protocol;
 pub mod types;
+pub mod unix_time;

@@ -5,13 +5,26 @@
 //! that only where the buffer had less spare room than these bytes; where a limit is passed it
 //! answers `Transmit`.
 
+mod bits;
 mod bytea;
 mod frames;
+mod hstore;
+mod identifiers;
+mod lsn;
+mod moments;
+mod network;
 mod numbers;
 mod texts;
 
+pub(crate) use bits::without_pad;
+pub use bits::{Varbit, varbit_from_sql, varbit_to_sql};
 pub use bytea::{bytea_from_sql, bytea_to_sql};
 pub use frames::frame_to_sql;
+pub use hstore::{HstoreEntries, hstore_from_sql, hstore_to_sql};
+pub use identifiers::{macaddr_from_sql, macaddr_to_sql, uuid_from_sql, uuid_to_sql};
+pub use lsn::{lsn_from_sql, lsn_to_sql};
+pub use moments::{timestamp_from_sql, timestamp_to_sql};
+pub use network::{Inet, inet_from_sql, inet_to_sql};
 pub use numbers::{
     bool_from_sql, bool_to_sql, char_from_sql, char_to_sql, int2_from_sql, int2_to_sql,
     int4_from_sql, int4_to_sql, int8_from_sql, int8_to_sql, oid_from_sql, oid_to_sql,

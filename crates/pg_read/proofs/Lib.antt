@@ -1,1 +1,2 @@
-mod Framing
+mod LastEntries
+mod Refusals

@@ -3,8 +3,15 @@ ghost use Rattle.std.specs.Prelude.{None};
 ghost use Rattle.pg_base.specs.Cells.{Cell};
 
 use crate::from_sql::FromSql;
+use pg_base::bits::BitVec;
+use pg_base::lsn::PgLsn;
+use pg_base::network::{IpCidr, IpInet, MacAddress};
+use pg_base::unix_time::UnixTime;
 use std::borrow::CowStr;
 use std::boxed::BoxedStr;
+use std::collections::HashMap;
+use std::net::IpAddr;
+use uuid::Uuid;
 
 /// Reading a `T` never answers `Memory`.
 fn never_answers_memory<'a, T: FromSql<'a>>()
@@ -27,6 +34,14 @@ pub fn types_read_without_memory() {
     never_answers_memory::<&str>();
     never_answers_memory::<CowStr>();
     never_answers_memory::<&[u8]>();
+    never_answers_memory::<PgLsn>();
+    never_answers_memory::<UnixTime>();
+    never_answers_memory::<IpAddr>();
+    never_answers_memory::<IpInet>();
+    never_answers_memory::<IpCidr>();
+    never_answers_memory::<MacAddress>();
+    never_answers_memory::<Uuid>();
+    never_answers_memory::<Option<i32>>();
 }
 
 /// The types whose NULL is read without memory, although their values may take some.
@@ -34,5 +49,7 @@ pub fn types_whose_null_is_read_without_memory() {
     never_answers_memory_at_null::<String>();
     never_answers_memory_at_null::<BoxedStr>();
     never_answers_memory_at_null::<Vec<u8>>();
+    never_answers_memory_at_null::<HashMap<String, Option<String>>>();
+    never_answers_memory_at_null::<BitVec>();
     never_answers_memory_at_null::<Option<String>>();
 }

@@ -4,9 +4,15 @@
 //! cell.
 #![tactic(auto)]
 
+mod bits;
 mod bytea;
 pub mod from_sql;
+mod hstore;
+mod identifiers;
 pub mod laws;
+mod lsn;
+mod moments;
+mod network;
 mod numbers;
 mod options;
 pub mod private;

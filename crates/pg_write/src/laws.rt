@@ -2,14 +2,26 @@
 ghost use Rattle.std.specs.Prelude.{IsTrue};
 
 use crate::to_sql::ToSql;
+use pg_base::bits::BitVec;
+use pg_base::lsn::PgLsn;
+use pg_base::network::{IpCidr, IpInet, MacAddress};
+use pg_base::unix_time::UnixTime;
 use std::borrow::{CowSlice, CowStr};
 use std::boxed::BoxedStr;
+use std::collections::HashMap;
+use std::net::IpAddr;
+use uuid::Uuid;
 
 /// Writing a `T` answers `Memory` only where the buffer has less room than the cell's bytes, and
 /// checked writing refuses a built-in type without memory.
 fn keeps_room_rule<T: ToSql>()
     requires room { (value : T) → T.by_room value }
     requires refusal { IsTrue T.refuses_memory_free }
+{}
+
+/// Checked writing of a `T` refuses a built-in type without memory, whatever a write takes.
+fn refuses_without_memory<T: ToSql>()
+    requires { IsTrue T.refuses_memory_free }
 {}
 
 /// The types that keep the room rule.
@@ -28,6 +40,19 @@ pub fn types_that_keep_the_room_rule() {
     keeps_room_rule::<Vec<u8>>();
     keeps_room_rule::<[u8; 4]>();
     keeps_room_rule::<CowSlice<u8>>();
+    keeps_room_rule::<PgLsn>();
+    keeps_room_rule::<UnixTime>();
+    keeps_room_rule::<BitVec>();
+    keeps_room_rule::<IpAddr>();
+    keeps_room_rule::<IpInet>();
+    keeps_room_rule::<IpCidr>();
+    keeps_room_rule::<MacAddress>();
+    keeps_room_rule::<Uuid>();
     keeps_room_rule::<&i32>();
     keeps_room_rule::<Option<i32>>();
+}
+
+/// The types whose refusal takes no memory, although their writing does.
+pub fn types_refused_without_memory() {
+    refuses_without_memory::<HashMap<String, Option<String>>>();
 }

@@ -4,8 +4,14 @@
 //! answers its NULL, its fault, or Memory, and then leaves the buffer's bytes as they were.
 #![tactic(auto)]
 
+mod bits;
 mod bytea;
+mod hstore;
+mod identifiers;
 pub mod laws;
+mod lsn;
+mod moments;
+mod network;
 mod numbers;
 mod options;
 mod references;

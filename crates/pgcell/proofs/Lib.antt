@@ -1,4 +1,5 @@
 mod Answers
+mod Digits
 mod Lines
 mod Outcomes
 mod Printing

@@ -33,3 +33,7 @@ ok_weaker (Err e) f p = tt
 pub err_known : {T E : Type 0} {P Q : E → Type 0} (r : Result T E) → ((e : E) → P e → Q e) → IsErrAnd r P → IfErr r Q
 err_known (Ok x) f p = tt
 err_known (Err e) f p = f e p
+
+pub on_ok : {T E A : Type 0} (r : Result T E) (a b new : A) → new ≡ (if is_ok r then a else b) → OnOk r (new ≡ a)
+on_ok (Ok x) a b new is = is
+on_ok (Err e) a b new is = tt

@@ -1,36 +1,29 @@
--- Lemmas on the words of a line.
-use Rattle.std.proofs.Common.{◌≡◌, ◌==◌, ℕ, List, [], ◌∷◌, ◌++◌, None, cond, true, false, refl, ap, ◌∙◌}
-use Rattle.std.specs.List.{onto_first}
-use Rattle.pgcell.specs.Request.{words, request_of}
-use Rattle.pgcell.specs.Split.{Lacks}
+-- Lemmas on what a line asks for.
+use Rattle.std.proofs.Common.{◌≡◌, ◌==◌, ℕ, List, [], ◌∷◌, ◌++◌, Bool, true, false, Option, Some, None, option_map, cond, IsUtf8, refl, ap, ◌∙◌}
+use Rattle.std.specs.Str.{is_utf8}
+use Rattle.std.proofs.lemmas.Bool.{eq-eqb}
+use Rattle.std.proofs.lemmas.Str.{IsUtf8-from_is_utf8}
+use Rattle.pgcell.specs.Request.{lsn_of_text}
+use Rattle.pgcell.specs.Split.{Lacks, split}
 
--- the first word ends at the first space
-pub words_more : (front behind : List ℕ) → Lacks 32 front → words (front ++ 32 ∷ behind) ≡ front ∷ words behind
-words_more [] behind h = refl
-words_more (x ∷ xs) behind h =
-    ap (λ t. cond t ([] ∷ words (xs ++ 32 ∷ behind)) (onto_first x (words (xs ++ 32 ∷ behind)))) h.0
-    ∙ ap (onto_first x) (words_more xs behind h.1)
+-- the first part ends at the first separator
+pub split_more : (separator : ℕ) (front behind : List ℕ) → Lacks separator front → split separator (front ++ separator ∷ behind) ≡ Some (front, behind)
+split_more separator [] behind h =
+    ap (λ t. cond t (Some ([], behind)) (option_map (λ parts. (separator ∷ parts.0, parts.1)) (split separator behind))) (eq-eqb separator separator refl)
+split_more separator (byte ∷ bytes) behind h =
+    let rest = option_map (λ (parts : List ℕ × List ℕ). (byte ∷ parts.0, parts.1)) in
+    ap (λ t. cond t (Some ([], bytes ++ separator ∷ behind)) (rest (split separator (bytes ++ separator ∷ behind)))) h.0
+    ∙ ap rest (split_more separator bytes behind h.1)
 
--- what has no space is one word
-pub words_one : (line : List ℕ) → Lacks 32 line → words line ≡ line ∷ []
-words_one [] h = refl
-words_one (x ∷ xs) h =
-    ap (λ t. cond t ([] ∷ words xs) (onto_first x (words xs))) h.0 ∙ ap (onto_first x) (words_one xs h.1)
+-- what lacks the separator is not divided
+pub split_none : (separator : ℕ) (bytes : List ℕ) → Lacks separator bytes → split separator bytes ≡ None
+split_none separator [] h = refl
+split_none separator (byte ∷ bytes) h =
+    let rest = option_map (λ (parts : List ℕ × List ℕ). (byte ∷ parts.0, parts.1)) in
+    ap (λ t. cond t (Some ([], bytes)) (rest (split separator bytes))) h.0
+    ∙ ap rest (split_none separator bytes h.1)
 
-some_word : (x : ℕ) (rest : List (List ℕ)) → (w : List ℕ) × (ws : List (List ℕ)) × (onto_first x rest ≡ w ∷ ws)
-some_word x [] = (x ∷ [], [], refl)
-some_word x (w ∷ ws) = (x ∷ w, ws, refl)
-
--- a line has at least one word
-words_some : (line : List ℕ) → (w : List ℕ) × (ws : List (List ℕ)) × (words line ≡ w ∷ ws)
-words_some [] = ([], [], refl)
-words_some (x ∷ xs) = elim (x == 32) as (λ t. (w : List ℕ) × (ws : List (List ℕ)) × (cond t ([] ∷ words xs) (onto_first x (words xs)) ≡ w ∷ ws)) [
-  | true ↦ ([], words xs, refl)
-  | false ↦ some_word x (words xs)
-]
-
--- four words and more ask for nothing
-pub too_many_words : (first second third line : List ℕ) → request_of (first ∷ second ∷ third ∷ words line) ≡ None
-too_many_words first second third line =
-    let more = words_some line in
-    ap (λ ws. request_of (first ∷ second ∷ third ∷ ws)) more.2
+-- what is no UTF-8 asks for no log position
+pub no_lsn : (text : List ℕ) (told : Bool) → is_utf8 text ≡ told → (IsUtf8 text → ⊥) → None ≡ lsn_of_text text
+no_lsn text true e h = absurd (h (IsUtf8-from_is_utf8 text e))
+no_lsn text false e h = rw e refl

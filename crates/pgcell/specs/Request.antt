@@ -1,37 +1,16 @@
 -- What a line asks for.
-use Rattle.std.specs.Prelude.{ℕ, ◌-◌, ◌==◌, Bool, true, false, List, [], ◌∷◌, length, take, Option, Some, None, option_map, option_and_then, Result, Ok, Err, if◌then◌else◌, codes, nat_eq, Vec}
-use Rattle.std.specs.Cmp.Lexicographic.{pointwise}
+use Rattle.std.specs.Prelude.{ℕ, ◌==◌, ◌&&◌, ◌^◌, List, [], length, Option, Some, None, option_map, option_and_then, Result, Ok, Err, if◌then◌else◌, codes, nat_lt, Vec}
 use Rattle.std.specs.Global.{Global}
-use Rattle.std.specs.List.{slice_split, ends_with}
+use Rattle.std.specs.Str.{all_ascii_digits, is_utf8}
+use Rattle.std.specs.Str.Parse.{digits_value}
 use Rattle.hex.specs.Hex.{decode_of}
 use Rattle.hex.specs.declared.error.FromHexError.{FromHexError}
 use Rattle.postgres_types.specs.Cells.{Cell}
-use Rattle.pgcell.specs.declared.request.Base.{Base}
-use Rattle.pgcell.specs.declared.request.Base.TheVariants.{Int4, Text}
-use Rattle.pgcell.specs.declared.request.Name.{Name}
+use Rattle.pgcell.specs.Names.{same_word, conversion_of}
+use Rattle.pgcell.specs.Split.{split}
+use Rattle.pgcell.specs.declared.names.Conversion.{Conversion}
 use Rattle.pgcell.specs.declared.request.Request.{Request}
-
--- the words of a line, which single spaces separate
-abbrev pub words : List ℕ → List (List ℕ)
-words line = slice_split (λ byte. byte == 32) line
-
--- two words are the same
-abbrev pub same_word : List ℕ → List ℕ → Bool
-same_word = pointwise ◌==◌
-
--- what a base name stands for
-abbrev pub base_of : List ℕ → Option Base
-base_of word =
-    if same_word word (codes "int4") then Some Int4
-    else if same_word word (codes "text") then Some Text
-    else None
-
--- what a name stands for: a base name, or one and `?`
-abbrev pub name_of : List ℕ → Option Name
-name_of word =
-    if ends_with nat_eq word (codes "?")
-    then option_map (λ base. record { base = base; optional = true }) (base_of (take (length word - 1) word))
-    else option_map (λ base. record { base = base; optional = false }) (base_of word)
+use Rattle.pgcell.specs.declared.request.Request.TheVariants.{Norm, TypeOf, Lsn}
 
 -- the bytes that digits spell
 abbrev pub digits_cell : Result (List ℕ) FromHexError → Option Cell
@@ -46,26 +25,46 @@ cell_of_word word =
     else if length word == 0 then None
     else digits_cell (decode_of word)
 
--- a name and a cell
-pub record Asked : Type 0 where
-  pub name : Name
-  pub cell : Cell
-
--- what these words ask for: `norm`, a name and a cell
-abbrev pub request_of : List (List ℕ) → Option Asked
-request_of (command ∷ name ∷ cell ∷ []) =
-    if same_word command (codes "norm")
-    then option_and_then (λ n. option_map (λ c. record { name = n; cell = c }) (cell_of_word cell)) (name_of name)
+-- the OID that 1 to 10 decimal digits write, at most 4294967295
+abbrev pub oid_of_word : List ℕ → Option ℕ
+oid_of_word word =
+    if all_ascii_digits word && (nat_lt 0 (length word) && (nat_lt (length word) 11 && nat_lt (digits_value 10 word) (2 ^ 32)))
+    then Some (digits_value 10 word)
     else None
-request_of _ = None
+
+-- what is asked for: to rewrite a cell, to show a type, to show a log position
+pub data Asked : Type 0 where
+  norm : Conversion → Cell → Asked
+  type_of : ℕ → Asked
+  lsn : List ℕ → Asked
+
+-- `norm NAME CELL`
+abbrev pub norm_of : List ℕ → Option Asked
+norm_of words =
+    option_and_then (λ parts. option_and_then (λ c. option_map (norm c) (cell_of_word parts.1)) (conversion_of parts.0)) (split 32 words)
+
+-- `lsn TEXT`, the whole rest of the line, which is UTF-8
+abbrev pub lsn_of_text : List ℕ → Option Asked
+lsn_of_text text = if is_utf8 text then Some (lsn text) else None
+
+-- what a command and the rest of its line ask for
+abbrev pub asked_by : List ℕ → List ℕ → Option Asked
+asked_by command rest =
+    if same_word command (codes "norm") then norm_of rest
+    else if same_word command (codes "type") then option_map type_of (oid_of_word rest)
+    else if same_word command (codes "lsn") then lsn_of_text rest
+    else None
+
+-- what a line asks for: the command ends at the first space
+abbrev pub request_of : List ℕ → Option Asked
+request_of line = option_and_then (λ parts. asked_by parts.0 parts.1) (split 32 line)
 
 -- a request as the code holds it
 abbrev pub seen_bytes : Option (Vec ℕ Global) → Cell
 seen_bytes None = None
 seen_bytes (Some bytes) = Some bytes.items
 
-abbrev pub seen_cell : Option (Option (Vec ℕ Global)) → Option Cell
-seen_cell cell = option_map seen_bytes cell
-
-abbrev pub seen_request : Option Request → Option Asked
-seen_request request = option_map (λ r. record { name = r.name; cell = seen_bytes r.cell }) request
+abbrev pub seen : Request → Asked
+seen (Norm conversion cell) = norm conversion (seen_bytes cell)
+seen (TypeOf oid) = type_of oid
+seen (Lsn text) = lsn text.now

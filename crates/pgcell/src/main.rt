@@ -5,6 +5,8 @@
 #![tactic(auto)]
 
 mod answer;
+mod names;
+mod norm;
 mod request;
 mod run;
 mod split;

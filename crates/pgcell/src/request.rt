@@ -1,93 +1,76 @@
 //! What a line asks for.
 ghost use Rattle.std.specs.Prelude.{◌≡◌, ◌∷◌, [], ◌==◌, IfSome, IfNone, IfOk, option_map};
-ghost use Rattle.std.specs.List.{slice_split};
-ghost use Rattle.pgcell.specs.Request.{words, base_of, name_of, cell_of_word, request_of, seen_bytes, seen_cell, seen_request};
-ghost use Rattle.postgres_types.specs.Cells.{cell_of};
+ghost use Rattle.pgcell.specs.Split.{split};
+ghost use Rattle.pgcell.specs.Request.{cell_of_word, lsn_of_text, norm_of, oid_of_word, request_of, seen, seen_bytes, type_of};
 
+use crate::names::Conversion;
 use crate::split::split_once;
 use hex::FromHexError;
+use postgres_types::Oid;
 use std::alloc::{AllocError, Global};
 
-/// What a base name stands for: a Rust type and a Postgres type.
-#[derive(Debug, Clone, Copy, PartialEq, Eq)]
-pub enum Base {
-    /// `i32` and INT4.
-    Int4,
-    /// `String` and TEXT.
-    Text,
-}
-
-/// What a name stands for: a base name, or one and `?`.
-#[derive(Debug, Clone, Copy, PartialEq, Eq)]
-pub struct Name {
-    pub base: Base,
-    /// The Rust type is an `Option` of the base name's.
-    pub optional: bool,
-}
-
-/// A line that is well formed: `norm NAME CELL`.
+/// A line that is well formed.
 #[derive(Debug, Drop)]
-pub struct Request {
-    pub name: Name,
-    /// `None` is NULL.
-    cell: Option<Vec<u8>>,
+pub enum Request<'a> {
+    /// `norm NAME CELL`: to rewrite a cell, of which `None` is NULL.
+    Norm(Conversion, Option<Vec<u8>>),
+    /// `type OID`: to show a type.
+    TypeOf(Oid),
+    /// `lsn TEXT`: to show a log position.
+    Lsn(&'a str),
 }
 
-impl Request {
+impl<'a> Request<'a> {
     /// What the line asks for, or `None` where it is not well formed.
-    pub fn parse(alloc: Global, line: &[u8]) -> Result<Option<Request>, AllocError>
-        ensures { IfOk result (λ request. seen_request request ≡ request_of (words line.now)) }
+    pub fn parse(alloc: Global, line: &'a [u8]) -> Result<Option<Request<'a>>, AllocError>
+        ensures { IfOk result (λ request. option_map seen request ≡ request_of line.now) }
     {
-        let Some((command, name, cell)) = three_words(line) else {
+        let Some((command, rest)) = split_word(line) else {
             return Ok(None);
         };
-        if command != b"norm".as_slice() {
-            return Ok(None);
+        if command == b"norm".as_slice() {
+            return Request::parse_norm(alloc, rest);
         }
-        let Some(name) = Name::parse(name) else {
+        if command == b"type".as_slice() {
+            return Ok(Request::parse_type(rest));
+        }
+        if command == b"lsn".as_slice() {
+            return Ok(Request::parse_lsn(rest));
+        }
+        Ok(None)
+    }
+
+    /// What `norm` and these words ask for.
+    fn parse_norm(alloc: Global, words: &'a [u8]) -> Result<Option<Request<'a>>, AllocError>
+        ensures { IfOk result (λ request. option_map seen request ≡ norm_of words.now) }
+    {
+        let Some((name, cell)) = split_word(words) else {
+            return Ok(None);
+        };
+        let Some(conversion) = Conversion::parse(name) else {
             return Ok(None);
         };
         let Some(cell) = parse_cell(alloc, cell)? else {
             return Ok(None);
         };
-        Ok(Some(Request { name, cell }))
+        Ok(Some(Request::Norm(conversion, cell)))
     }
 
-    /// The cell, lent.
-    pub fn cell(&self) -> Option<&[u8]>
-        ensures { cell_of result ≡ seen_bytes self.now.cell }
+    /// What `type` and this word ask for.
+    fn parse_type(word: &'a [u8]) -> Option<Request<'a>>
+        ensures { option_map seen result ≡ option_map type_of (oid_of_word word.now) }
     {
-        match &self.cell {
-            Some(bytes) => Some(bytes.as_slice()),
-            None => None,
-        }
+        let oid = parse_oid(word)?;
+        Some(Request::TypeOf(oid))
     }
-}
 
-impl Name {
-    /// What the word stands for.
-    fn parse(word: &[u8]) -> Option<Name>
-        ensures { result ≡ name_of word.now }
+    /// What `lsn` and this text ask for.
+    fn parse_lsn(text: &'a [u8]) -> Option<Request<'a>>
+        ensures { option_map seen result ≡ lsn_of_text text.now }
     {
-        let optional = word.ends_with(b"?");
-        let base = if optional {
-            Base::parse(&word[..word.len() - 1])?
-        } else {
-            Base::parse(word)?
-        };
-        Some(Name { base, optional })
-    }
-}
-
-impl Base {
-    /// What the base name stands for.
-    fn parse(word: &[u8]) -> Option<Base>
-        ensures { result ≡ base_of word.now }
-    {
-        match word {
-            b"int4" => Some(Base::Int4),
-            b"text" => Some(Base::Text),
-            _ => None,
+        match str::from_utf8(text) {
+            Ok(text) => Some(Request::Lsn(text)),
+            Err(_) => None,
         }
     }
 }
@@ -95,7 +78,7 @@ impl Base {
 /// The cell that the word spells: `NULL`, `-` for no bytes, or an even, positive number of
 /// hexadecimal digits.
 fn parse_cell(alloc: Global, word: &[u8]) -> Result<Option<Option<Vec<u8>>>, AllocError>
-    ensures { IfOk result (λ cell. seen_cell cell ≡ cell_of_word word.now) }
+    ensures { IfOk result (λ cell. option_map seen_bytes cell ≡ cell_of_word word.now) }
 {
     match word {
         b"NULL" => Ok(Some(None)),
@@ -109,25 +92,23 @@ fn parse_cell(alloc: Global, word: &[u8]) -> Result<Option<Option<Vec<u8>>>, All
     }
 }
 
-/// The words of a line that has three.
-#[tactic(auto, using(crate::proofs::Words::words_more, crate::proofs::Words::words_one))]
-fn three_words(line: &[u8]) -> Option<(&[u8], &[u8], &[u8])>
-    ensures some { IfSome result (λ w. words line.now ≡ w.0.now ∷ w.1.now ∷ w.2.now ∷ []) }
-    ensures none { IfNone result (request_of (words line.now) ≡ None) }
+/// The OID that 1 to 10 decimal digits write.
+fn parse_oid(word: &[u8]) -> Option<Oid>
+    ensures { result ≡ oid_of_word word.now }
 {
-    let (first, rest) = split_word(line)?;
-    let (second, third) = split_word(rest)?;
-    match split_word(third) {
-        Some(_) => None,
-        None => Some((first, second, third)),
+    if word.len() > 10 || word.starts_with(b"+") {
+        return None;
+    }
+    match str::from_utf8(word) {
+        Ok(digits) => digits.parse().ok(),
+        Err(_) => None,
     }
 }
 
 /// The word in front of the first space, and what stands behind it.
-#[tactic(auto, using(crate::proofs::Words::words_more, crate::proofs::Words::words_one))]
+#[tactic(auto, using(crate::proofs::Words::split_more, crate::proofs::Words::split_none))]
 fn split_word(line: &[u8]) -> Option<(&[u8], &[u8])>
-    ensures some { IfSome result (λ p. words line.now ≡ p.0.now ∷ words p.1.now) }
-    ensures none { IfNone result (words line.now ≡ line.now ∷ []) }
+    ensures { option_map (λ parts. (parts.0.now, parts.1.now)) result ≡ split 32 line.now }
 {
     split_once(line, b' ')
 }

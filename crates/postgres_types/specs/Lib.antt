@@ -1,5 +1,9 @@
 -- The words of reading and writing together, and those of the layers below.
+pub mod ReadingBack
+pub mod Rewriting
 pub use Rattle.pg_base.specs.Appending
+pub use Rattle.pg_base.specs.Bits
+pub use Rattle.pg_base.specs.BitsLaws
 pub use Rattle.pg_base.specs.BuiltInRows
 pub use Rattle.pg_base.specs.Bytes
 pub use Rattle.pg_base.specs.Cells
@@ -9,6 +13,16 @@ pub use Rattle.pg_base.specs.Faults
 pub use Rattle.pg_base.specs.FaultTexts
 pub use Rattle.pg_base.specs.FormatLaws
 pub use Rattle.pg_base.specs.Formats
+pub use Rattle.pg_base.specs.FrameLaws
+pub use Rattle.pg_base.specs.Hstore
+pub use Rattle.pg_base.specs.HstoreLaws
+pub use Rattle.pg_base.specs.Identifiers
+pub use Rattle.pg_base.specs.Lsn
+pub use Rattle.pg_base.specs.LsnLaws
+pub use Rattle.pg_base.specs.Moments
+pub use Rattle.pg_base.specs.MomentsLaws
+pub use Rattle.pg_base.specs.Network
+pub use Rattle.pg_base.specs.NetworkLaws
 pub use Rattle.pg_base.specs.Numbers
 pub use Rattle.pg_base.specs.Options
 pub use Rattle.pg_base.specs.Sameness
@@ -19,5 +33,3 @@ pub use Rattle.pg_read.specs.OptionReading
 pub use Rattle.pg_read.specs.Reading
 pub use Rattle.pg_write.specs.OptionWriting
 pub use Rattle.pg_write.specs.Writing
-pub mod ReadingBack
-pub mod Rewriting

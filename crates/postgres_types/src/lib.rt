@@ -7,10 +7,14 @@
 
 mod rewriting;
 
+pub use pg_base::bits::BitVec;
 pub use pg_base::fault::{Fault, REASON_LEN, Reason, WasNull, WrongType};
 pub use pg_base::format::{Format, IsNull};
+pub use pg_base::lsn::{ParseLsnError, PgLsn};
+pub use pg_base::network::{IpCidr, IpInet, MacAddress};
 pub use pg_base::protocol;
 pub use pg_base::types::{Field, Kind, KindRef, Oid, PgType as Type};
+pub use pg_base::unix_time::UnixTime;
 pub use pg_read::from_sql::{FromSql, from_sql_nullable};
 pub use pg_read::private;
 pub use pg_write::to_sql::{ToSql, to_sql_checked_as};

@@ -1,41 +1,34 @@
-use super::{read, reads, refusal, writes};
+//! Bytes and frames: a table of rows for each format.
+
+use super::{read, refuses, spells, writes};
 use postgres_types::Type;
 use postgres_types::private::BytesMut;
-use postgres_types::protocol::{bytea_from_sql, frame_to_sql};
+use postgres_types::protocol::{bytea_from_sql, bytea_to_sql, frame_to_sql};
 use std::borrow::CowSlice;
 use std::test::Fail;
+
+const BYTEA: [(&[u8], &[u8]); 3] = [(&[], &[]), (&[0], &[0]), (&[0, 0xff, 7], &[0, 0xff, 7])];
+
+const FRAMES: [(Option<&[u8]>, &[u8]); 3] = [
+    (None, &[0xff, 0xff, 0xff, 0xff]),
+    (Some(&[]), &[0, 0, 0, 0]),
+    (Some(&[9, 8]), &[0, 0, 0, 2, 9, 8]),
+];
 
 #[test]
 fn bytes_are_themselves(rt: HostRuntime) -> Result<(), Fail> {
     let alloc = rt.alloc();
-    let cell = [0u8, 0xff, 7];
-    writes(&rt, alloc, &cell.as_slice(), &Type::BYTEA, &cell)?;
-    writes(&rt, alloc, &cell, &Type::BYTEA, &cell)?;
-    writes(
-        &rt,
-        alloc,
-        &Vec::from_slice(alloc, &cell)?,
-        &Type::BYTEA,
-        &cell,
-    )?;
-    writes(
-        &rt,
-        alloc,
-        &CowSlice::Borrowed(cell.as_slice()),
-        &Type::BYTEA,
-        &cell,
-    )?;
-    reads(&rt, alloc, &Type::BYTEA, &cell, cell.as_slice())?;
-    reads(
-        &rt,
-        alloc,
-        &Type::BYTEA,
-        &cell,
-        Vec::from_slice(alloc, &cell)?,
-    )?;
-    assert_eq!(rt; refusal::<Vec<u8>>(alloc, &Type::BYTEA, None), 2);
-    assert_eq!(rt; bytea_from_sql(&cell), cell.as_slice());
-    Ok(())
+    spells(&rt, alloc, &Type::BYTEA, &BYTEA)?;
+    refuses::<&[u8]>(&rt, alloc, &Type::BYTEA, &[(None, 2)])?;
+    refuses::<Vec<u8>>(&rt, alloc, &Type::BYTEA, &[(None, 2)])?;
+    for (value, cell) in BYTEA {
+        assert_eq!(rt; bytea_from_sql(cell), value);
+        let owned = Vec::from_slice(alloc, value)?;
+        writes(&rt, alloc, &owned, &Type::BYTEA, cell)?;
+        assert!(rt; read::<Vec<u8>>(alloc, &Type::BYTEA, Some(cell))? == owned);
+        writes(&rt, alloc, &CowSlice::Borrowed(value), &Type::BYTEA, cell)?;
+    }
+    writes(&rt, alloc, &[0u8, 0xff, 7], &Type::BYTEA, &[0, 0xff, 7])
 }
 
 #[test]
@@ -48,14 +41,17 @@ fn no_bytes_are_not_null(rt: HostRuntime) -> Result<(), Fail> {
 }
 
 #[test]
-fn frames_have_their_length_first(rt: HostRuntime) -> Result<(), Fail> {
-    let mut out = BytesMut::new(rt.alloc());
-    frame_to_sql(rt.alloc(), None, &mut out)?;
-    frame_to_sql(rt.alloc(), Some(&[9]), &mut out)?;
-    frame_to_sql(rt.alloc(), Some(&[]), &mut out)?;
-    assert_eq!(rt;
-        out.as_slice(),
-        [0xff, 0xff, 0xff, 0xff, 0, 0, 0, 1, 9, 0, 0, 0, 0].as_slice()
-    );
+fn each_appender_writes_into_an_empty_buffer(rt: HostRuntime) -> Result<(), Fail> {
+    let alloc = rt.alloc();
+    for (value, cell) in BYTEA {
+        let mut out = BytesMut::new(alloc);
+        bytea_to_sql(alloc, value, &mut out)?;
+        assert_eq!(rt; out.as_slice(), cell);
+    }
+    for (value, frame) in FRAMES {
+        let mut out = BytesMut::new(alloc);
+        frame_to_sql(alloc, value, &mut out)?;
+        assert_eq!(rt; out.as_slice(), frame);
+    }
     Ok(())
 }

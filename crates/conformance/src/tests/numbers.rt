@@ -1,46 +1,149 @@
-use super::{made, read, reads, refusal, writes};
+//! Whole numbers and truth values: a table of rows for each format.
+
+use super::{made, read, refuses, spells, writes};
 use postgres_types::private::BytesMut;
+use postgres_types::protocol::{
+    bool_from_sql, bool_to_sql, char_to_sql, int2_to_sql, int4_to_sql, int8_to_sql, oid_to_sql,
+};
 use postgres_types::{FromSql, ToSql, Type, rewrite, to_sql_checked_as};
 use std::test::Fail;
+
+const BOOL: [(bool, &[u8]); 2] = [(false, &[0]), (true, &[1])];
+
+const CHAR: [(i8, &[u8]); 4] = [(0, &[0]), (127, &[0x7f]), (-1, &[0xff]), (-128, &[0x80])];
+
+const INT2: [(i16, &[u8]); 4] = [
+    (0, &[0, 0]),
+    (258, &[1, 2]),
+    (-2, &[0xff, 0xfe]),
+    (i16::MIN, &[0x80, 0]),
+];
+
+const INT4: [(i32, &[u8]); 4] = [
+    (7, &[0, 0, 0, 7]),
+    (0x0102_0304, &[1, 2, 3, 4]),
+    (-2, &[0xff, 0xff, 0xff, 0xfe]),
+    (i32::MIN, &[0x80, 0, 0, 0]),
+];
+
+const INT8: [(i64, &[u8]); 4] = [
+    (1, &[0, 0, 0, 0, 0, 0, 0, 1]),
+    (0x0102_0304_0506_0708, &[1, 2, 3, 4, 5, 6, 7, 8]),
+    (-1, &[0xff, 0xff, 0xff, 0xff, 0xff, 0xff, 0xff, 0xff]),
+    (i64::MIN, &[0x80, 0, 0, 0, 0, 0, 0, 0]),
+];
+
+const OID: [(u32, &[u8]); 3] = [
+    (0, &[0, 0, 0, 0]),
+    (0x0102_0304, &[1, 2, 3, 4]),
+    (4_294_967_295, &[0xff, 0xff, 0xff, 0xff]),
+];
 
 #[test]
 fn numbers_have_their_bytes(rt: HostRuntime) -> Result<(), Fail> {
     let alloc = rt.alloc();
-    writes(&rt, alloc, &-1i8, &Type::CHAR, &[0xff])?;
-    reads(&rt, alloc, &Type::CHAR, &[0xff], -1i8)?;
-    writes(&rt, alloc, &-2i16, &Type::INT2, &[0xff, 0xfe])?;
-    reads(&rt, alloc, &Type::INT2, &[0xff, 0xfe], -2i16)?;
-    writes(&rt, alloc, &7i32, &Type::INT4, &[0, 0, 0, 7])?;
-    reads(&rt, alloc, &Type::INT4, &[0x80, 0, 0, 0], i32::MIN)?;
-    writes(&rt, alloc, &1i64, &Type::INT8, &[0, 0, 0, 0, 0, 0, 0, 1])?;
-    reads(&rt, alloc, &Type::INT8, &[0, 0, 0, 0, 0, 0, 1, 0], 256i64)?;
-    let last = [0xffu8, 0xff, 0xff, 0xff];
-    writes(&rt, alloc, &4_294_967_295u32, &Type::OID, &last)?;
-    reads(&rt, alloc, &Type::OID, &last, 4_294_967_295u32)?;
+    spells(&rt, alloc, &Type::BOOL, &BOOL)?;
+    spells(&rt, alloc, &Type::CHAR, &CHAR)?;
+    spells(&rt, alloc, &Type::INT2, &INT2)?;
+    spells(&rt, alloc, &Type::INT4, &INT4)?;
+    spells(&rt, alloc, &Type::INT8, &INT8)?;
+    spells(&rt, alloc, &Type::OID, &OID)?;
     writes(&rt, alloc, &&&7i32, &Type::INT4, &[0, 0, 0, 7])
 }
 
 #[test]
-fn another_length_is_size(rt: HostRuntime) {
+fn another_length_is_size_and_null_is_was_null(rt: HostRuntime) -> Result<(), Fail> {
     let alloc = rt.alloc();
-    let four = Some([0u8, 0, 0, 1].as_slice());
-    assert_eq!(rt; refusal::<i64>(alloc, &Type::INT8, four), 4);
-    assert_eq!(rt; refusal::<i16>(alloc, &Type::INT2, four), 4);
-    assert_eq!(rt; refusal::<i8>(alloc, &Type::CHAR, four), 4);
-    assert_eq!(rt; refusal::<bool>(alloc, &Type::BOOL, four), 4);
-    assert_eq!(rt; refusal::<u32>(alloc, &Type::OID, Some(&[])), 4);
-    assert_eq!(rt; refusal::<i32>(alloc, &Type::INT4, None), 2);
+    refuses::<bool>(
+        &rt,
+        alloc,
+        &Type::BOOL,
+        &[(Some(&[]), 4), (Some(&[0, 1]), 4), (None, 2)],
+    )?;
+    refuses::<i8>(
+        &rt,
+        alloc,
+        &Type::CHAR,
+        &[(Some(&[]), 4), (Some(&[0, 1]), 4), (None, 2)],
+    )?;
+    refuses::<i16>(
+        &rt,
+        alloc,
+        &Type::INT2,
+        &[(Some(&[1]), 4), (Some(&[0, 0, 1]), 4), (None, 2)],
+    )?;
+    refuses::<i32>(
+        &rt,
+        alloc,
+        &Type::INT4,
+        &[(Some(&[0, 0, 1]), 4), (Some(&[0; 5]), 4), (None, 2)],
+    )?;
+    refuses::<i64>(
+        &rt,
+        alloc,
+        &Type::INT8,
+        &[(Some(&[0, 0, 0, 1]), 4), (Some(&[0; 9]), 4), (None, 2)],
+    )?;
+    refuses::<u32>(
+        &rt,
+        alloc,
+        &Type::OID,
+        &[(Some(&[]), 4), (Some(&[0; 8]), 4), (None, 2)],
+    )
+}
+
+#[test]
+fn narrow_numbers_are_appended_to_an_empty_buffer(rt: HostRuntime) -> Result<(), Fail> {
+    let alloc = rt.alloc();
+    for (value, cell) in BOOL {
+        let mut out = BytesMut::new(alloc);
+        bool_to_sql(alloc, value, &mut out)?;
+        assert_eq!(rt; out.as_slice(), cell);
+    }
+    for (value, cell) in CHAR {
+        let mut out = BytesMut::new(alloc);
+        char_to_sql(alloc, value, &mut out)?;
+        assert_eq!(rt; out.as_slice(), cell);
+    }
+    for (value, cell) in INT2 {
+        let mut out = BytesMut::new(alloc);
+        int2_to_sql(alloc, value, &mut out)?;
+        assert_eq!(rt; out.as_slice(), cell);
+    }
+    Ok(())
+}
+
+#[test]
+fn wide_numbers_are_appended_to_an_empty_buffer(rt: HostRuntime) -> Result<(), Fail> {
+    let alloc = rt.alloc();
+    for (value, cell) in INT4 {
+        let mut out = BytesMut::new(alloc);
+        int4_to_sql(alloc, value, &mut out)?;
+        assert_eq!(rt; out.as_slice(), cell);
+    }
+    for (value, cell) in INT8 {
+        let mut out = BytesMut::new(alloc);
+        int8_to_sql(alloc, value, &mut out)?;
+        assert_eq!(rt; out.as_slice(), cell);
+    }
+    for (value, cell) in OID {
+        let mut out = BytesMut::new(alloc);
+        oid_to_sql(alloc, value, &mut out)?;
+        assert_eq!(rt; out.as_slice(), cell);
+    }
+    Ok(())
 }
 
 #[test]
 fn any_byte_but_zero_is_true(rt: HostRuntime) -> Result<(), Fail> {
     let alloc = rt.alloc();
-    reads(&rt, alloc, &Type::BOOL, &[2], true)?;
-    reads(&rt, alloc, &Type::BOOL, &[0], false)?;
-    let mut out = BytesMut::new(alloc);
-    let _ = rewrite::<bool>(alloc, &Type::BOOL, Some(&[2]), &mut out)?;
-    assert_eq!(rt; out.as_slice(), [1].as_slice());
-    writes(&rt, alloc, &false, &Type::BOOL, &[0])
+    for byte in [1u8, 2, 0x80, 0xff] {
+        let mut out = BytesMut::new(alloc);
+        assert!(rt; bool_from_sql(&[byte])?);
+        let _ = rewrite::<bool>(alloc, &Type::BOOL, Some(&[byte]), &mut out)?;
+        assert_eq!(rt; out.as_slice(), [1].as_slice());
+    }
+    Ok(())
 }
 
 #[test]

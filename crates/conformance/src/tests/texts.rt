@@ -1,17 +1,59 @@
-use super::{made, made_of, read, refusal, writes};
+//! Texts: a table of rows for each format.
+
+use super::{made, made_of, read, refusal, refuses, spells, writes};
 use postgres_types::private::BytesMut;
 use postgres_types::protocol::{
-    lquery_from_sql, lquery_to_sql, ltree_to_sql, ltxtquery_from_sql, ltxtquery_to_sql,
+    lquery_from_sql, lquery_to_sql, ltree_from_sql, ltree_to_sql, ltxtquery_from_sql,
+    ltxtquery_to_sql, text_from_sql, text_to_sql,
 };
 use postgres_types::{FromSql, Kind, Type};
 use std::borrow::CowStr;
 use std::boxed::BoxedStr;
 use std::test::Fail;
 
+const TEXT: [(&str, &[u8]); 4] = [
+    ("", b""),
+    ("ab", b"ab"),
+    ("\u{e9}", &[0xc3, 0xa9]),
+    ("a\0b", &[0x61, 0, 0x62]),
+];
+
+const VERSIONED: [(&str, &[u8]); 4] = [
+    ("", &[1]),
+    ("a.b", &[1, 0x61, 0x2e, 0x62]),
+    ("*.a", &[1, 0x2a, 0x2e, 0x61]),
+    ("\u{e9}", &[1, 0xc3, 0xa9]),
+];
+
+const DAMAGED_TEXT: [(Option<&[u8]>, u32); 3] = [
+    (Some(&[0xff]), 5),
+    (Some(&[0x61, 0xc3]), 5),
+    (None, 2),
+];
+
+const DAMAGED_VERSIONED: [(Option<&[u8]>, u32); 5] = [
+    (Some(&[]), 14),
+    (Some(&[0x61]), 14),
+    (Some(&[2, 0xff]), 14),
+    (Some(&[1, 0xff]), 5),
+    (None, 2),
+];
+
 #[test]
 fn texts_are_their_bytes(rt: HostRuntime) -> Result<(), Fail> {
     let alloc = rt.alloc();
-    writes(&rt, alloc, &"ab", &Type::VARCHAR, b"ab")?;
+    for ty in [
+        Type::VARCHAR,
+        Type::TEXT,
+        Type::BPCHAR,
+        Type::NAME,
+        Type::UNKNOWN,
+    ] {
+        spells(&rt, alloc, &ty, &TEXT)?;
+        refuses::<&str>(&rt, alloc, &ty, &DAMAGED_TEXT)?;
+    }
+    let citext = made(alloc, "citext", 100_004, "app")?;
+    spells(&rt, alloc, &citext, &TEXT)?;
     let text = String::from_str(alloc, "\u{e9}")?;
     writes(&rt, alloc, &text, &Type::TEXT, &[0xc3, 0xa9])?;
     writes(
@@ -21,57 +63,77 @@ fn texts_are_their_bytes(rt: HostRuntime) -> Result<(), Fail> {
         &Type::NAME,
         &[0xc3, 0xa9],
     )?;
-    writes(&rt, alloc, &CowStr::Borrowed("x"), &Type::BPCHAR, b"x")?;
-    writes(&rt, alloc, &"", &Type::UNKNOWN, b"")
-}
-
-#[test]
-fn the_four_texts_read_alike(rt: HostRuntime) -> Result<(), Fail> {
-    let alloc = rt.alloc();
-    let cell = Some(b"ab".as_slice());
-    assert_eq!(rt; read::<&str>(alloc, &Type::TEXT, cell)?, "ab");
-    assert_eq!(rt; read::<String>(alloc, &Type::TEXT, cell)?.as_str(), "ab");
-    assert_eq!(rt; read::<BoxedStr>(alloc, &Type::TEXT, cell)?.as_str(), "ab");
-    let lent = read::<CowStr>(alloc, &Type::TEXT, cell)?;
-    assert!(rt; matches!(&lent, CowStr::Borrowed(_)));
-    assert_eq!(rt; lent.as_str(), "ab");
-    for cell in [Some([0xffu8].as_slice()), None] {
-        let code = refusal::<&str>(alloc, &Type::TEXT, cell);
-        assert_eq!(rt; code, if cell.is_some() { 5 } else { 2 });
-        assert_eq!(rt; refusal::<String>(alloc, &Type::TEXT, cell), code);
-        assert_eq!(rt; refusal::<BoxedStr>(alloc, &Type::TEXT, cell), code);
-        assert_eq!(rt; refusal::<CowStr>(alloc, &Type::TEXT, cell), code);
-    }
-    Ok(())
+    writes(&rt, alloc, &CowStr::Borrowed("x"), &Type::BPCHAR, b"x")
 }
 
 #[test]
 fn some_texts_have_a_version(rt: HostRuntime) -> Result<(), Fail> {
     let alloc = rt.alloc();
-    let ltree = made(alloc, "ltree", 100_001, "public")?;
-    let lquery = made(alloc, "lquery", 100_002, "public")?;
-    let ltxtquery = made(alloc, "ltxtquery", 100_003, "app")?;
-    writes(&rt, alloc, &"a.b", &ltree, &[1, 0x61, 0x2e, 0x62])?;
-    writes(&rt, alloc, &"*.a", &lquery, &[1, 0x2a, 0x2e, 0x61])?;
-    writes(&rt, alloc, &"a", &ltxtquery, &[1, 0x61])?;
-    assert_eq!(rt; read::<&str>(alloc, &lquery, Some(&[1, 0x61]))?, "a");
-    assert_eq!(rt; refusal::<String>(alloc, &ltree, Some(&[0x61])), 14);
-    assert_eq!(rt; refusal::<String>(alloc, &ltree, Some(&[])), 14);
-    assert_eq!(rt; refusal::<String>(alloc, &ltxtquery, Some(&[1, 0xff])), 5);
+    for name in ["ltree", "lquery", "ltxtquery"] {
+        let ty = made(alloc, name, 100_001, "app")?;
+        spells(&rt, alloc, &ty, &VERSIONED)?;
+        refuses::<String>(&rt, alloc, &ty, &DAMAGED_VERSIONED)?;
+    }
     Ok(())
 }
 
 #[test]
-fn the_versioned_formats_are_alike(rt: HostRuntime) -> Result<(), Fail> {
+fn a_text_is_appended_to_an_empty_buffer(rt: HostRuntime) -> Result<(), Fail> {
+    for (text, cell) in TEXT {
+        let mut out = BytesMut::new(rt.alloc());
+        text_to_sql(rt.alloc(), text, &mut out)?;
+        assert_eq!(rt; out.as_slice(), cell);
+    }
+    Ok(())
+}
+
+#[test]
+fn a_text_with_a_version_is_appended_to_an_empty_buffer(rt: HostRuntime) -> Result<(), Fail> {
     let alloc = rt.alloc();
-    let mut out = BytesMut::new(alloc);
-    ltree_to_sql(alloc, "a", &mut out)?;
-    lquery_to_sql(alloc, "b", &mut out)?;
-    ltxtquery_to_sql(alloc, "c", &mut out)?;
-    assert_eq!(rt; out.as_slice(), [1, 0x61, 1, 0x62, 1, 0x63].as_slice());
-    assert_eq!(rt; lquery_from_sql(&[1, 0x62])?, "b");
-    let refused = ltxtquery_from_sql(&[0x63]);
-    assert_eq!(rt; refused.err().map(|fault| fault.code()), Some(14));
+    for (text, cell) in VERSIONED {
+        let mut out = BytesMut::new(alloc);
+        ltree_to_sql(alloc, text, &mut out)?;
+        assert_eq!(rt; out.as_slice(), cell);
+        let mut out = BytesMut::new(alloc);
+        lquery_to_sql(alloc, text, &mut out)?;
+        assert_eq!(rt; out.as_slice(), cell);
+        let mut out = BytesMut::new(alloc);
+        ltxtquery_to_sql(alloc, text, &mut out)?;
+        assert_eq!(rt; out.as_slice(), cell);
+    }
+    Ok(())
+}
+
+#[test]
+fn each_reader_reads_its_format(rt: HostRuntime) -> Result<(), Fail> {
+    for (text, cell) in TEXT {
+        assert_eq!(rt; text_from_sql(cell)?, text);
+    }
+    for (text, cell) in VERSIONED {
+        assert_eq!(rt; ltree_from_sql(cell)?, text);
+        assert_eq!(rt; lquery_from_sql(cell)?, text);
+        assert_eq!(rt; ltxtquery_from_sql(cell)?, text);
+    }
+    Ok(())
+}
+
+#[test]
+fn the_four_texts_read_alike(rt: HostRuntime) -> Result<(), Fail> {
+    let alloc = rt.alloc();
+    for (text, cell) in TEXT {
+        let cell = Some(cell);
+        assert_eq!(rt; read::<&str>(alloc, &Type::TEXT, cell)?, text);
+        assert_eq!(rt; read::<String>(alloc, &Type::TEXT, cell)?.as_str(), text);
+        assert_eq!(rt; read::<BoxedStr>(alloc, &Type::TEXT, cell)?.as_str(), text);
+        let lent = read::<CowStr>(alloc, &Type::TEXT, cell)?;
+        assert!(rt; matches!(&lent, CowStr::Borrowed(_)));
+        assert_eq!(rt; lent.as_str(), text);
+    }
+    for (cell, code) in DAMAGED_TEXT {
+        assert_eq!(rt; refusal::<String>(alloc, &Type::TEXT, cell), code);
+        assert_eq!(rt; refusal::<BoxedStr>(alloc, &Type::TEXT, cell), code);
+        assert_eq!(rt; refusal::<CowStr>(alloc, &Type::TEXT, cell), code);
+    }
     Ok(())
 }
 

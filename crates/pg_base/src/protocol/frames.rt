@@ -7,7 +7,7 @@ use bytes::BytesMut;
 use std::alloc::Global;
 
 /// The most bytes of a cell that has a frame.
-const MAX_CELL: usize = 2_147_483_647;
+pub(super) const MAX_CELL: usize = 2_147_483_647;
 
 /// Appends the frame of a cell, of which `None` is NULL: its length in 4 bytes, highest first, and
 /// its bytes; for NULL the length -1. A cell of more than 2,147,483,647 bytes is `Transmit`.

@@ -1,7 +1,11 @@
+mod rows;
+
 use super::{BLOCK, RunFault, run};
+use rows::{NUMBERS_AND_TEXTS, POSITIONS, SMALL_TYPES, TYPES, WORDS};
 use std::alloc::Global;
 use std::io;
 use std::io::{Error, ErrorKind, Read, Write};
+use std::process::Abort;
 use std::test::Fail;
 
 /// An empty line between two others, the last of which no byte 10 ends.
@@ -15,34 +19,6 @@ const OUTPUT: &[u8] = b"ok 0000000a\nbad line\nnull\n";
 
 /// What its first two lines are answered.
 const FIRST_TWO: &[u8] = b"ok 0000000a\nbad line\n";
-
-/// Lines and their answers.
-const ROWS: [(&[u8], &[u8]); 24] = [
-    (b"norm int4 00000007", b"ok 00000007"),
-    (b"norm int4? NULL", b"null"),
-    (b"norm int4 000000", b"refused 4"),
-    (b"norm int4 NULL", b"refused 2"),
-    (b"norm text -", b"ok -"),
-    (b"norm text ff", b"refused 5"),
-    (b"norm int4", b"bad line"),
-    (b"norm int4 0000000A", b"ok 0000000a"),
-    (b"norm int4 000", b"bad line"),
-    (b"", b"bad line"),
-    (b"norm text? -", b"ok -"),
-    (b"norm text c3a9", b"ok c3a9"),
-    (b"norm text NULL", b"refused 2"),
-    (b"norm int4? FFFFFFFE", b"ok fffffffe"),
-    (b"norm int4? -", b"refused 4"),
-    (b"norm text? NULL", b"null"),
-    (b"norm  int4 00000007", b"bad line"),
-    (b"norm int4 00000007 ", b"bad line"),
-    (b" norm int4 00000007", b"bad line"),
-    (b"norm int4?? NULL", b"bad line"),
-    (b"norm int8 NULL", b"bad line"),
-    (b"norms int4 NULL", b"bad line"),
-    (b"norm int4 null", b"bad line"),
-    (b"norm \xff 00000007", b"bad line"),
-];
 
 /// More room than any answer here takes.
 const ROOM: usize = 1_000_000;
@@ -162,20 +138,30 @@ fn answers_to(alloc: Global, text: &[u8], step: usize) -> Result<Vec<u8>, Fail> 
     Ok(taken)
 }
 
-#[test]
-fn each_line_has_its_answer(rt: HostRuntime) -> Result<(), Fail> {
-    let mut text = Vec::new(rt.alloc());
-    let mut answers = Vec::new(rt.alloc());
-    for (line, answer) in ROWS {
+/// Each line of the table has its answer, with and without a byte 10 behind the last.
+fn answers_rows(rt: &impl Abort, alloc: Global, rows: &[(&[u8], &[u8])]) -> Result<(), Fail> {
+    let mut text = Vec::new(alloc);
+    let mut answers = Vec::new(alloc);
+    for (line, answer) in rows {
         text.extend_from_slice(line)?;
         text.push(b'\n')?;
         answers.extend_from_slice(answer)?;
         answers.push(b'\n')?;
     }
-    assert!(rt; answers_to(rt.alloc(), text.as_slice(), ROOM)? == answers);
+    assert!(rt; answers_to(alloc, text.as_slice(), ROOM)? == answers);
     text.truncate(text.len().saturating_sub(1));
-    assert!(rt; answers_to(rt.alloc(), text.as_slice(), ROOM)? == answers);
+    assert!(rt; answers_to(alloc, text.as_slice(), ROOM)? == answers);
     Ok(())
+}
+
+#[test]
+fn each_line_has_its_answer(rt: HostRuntime) -> Result<(), Fail> {
+    let alloc = rt.alloc();
+    answers_rows(&rt, alloc, &WORDS)?;
+    answers_rows(&rt, alloc, &NUMBERS_AND_TEXTS)?;
+    answers_rows(&rt, alloc, &TYPES)?;
+    answers_rows(&rt, alloc, &SMALL_TYPES)?;
+    answers_rows(&rt, alloc, &POSITIONS)
 }
 
 #[test]

@@ -1,25 +1,45 @@
 use Rattle.std.proofs.Common.{◌≡◌, ◌++◌, ℕ, List, None, Some, refl, codes}
-use Rattle.pgcell.proofs.Outcomes.{ok_weaker}
+use Rattle.postgres_types.specs.Lsn.{lsn_of}
+use Rattle.pgcell.proofs.Outcomes.{ok_weaker, on_ok}
 use Rattle.pgcell.proofs.Printing.{answers_line}
-use Rattle.pgcell.specs.Answer.{AnswersBase}
-use Rattle.pgcell.specs.Request.{seen_bytes}
+use Rattle.pgcell.specs.Answer.{AnswersType, printed_lsn}
+use Rattle.pgcell.specs.Norm.{AnswersBase}
+use Rattle.pgcell.specs.Request.{norm, type_of, lsn, seen_bytes}
 use Rattle.pgcell.proofs.answer.answer.Goals as goal
 
 pub returns-in-None-clause-ok : goal.returns-in-None-clause-ok
 returns-in-None-clause-ok c =
     let old = c.args.pending.now.items in
-    let new = c.print.new.pending.items in
+    let new = c.extend_from_slice.new.self.items in
     let asked = rw c.in-None.is at c.in_ok-parse.ensures in
-    ok_weaker {P = new ≡ old ++ codes "bad line"} c.print.result
-    (λ printed. (codes "bad line", answers_line c.args.line.now None _ asked refl, printed)) c.print.ensures.ok
+    ok_weaker {P = new ≡ old ++ codes "bad line"} c.extend_from_slice.result
+    (λ printed. (codes "bad line", answers_line c.args.line.now None _ asked refl, printed))
+    (on_ok c.extend_from_slice.result _ old new c.extend_from_slice.ensures.items)
 
-pub returns-in-Some-clause-ok : goal.returns-in-Some-clause-ok
-returns-in-Some-clause-ok c =
-    let request = c.in-Some.request in
+pub returns-in-Some-Norm-clause-ok : goal.returns-in-Some-Norm-clause-ok
+returns-in-Some-Norm-clause-ok c =
+    let conversion = c.in-Some-Norm.conversion in
+    let cell = seen_bytes c.in-Some-Norm.cell in
     let old = c.args.pending.now.items in
     let new = c.norm.new.pending.items in
-    let cell = seen_bytes request.cell in
-    let asked = rw c.in-Some.is at c.in_ok-parse.ensures in
-    let told = rw c.cell.ensures at c.norm.ensures.ok in
-    ok_weaker {P = (text : List ℕ) × AnswersBase request.name.base request.name.optional cell text × (new ≡ old ++ text)} c.norm.result
-    (λ answer. (answer.0, answers_line c.args.line.now (Some (record { name = request.name; cell = cell })) answer.0 asked answer.1, answer.2)) told
+    let asked = rw c.in-Some-Norm.field-0-is at (rw c.in-Some-Norm.is at c.in_ok-parse.ensures) in
+    let told = rw c.lent.ensures at c.norm.ensures.ok in
+    ok_weaker {P = (text : List ℕ) × AnswersBase conversion.base conversion.optional cell text × (new ≡ old ++ text)} c.norm.result
+    (λ answer. (answer.0, answers_line c.args.line.now (Some (norm conversion cell)) answer.0 asked answer.1, answer.2)) told
+
+pub returns-in-Some-TypeOf-clause-ok : goal.returns-in-Some-TypeOf-clause-ok
+returns-in-Some-TypeOf-clause-ok c =
+    let oid = c.in-Some-TypeOf.oid in
+    let old = c.args.pending.now.items in
+    let new = c.show_type.new.pending.items in
+    let asked = rw c.in-Some-TypeOf.field-0-is at (rw c.in-Some-TypeOf.is at c.in_ok-parse.ensures) in
+    ok_weaker {P = (text : List ℕ) × AnswersType oid text × (new ≡ old ++ text)} c.show_type.result
+    (λ answer. (answer.0, answers_line c.args.line.now (Some (type_of oid)) answer.0 asked answer.1, answer.2)) c.show_type.ensures.ok
+
+pub returns-in-Some-Lsn-clause-ok : goal.returns-in-Some-Lsn-clause-ok
+returns-in-Some-Lsn-clause-ok c =
+    let position = c.in-Some-Lsn.text.now in
+    let answer = printed_lsn (lsn_of position) in
+    let asked = rw c.in-Some-Lsn.field-0-is at (rw c.in-Some-Lsn.is at c.in_ok-parse.ensures) in
+    ok_weaker {P = c.show_lsn.new.pending.items ≡ c.args.pending.now.items ++ answer} c.show_lsn.result
+    (λ printed. (answer, answers_line c.args.line.now (Some (lsn position)) answer asked refl, printed)) c.show_lsn.ensures.ok

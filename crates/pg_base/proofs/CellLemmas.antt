@@ -1,0 +1,55 @@
+-- Lemmas on cells of bits.
+use Rattle.std.proofs.Common.{◌≡◌, ℕ, ◌+◌, ◌<◌, ◌≤◌, ℤ, pos, negsuc, true, false, nat_le, Some, None, List, ◌++◌, length, refl, ap, sym, subst, ◌∙◌, arith, Result, Ok, Err, IsErr}
+use Rattle.std.specs.Prelude.{⊤}
+use Rattle.std.specs.Result.{IsErrAnd}
+use Rattle.std.specs.Int.{w32}
+use Rattle.std.proofs.lemmas.Bool.Decides.{nat_tests}
+use Rattle.bytes.specs.Filled.{Filled}
+use lib.IntN.{nat_abs}
+use lib.Signed.{lt_z}
+use Rattle.pg_base.specs.declared.fault.Fault.{Fault}
+use Rattle.pg_base.specs.declared.fault.Fault.TheVariants.{Memory}
+use Rattle.pg_base.specs.Appending.{Appends}
+use Rattle.pg_base.specs.Bits.{FormBits, bits_cell, bytes_for, first_bits, packed}
+use Rattle.pg_base.specs.Cells.{be, IsBe}
+use Rattle.pg_base.proofs.BitLemmas.{first_bits_len, packed_len}
+
+-- ---- reading
+-- a count that is not negative is its size
+pub count_is : (z : ℤ) → lt_z z (pos 0) ≡ false → z ≡ pos (nat_abs z)
+count_is (pos n) h = refl
+count_is (negsuc n) h = absurd (cc)
+
+-- a count, and as many bytes as so many bits take, spell the first bits
+pub spelt : (b head rest : List ℕ) (z : ℤ) (n : ℕ) → b ≡ head ++ rest → IsBe w32 head z → z ≡ pos n → length rest ≡ bytes_for n → FormBits (λ v. v) b (first_bits n rest)
+spelt b head rest z n e is count whole =
+    let m : n ≡ length (first_bits n rest) = sym (first_bits_len n rest) in
+    (head, rest, e, subst (λ x. IsBe w32 head x) (count ∙ ap pos m) is, whole ∙ ap bytes_for m, ap (λ x. first_bits x rest) m)
+
+-- ---- writing
+-- the bytes of a cell
+cell_within : (n : ℕ) (p : List ℕ) → n ≤ 2147483647 → bits_cell (first_bits n p) ≡ Some (be w32 (pos n) ++ packed (first_bits n p))
+cell_within n p h =
+    let within : nat_le n 2147483647 ≡ true = grind (arith, nat_tests) in
+    rw (first_bits_len n p, within) refl
+
+pub cell_past : (n : ℕ) (p : List ℕ) → 2147483647 < n → bits_cell (first_bits n p) ≡ None
+cell_past n p h =
+    let past : nat_le n 2147483647 ≡ false = grind (arith, nat_tests) in
+    rw (first_bits_len n p, past) refl
+
+packed_as_many : (n : ℕ) (p : List ℕ) → length p ≡ bytes_for n → length (packed (first_bits n p)) ≡ length p
+packed_as_many n p whole = packed_len (first_bits n p) ∙ ap bytes_for (first_bits_len n p) ∙ sym whole
+
+-- the cell was appended
+pub appended : (n : ℕ) (p : List ℕ) (old new : Filled) → n ≤ 2147483647 → length p ≡ bytes_for n → new.items ≡ old.items ++ (be w32 (pos n) ++ packed (first_bits n p)) → old.spare ≤ new.spare + (4 + length p) → Appends (bits_cell (first_bits n p)) old new (Ok tt)
+appended n p old new h whole items spare =
+    let many = packed_as_many n p whole in
+    rw (cell_within n p h) (items, omega arith)
+
+-- there was no room for it
+pub refused : (n : ℕ) (p : List ℕ) (old new : Filled) (r : Result ⊤ Fault) → n ≤ 2147483647 → length p ≡ bytes_for n → IsErr r → IsErrAnd r (λ f. f ≡ Memory) → new.items ≡ old.items → old.spare < 4 + length p → old.spare ≤ new.spare → Appends (bits_cell (first_bits n p)) old new r
+refused n p old new (Ok done) h whole is and items room more = absurd (cc)
+refused n p old new (Err f) h whole is and items room more =
+    let many = packed_as_many n p whole in
+    rw (cell_within n p h) (items, and, omega arith, more)

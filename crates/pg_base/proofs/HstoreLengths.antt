@@ -1,0 +1,180 @@
+-- The bytes of entries, one after another.
+use Rattle.std.proofs.Common.{◌≡◌, ◌≤◌, ◌<◌, ◌+◌, ◌++◌, ℕ, List, [], ◌∷◌, length, map, take, take_all, drop, get_or, Option, Some, None, Bool, true, false, cond, nat_le, pos, Ok, Err, refl, sym, ap, ◌∙◌, subst, arith, append_assoc, append-nil, length-append}
+use Rattle.std.specs.Bool.{⊤}
+use Rattle.std.specs.Borrow.{Bor}
+use Rattle.std.proofs.lemmas.List.{take_more, map-append, take-append-drop, length-map}
+use Rattle.std.proofs.lemmas.Bool.Decides.{nat_tests}
+use Rattle.std.specs.Int.{w32}
+use Rattle.pg_base.specs.Cells.{be, cell_of, frame}
+use Rattle.bytes.specs.Filled.{Filled}
+use Rattle.pg_base.specs.declared.fault.Fault.{Fault}
+use Rattle.pg_base.specs.Appending.{Appends}
+use Rattle.pg_base.specs.Hstore.{Entry, joined, entries_bytes, hstore_bytes, count_bytes, lent_entry}
+
+abbrev Bytes : Type 0
+Bytes = Option (List ℕ)
+
+abbrev pub Lent : Type 0
+Lent = Bor (List ℕ) × Option (Bor (List ℕ))
+
+joined-assoc : (a b c : Bytes) → joined (joined a b) c ≡ joined a (joined b c)
+joined-assoc None b c = refl
+joined-assoc (Some a) None c = refl
+joined-assoc (Some a) (Some b) None = refl
+joined-assoc (Some a) (Some b) (Some c) = ap Some (append_assoc a b c)
+
+joined-nil : (a : Bytes) → joined a (Some []) ≡ a
+joined-nil None = refl
+joined-nil (Some a) = ap Some (append-nil a)
+
+nil-joined : (a : Bytes) → joined (Some []) a ≡ a
+nil-joined None = refl
+nil-joined (Some a) = refl
+
+-- both parts of joined bytes are there
+pub parts_of : (a b : Bytes) (t : List ℕ) → joined a b ≡ Some t → (x y : List ℕ) × (a ≡ Some x) × (b ≡ Some y) × (t ≡ x ++ y)
+parts_of None b t e = let no : ⊥ = cc in absurd no
+parts_of (Some x) None t e = let no : ⊥ = cc in absurd no
+parts_of (Some x) (Some y) t e = (x, y, refl, refl, cc)
+
+sum_len : (t x y : List ℕ) → t ≡ x ++ y → length t ≡ length x + length y
+sum_len t x y e = subst (λ (s : List ℕ). length s ≡ length x + length y) (sym e) (length-append x y)
+
+entries-append : (xs ys : List Entry) → entries_bytes (xs ++ ys) ≡ joined (entries_bytes xs) (entries_bytes ys)
+entries-append [] ys = sym (nil-joined (entries_bytes ys))
+entries-append (x ∷ xs) ys =
+    let first : Bytes = joined (frame (Some x.0)) (frame x.1) in
+    ap (joined first) (entries-append xs ys) ∙ sym (joined-assoc first (entries_bytes xs) (entries_bytes ys))
+
+-- one more entry
+entries-push : (xs : List Entry) (e : Entry) (bs f g : List ℕ) → entries_bytes xs ≡ Some bs → frame (Some e.0) ≡ Some f → frame e.1 ≡ Some g
+    → entries_bytes (xs ++ e ∷ []) ≡ Some (bs ++ (f ++ g))
+entries-push xs e bs f g xs_are key value =
+    entries-append xs (e ∷ []) ∙ ap (joined (entries_bytes xs)) (joined-nil (joined (frame (Some e.0)) (frame e.1)))
+    ∙ rw (xs_are, key, value) refl
+
+-- the entry at a place, what comes in front of it, and what comes behind it
+entry_at : (es : List Lent) (i : ℕ) (d : Lent) → i < length es
+    → map lent_entry es ≡ map lent_entry (take i es) ++ lent_entry (get_or es i d) ∷ map lent_entry (drop (i + 1) es)
+entry_at es i d h =
+    let whole : es ≡ (take i es ++ get_or es i d ∷ []) ++ drop (i + 1) es = sym (take-append-drop (i + 1) es) ∙ ap (λ l. l ++ drop (i + 1) es) (take_more es i d h) in
+    ap (map lent_entry) (whole ∙ append_assoc (take i es) (get_or es i d ∷ []) (drop (i + 1) es)) ∙ map-append lent_entry (take i es) (get_or es i d ∷ drop (i + 1) es)
+
+pub entries_next : (es : List Lent) (i : ℕ) (d : Lent) (bs f g : List ℕ) → i < length es → entries_bytes (map lent_entry (take i es)) ≡ Some bs
+    → frame (Some (get_or es i d).0.now) ≡ Some f → frame (cell_of (get_or es i d).1) ≡ Some g
+    → entries_bytes (map lent_entry (take (i + 1) es)) ≡ Some (bs ++ (f ++ g))
+entries_next es i d bs f g h so_far key value =
+    let e : Entry = lent_entry (get_or es i d) in
+    let listed : map lent_entry (take (i + 1) es) ≡ map lent_entry (take i es) ++ e ∷ []
+    = ap (map lent_entry) (take_more es i d h) ∙ map-append lent_entry (take i es) (get_or es i d ∷ []) in
+    ap entries_bytes listed ∙ entries-push (map lent_entry (take i es)) e bs f g so_far key value
+
+-- where all entries have bytes, each has, and they are no longer than all
+pub record HasEntry (e : Entry) (bs total : List ℕ) : Type 0 where
+  pub key : List ℕ
+  pub value : List ℕ
+  pub key_is : frame (Some e.0) ≡ Some key
+  pub value_is : frame e.1 ≡ Some value
+  pub fits : length bs + (length key + length value) ≤ length total
+
+pub has_entry : (es : List Lent) (i : ℕ) (d : Lent) (bs total : List ℕ) → i < length es → entries_bytes (map lent_entry (take i es)) ≡ Some bs
+    → entries_bytes (map lent_entry es) ≡ Some total → HasEntry (lent_entry (get_or es i d)) bs total
+has_entry es i d bs total h so_far all =
+    let e : Entry = lent_entry (get_or es i d) in
+    let before : List Entry = map lent_entry (take i es) in
+    let behind : List Entry = map lent_entry (drop (i + 1) es) in
+    let split = parts_of (entries_bytes before) (entries_bytes (e ∷ behind)) total (sym (entries-append before (e ∷ behind)) ∙ ap entries_bytes (sym (entry_at es i d h)) ∙ all) in
+    let here = parts_of (joined (frame (Some e.0)) (frame e.1)) (entries_bytes behind) split.1 split.3 in
+    let texts = parts_of (frame (Some e.0)) (frame e.1) here.0 here.2 in
+    let same : Some bs ≡ Some split.0 = sym so_far ∙ split.2 in
+    let bs_is : bs ≡ split.0 = cc in
+    let bs_len : length bs ≡ length split.0 = subst (λ (s : List ℕ). length bs ≡ length s) bs_is refl in
+    record {
+      key = texts.0;
+      value = texts.1;
+      key_is = texts.2;
+      value_is = texts.3;
+      fits = omega (arith, bs_len, sum_len total split.0 split.1 split.4, sum_len split.1 here.0 here.1 here.4, sum_len here.0 texts.0 texts.1 texts.4);
+    }
+
+count_of : (t : Bool) (b x : List ℕ) → cond t (Some b) None ≡ Some x → x ≡ b
+count_of true b x e = cc
+count_of false b x e = let no : ⊥ = cc in absurd no
+
+-- all bytes are the count's four and the entries'
+whole_parts : (es : List Entry) (b : List ℕ) → hstore_bytes es ≡ Some b → (t : List ℕ) × (entries_bytes es ≡ Some t) × (length b ≡ 4 + length t)
+whole_parts es b e =
+    let n : ℕ = length es in
+    let parts = parts_of (count_bytes n) (entries_bytes es) b e in
+    let four : parts.0 ≡ be w32 (pos n) = count_of (nat_le n 2147483647) (be w32 (pos n)) parts.0 parts.2 in
+    let sum : length b ≡ length parts.0 + length parts.1 = sum_len b parts.0 parts.1 parts.4 in
+    (parts.1, parts.3, sum ∙ ap (λ (s : List ℕ). length s + length parts.1) four)
+
+-- what is left of room for all entries has room for the next
+pub record HasRoom (e : Entry) (room : ℕ) : Type 0 where
+  pub key : List ℕ
+  pub value : List ℕ
+  pub key_is : frame (Some e.0) ≡ Some key
+  pub value_is : frame e.1 ≡ Some value
+  pub fits : length key + length value ≤ room
+
+pub has_room : (es : List Lent) (i : ℕ) (d : Lent) (bs b : List ℕ) (start now : ℕ) → i < length es → entries_bytes (map lent_entry (take i es)) ≡ Some bs
+    → hstore_bytes (map lent_entry es) ≡ Some b → start ≤ now + length bs → length b ≤ start + 4 → HasRoom (lent_entry (get_or es i d)) now
+has_room es i d bs b start now h so_far all taken enough =
+    let whole = whole_parts (map lent_entry es) b all in
+    let has = has_entry es i d bs whole.0 h so_far whole.1 in
+    record { key = has.key; value = has.value; key_is = has.key_is; value_is = has.value_is; fits = omega (arith, has.fits, whole.2) }
+
+-- an appender does not refuse bytes that have room
+pub no_refusal : (w : Bytes) (b : List ℕ) (old new : Filled) (fault : Fault) → w ≡ Some b → length b ≤ old.spare → Appends w old new (Err fault) → ⊥
+no_refusal None b old new fault e h a = let no : ⊥ = cc in no
+no_refusal (Some x) b old new fault e h a = let same : x ≡ b = cc in omega (arith, a.2, ap length same)
+
+-- and takes no more room than they do
+pub appended : {u : ⊤} (w : Bytes) (b : List ℕ) (old new : Filled) → w ≡ Some b → Appends w old new (Ok u) → (new.items ≡ old.items ++ b) × (old.spare ≤ new.spare + length b)
+appended None b old new e a = absurd a
+appended (Some x) b old new e a = let same : x ≡ b = cc in subst (λ (s : List ℕ). (new.items ≡ old.items ++ s) × (old.spare ≤ new.spare + length s)) same a
+
+none_of : (o : Bytes) → ((t : List ℕ) → o ≡ Some t → ⊥) → o ≡ None
+none_of None h = refl
+none_of (Some t) h = absurd (h t refl)
+
+-- where an entry has no bytes, there are none of all
+pub key_none : (es : List Lent) (i : ℕ) (d : Lent) (bs : List ℕ) → i < length es → entries_bytes (map lent_entry (take i es)) ≡ Some bs
+    → frame (Some (get_or es i d).0.now) ≡ None → hstore_bytes (map lent_entry es) ≡ None
+key_none es i d bs h so_far none = none_of (hstore_bytes (map lent_entry es)) (λ t e.
+    let parts = parts_of (count_bytes (length (map lent_entry es))) (entries_bytes (map lent_entry es)) t e in
+    let has = has_entry es i d bs parts.1 h so_far parts.3 in
+    let no : None ≡ Some has.key = sym none ∙ has.key_is in cc)
+
+pub value_none : (es : List Lent) (i : ℕ) (d : Lent) (bs : List ℕ) → i < length es → entries_bytes (map lent_entry (take i es)) ≡ Some bs
+    → frame (cell_of (get_or es i d).1) ≡ None → hstore_bytes (map lent_entry es) ≡ None
+value_none es i d bs h so_far none = none_of (hstore_bytes (map lent_entry es)) (λ t e.
+    let parts = parts_of (count_bytes (length (map lent_entry es))) (entries_bytes (map lent_entry es)) t e in
+    let has = has_entry es i d bs parts.1 h so_far parts.3 in
+    let no : None ≡ Some has.value = sym none ∙ has.value_is in cc)
+
+test_met : (t : Bool) (b : List ℕ) → t ≡ true → cond t (Some b) None ≡ Some b
+test_met true b e = refl
+test_met false b e = let no : ⊥ = cc in absurd no
+
+-- a short text has a frame
+pub short_frame : (x : List ℕ) → length x ≤ 2147483647 → (b : List ℕ) × (frame (Some x) ≡ Some b) × (length b ≡ 4 + length x)
+short_frame x h =
+    let fits : nat_le (length x) 2147483647 ≡ true = grind (arith, nat_tests) in
+    let b : List ℕ = be w32 (pos (length x)) ++ x in
+    (b, test_met (nat_le (length x) 2147483647) b fits, omega (arith, length-append (be w32 (pos (length x))) x))
+
+-- so few entries have a count
+pub short_count : (es : List Lent) → length es ≤ 2147483647 → count_bytes (length (map lent_entry es)) ≡ Some (be w32 (pos (length es)))
+short_count es h =
+    let same : length (map lent_entry es) ≡ length es = length-map es lent_entry in
+    let fits : nat_le (length es) 2147483647 ≡ true = grind (arith, nat_tests) in
+    ap count_bytes same ∙ test_met (nat_le (length es) 2147483647) (be w32 (pos (length es))) fits
+
+-- the bytes of a short list of entries that have bytes
+pub short_list : (es : List Lent) (i : ℕ) (bs : List ℕ) → length es ≤ 2147483647 → length es ≤ i → entries_bytes (map lent_entry (take i es)) ≡ Some bs
+    → hstore_bytes (map lent_entry es) ≡ Some (be w32 (pos (length es)) ++ bs)
+short_list es i bs h whole are =
+    let all : entries_bytes (map lent_entry es) ≡ Some bs = ap (λ (l : List Lent). entries_bytes (map lent_entry l)) (sym (take_all i es whole)) ∙ are in
+    rw (short_count es h, all) refl

@@ -1,0 +1,108 @@
+-- Bits: BIT (bit_send, bit_recv) and VARBIT (varbit_send, varbit_recv).
+use Rattle.std.specs.Prelude.{◌≡◌, ℕ, ◌+◌, ◌-◌, ◌*◌, ◌/◌, ◌%◌, ◌^◌, ◌<◌, ◌≤◌, ◌==◌, pos, List, [], ◌∷◌, ◌++◌, length, map, take, slice_index, slice_index_or, Option, Some, None, Bool, false, ◌||◌, nat_lt, nat_le, if◌then◌else◌, Result, Ok, Err, ⊤}
+use Rattle.std.specs.Int.{w32, bit_at, div_ceil, from_be_bytes}
+use Rattle.std.specs.List.{range_with_len}
+use Rattle.std.specs.Option.{option_map_or}
+use Rattle.pg_base.specs.Appending.{Wire}
+use Rattle.pg_base.specs.Cells.{Cell, be, IsBe}
+use Rattle.pg_base.specs.declared.types.built_in.BuiltIn.TheVariants.{Bit, Varbit}
+use Rattle.pg_base.specs.Content.{Content, is_row}
+use Rattle.pg_base.specs.Faults.{Refusal, Outcome, refusal_of, size, count, transmit}
+use Rattle.pg_base.specs.declared.fault.Fault.{Fault}
+use Rattle.pg_base.specs.declared.fault.Fault.TheVariants.{Memory}
+use Rattle.pg_base.specs.Formats.{first_fault_of, ReadsPlain}
+
+-- BIT and VARBIT
+abbrev pub accepted_bits : Content → Bool
+accepted_bits ty = is_row Bit ty || is_row Varbit ty
+
+-- the bit of a byte at a place from 0 to 7, counted from the top
+abbrev pub bit_of : ℕ → ℕ → Bool
+bit_of byte place = bit_at byte (7 - place) == 1
+
+-- bit i of bytes: the one at place i mod 8 of byte i div 8; past the bytes 0
+abbrev pub nth_bit : List ℕ → ℕ → Bool
+nth_bit b i = bit_of (slice_index b (i / 8)) (i % 8)
+
+-- the first n bits of bytes
+unfoldable pub first_bits : ℕ → List ℕ → List Bool
+first_bits n b = map (nth_bit b) (range_with_len 0 n)
+
+-- how many bytes n bits take
+abbrev pub bytes_for : ℕ → ℕ
+bytes_for n = div_ceil n 8
+
+-- item i of a list as a digit; past its end 0
+abbrev pub digit : List Bool → ℕ → ℕ
+digit v i = if slice_index_or v i false then 1 else 0
+
+-- byte k of packed bits: items 8 k to 8 k + 7, the first on top
+unfoldable pub packed_byte : List Bool → ℕ → ℕ
+packed_byte v k =
+    128 * digit v (8 * k) + 64 * digit v (8 * k + 1) + 32 * digit v (8 * k + 2) + 16 * digit v (8 * k + 3) +
+    8 * digit v (8 * k + 4) + 4 * digit v (8 * k + 5) + 2 * digit v (8 * k + 6) + digit v (8 * k + 7)
+
+-- bits packed eight to a byte; what pads the last byte is 0
+unfoldable pub packed : List Bool → List ℕ
+packed v = map (packed_byte v) (range_with_len 0 (bytes_for (length v)))
+
+-- how many bits pad the last byte of n bits
+abbrev pub pad_of : ℕ → ℕ
+pad_of n = 8 * bytes_for n - n
+
+-- the byte with its lowest k bits 0
+abbrev pub without_low : ℕ → ℕ → ℕ
+without_low k byte = byte / 2 ^ k * 2 ^ k
+
+-- the most bits that a list of them has
+abbrev pub most_bits : ℕ
+most_bits = 2 ^ 64 - 1
+
+-- the bits of all the bytes; more than the most is Transmit, and otherwise only memory is missing
+abbrev pub TakesBytes : List ℕ → Result (List Bool) Fault → Type 0
+TakesBytes b (Ok v) = (8 * length b ≤ most_bits) × (v ≡ first_bits (8 * length b) b)
+TakesBytes b (Err f) = refusal_of f ≡ (if nat_le (8 * length b) most_bits then None else Some transmit)
+
+-- the bits were made; otherwise only memory was missing
+abbrev pub Makes : List Bool → Result (List Bool) Fault → Type 0
+Makes bits (Ok v) = v ≡ bits
+Makes bits (Err f) = f ≡ Memory
+
+-- the bit was put at the end; or nothing was changed, with Transmit where there are the most bits already, and otherwise
+-- only for memory
+abbrev pub Pushes : List Bool → Bool → List Bool → Result ⊤ Fault → Type 0
+Pushes old bit new (Ok done) = (length old < most_bits) × (new ≡ old ++ bit ∷ [])
+Pushes old bit new (Err f) = (new ≡ old) × (refusal_of f ≡ (if nat_lt (length old) most_bits then None else Some transmit))
+
+-- the last bit was taken; where there is none, nothing
+abbrev pub Pops : List Bool → Option Bool → List Bool → Type 0
+Pops old (Some bit) new = old ≡ new ++ bit ∷ []
+Pops old None new = (old ≡ []) × (new ≡ [])
+
+-- the bytes spell these bits: their number in four bytes, and bytes of which they are the first bits; there are as many
+-- bytes as they take, and what pads the last one is free
+abbrev pub FormBits : {A : Type 0} → (A → List Bool) → List ℕ → A → Type 0
+FormBits bits_of b v =
+    (s p : List ℕ) × (b ≡ s ++ p) × IsBe w32 s (pos (length (bits_of v))) × (length p ≡ bytes_for (length (bits_of v))) ×
+    (bits_of v ≡ first_bits (length (bits_of v)) p)
+
+-- the number that the first four bytes state, read without a sign: a negative one is 2,147,483,648 or more
+abbrev pub stated : List ℕ → ℕ
+stated b = from_be_bytes w32 (take 4 b)
+
+-- a count that is cut is Size, a negative one Count, and any other number of bytes than the bits take Size
+abbrev pub first_fault_bits : List ℕ → Option Refusal
+first_fault_bits b =
+    first_fault_of ((nat_le 4 (length b), size) ∷ (nat_lt (stated b) 2147483648, count) ∷
+    (length b == 4 + bytes_for (stated b), size) ∷ [])
+
+abbrev pub ReadsBits : {A : Type 0} → (A → List Bool) → Cell → Outcome A → Type 0
+ReadsBits bits_of = ReadsPlain (FormBits bits_of) first_fault_bits
+
+-- the bytes of a cell of bits: their number in four bytes, and the bits packed. More bits than the number can say have none
+abbrev pub bits_cell : List Bool → Option (List ℕ)
+bits_cell v = if nat_le (length v) 2147483647 then Some (be w32 (pos (length v)) ++ packed v) else None
+
+-- the cell of bits; where there are too many, Transmit
+abbrev pub wire_bits : List Bool → Wire
+wire_bits v = option_map_or (λ b. Ok (Some b)) (bits_cell v) (Err transmit)

@@ -1,0 +1,43 @@
+-- Laws of frames.
+use Rattle.std.specs.Prelude.{◌≡◌, ◌<◌, ◌^◌, ℕ, ℤ, pos, List, ◌++◌, length, Some, None, Bool, true, false, nat_le, FitsSigned, refl}
+use Rattle.std.proofs.Common.{sym, ◌∙◌, ap, subst, arith, cond, append_assoc}
+use Rattle.std.proofs.lemmas.Bool.{leb-true}
+use Rattle.std.proofs.lemmas.Bool.Decides.{nat_tests}
+use Rattle.std.proofs.lemmas.Int.{ints}
+use Rattle.std.specs.Int.{w32}
+use Rattle.pg_base.specs.Cells.{be, IsBe, Spells, frame}
+
+length_fits : (n : ℕ) → FitsSigned w32 (pos n) → nat_le n 2147483647 ≡ true
+length_fits n h =
+    let below : n < 2 ^ 31 = omega (arith, ints) in
+    grind (arith, nat_tests)
+
+fits_length : (n : ℕ) → nat_le n 2147483647 ≡ true → FitsSigned w32 (pos n)
+fits_length n h =
+    let below = leb-true n 2147483647 h in
+    omega (arith, ints, below)
+
+-- a length and that many bytes are the bytes' frame
+pub frame-bytes : (h b : List ℕ) → IsBe w32 h (pos (length b)) → frame (Some b) ≡ Some (h ++ b)
+frame-bytes h b p =
+    ap (λ t. cond t (Some (be w32 (pos (length b)) ++ b)) None) (length_fits (length b) p.0)
+    ∙ ap (λ s. Some (s ++ b)) (sym p.1)
+
+some_of : (t : Bool) (v k : List ℕ) → cond t (Some v) None ≡ Some k → (t ≡ true) × (k ≡ v)
+some_of true v k e = (refl, cc)
+some_of false v k e = let no : ⊥ = cc in absurd no
+
+-- and nothing else is
+pub bytes-frame : (k b : List ℕ) → frame (Some b) ≡ Some k → (h : List ℕ) × (k ≡ h ++ b) × IsBe w32 h (pos (length b))
+bytes-frame k b e =
+    let p = some_of (nat_le (length b) 2147483647) (be w32 (pos (length b)) ++ b) k e in
+    (be w32 (pos (length b)), p.1, (fits_length (length b) p.0, refl))
+
+-- a length that was taken, and the cell behind it, spell the cell
+pub taken : (old h mid cell rest : List ℕ) (n : ℤ) → old ≡ h ++ mid → IsBe w32 h n → n ≡ pos (length cell) → mid ≡ cell ++ rest
+    → (s : List ℕ) × (old ≡ s ++ rest) × Spells s (Some cell)
+taken old h mid cell rest n e p is m = (
+  h ++ cell,
+  e ∙ ap (λ x. h ++ x) m ∙ sym (append_assoc h cell rest),
+  frame-bytes h cell (subst (λ z. IsBe w32 h z) is p),
+)

@@ -1,0 +1,199 @@
+-- Hstore (hstore_send, hstore_recv): a count, and for each entry its key and its value, which may be NULL.
+use Rattle.std.specs.Prelude.{◌≡◌, ℕ, ◌+◌, ◌==◌, zero, suc, ℤ, pos, negsuc, List, [], ◌∷◌, ◌++◌, length, take, drop, Option, Some, None, option_map, Bool, true, false, nat_le, if◌then◌else◌, Result, Ok, Err, IfSome, IsSome, IsUtf8, String, string_bytes}
+use Rattle.std.specs.Borrow.{Bor}
+use Rattle.std.specs.Cmp.Lexicographic.{slice_cmp}
+use Rattle.std.specs.Global.{Global}
+use Rattle.std.specs.HashMap.{HashMap, get_by_text}
+use Rattle.std.specs.Int.{w32, cast_signed, from_be_bytes}
+use Rattle.std.specs.Ordering.{nat_cmp}
+use Rattle.std.specs.declared.cmp.Ordering.{Ordering}
+use Rattle.std.specs.declared.cmp.Ordering.TheVariants.{Less, Equal, Greater}
+use Rattle.std.specs.Str.{bytes_eq, is_utf8}
+use Rattle.pg_base.specs.declared.fault.Fault.{Fault}
+use Rattle.pg_base.specs.Appending.{Wire}
+use Rattle.pg_base.specs.Cells.{Cell, cell_of, be, IsBe, frame, Spells}
+use Rattle.pg_base.specs.Faults.{Refusal, Outcome, refusal_of, size, utf8, count, key_length, transmit}
+use Rattle.pg_base.specs.Formats.{first_fault_of, ReadsPlain}
+use Rattle.pg_base.specs.Options.{NoneOr}
+
+-- an entry: a key, and its value or NULL
+abbrev pub Entry : Type 0
+Entry = List ℕ × Cell
+
+-- s spells a text in UTF-8, or NULL
+abbrev pub SpellsText : List ℕ → Cell → Type 0
+SpellsText s c = Spells s c × NoneOr IsUtf8 c
+
+-- s spells an entry: the frame of its key, and then its value
+abbrev pub SpellsEntry : List ℕ → Entry → Type 0
+SpellsEntry s e = (k v : List ℕ) × (s ≡ k ++ v) × SpellsText k (Some e.0) × SpellsText v e.1
+
+-- s is spellings of the entries, one after another, and then rest
+abbrev pub SpellsEntries : List ℕ → List Entry → List ℕ → Type 0
+SpellsEntries s [] rest = s ≡ rest
+SpellsEntries s (e ∷ es) rest = (t u : List ℕ) × (s ≡ t ++ u) × SpellsEntry t e × SpellsEntries u es rest
+
+-- what is to be read: the entries that are stated still, and the bytes that are left
+pub record ToRead : Type 0 where
+  pub left : ℕ
+  pub bytes : List ℕ
+
+-- b is the bytes of a count, and then what is to be read
+abbrev pub SpellsCount : List ℕ → ToRead → Type 0
+SpellsCount b r = (h : List ℕ) × (b ≡ h ++ r.bytes) × IsBe w32 h (pos r.left)
+
+-- what a later entry gives, or else this one
+abbrev pub or_this : List ℕ → Entry → Option Cell → Option Cell
+or_this q e None = if bytes_eq e.0 q then Some e.1 else None
+or_this q e (Some v) = Some v
+
+-- the value of the last entry with the key, if there is one
+abbrev pub last_value : List ℕ → List Entry → Option Cell
+last_value q [] = None
+last_value q (e ∷ es) = or_this q e (last_value q es)
+
+-- b spells a map: it is a count and that many entries, and the map has just their keys, each with its last entry's
+-- value; the first argument tells what a map has at a key
+abbrev pub FormHstore : {A : Type 0} → (A → List ℕ → Option Cell) → List ℕ → A → Type 0
+FormHstore value_at b m =
+    (es : List Entry) × (s : List ℕ) × SpellsCount b (record { left = length es; bytes = s }) × SpellsEntries s es [] × ((q : List ℕ) → value_at m q ≡ last_value q es)
+
+-- the number in the first four bytes, where they are there
+abbrev pub has_number : List ℕ → Bool
+has_number s = nat_le 4 (length s)
+
+abbrev pub number_in : List ℕ → ℤ
+number_in s = cast_signed w32 (from_be_bytes w32 (take 4 s))
+
+-- how many entries or bytes a number states: a negative one states none
+abbrev pub stated : ℤ → ℕ
+stated (pos n) = n
+stated (negsuc n) = 0
+
+abbrev pub not_negative : ℤ → Bool
+not_negative (pos n) = true
+not_negative (negsuc n) = false
+
+-- the text whose length stands in front, where all of it is there, and what follows it
+abbrev pub has_text : List ℕ → Bool
+has_text s = nat_le (stated (number_in s)) (length (drop 4 s))
+
+abbrev pub text_in : List ℕ → List ℕ
+text_in s = take (stated (number_in s)) (drop 4 s)
+
+abbrev pub behind_text : List ℕ → List ℕ
+behind_text s = drop (stated (number_in s)) (drop 4 s)
+
+abbrev pub Checks : Type 0
+Checks = List (Bool × Refusal)
+
+-- the checks of an entry in front of s, in the order of its bytes. A value of negative length is NULL, and has no text
+abbrev pub key_checks : List ℕ → Checks
+key_checks s =
+    (has_number s, size) ∷ (not_negative (number_in s), key_length) ∷ (has_text s, size) ∷ (is_utf8 (text_in s), utf8) ∷ []
+
+abbrev pub value_checks : List ℕ → Checks
+value_checks s = (has_number s, size) ∷ (has_text s, size) ∷ (is_utf8 (text_in s), utf8) ∷ []
+
+abbrev pub entry_checks : List ℕ → Checks
+entry_checks s = key_checks s ++ value_checks (behind_text s)
+
+-- the checks of what comes next: an entry, or after the last that no bytes are left
+abbrev pub checks_of_next : ℕ → List ℕ → Checks
+checks_of_next zero s = (length s == 0, size) ∷ []
+checks_of_next (suc n) s = entry_checks s
+
+abbrev pub next_checks : ToRead → Checks
+next_checks r = checks_of_next r.left r.bytes
+
+-- the checks of n entries, one after another, and of the end
+abbrev pub entries_checks : ℕ → List ℕ → Checks
+entries_checks zero s = (length s == 0, size) ∷ []
+entries_checks (suc n) s = entry_checks s ++ entries_checks n (behind_text (behind_text s))
+
+abbrev pub count_checks : List ℕ → Checks
+count_checks b = (has_number b, size) ∷ (not_negative (number_in b), count) ∷ []
+
+-- the checks of the count come first, and then those of as many entries
+abbrev pub first_fault_hstore : List ℕ → Option Refusal
+first_fault_hstore b = first_fault_of (count_checks b ++ entries_checks (stated (number_in b)) (drop 4 b))
+
+-- an entry of lent texts
+abbrev pub lent_entry : Bor (List ℕ) × Option (Bor (List ℕ)) → Entry
+lent_entry e = (e.0.now, cell_of e.1)
+
+-- s begins with what spells a value, and rest comes after it
+abbrev pub InFront : {A : Type 0} → (List ℕ → A → Type 0) → List ℕ → A × Bor (List ℕ) → Type 0
+InFront spells s p = (t : List ℕ) × (s ≡ t ++ p.1.now) × spells t p.0
+
+-- nothing is to be read
+abbrev pub nothing : ToRead
+nothing = record { left = 0; bytes = [] }
+
+-- a step of reading: the next entry was taken from the front; or its first check that fails was answered, or that of
+-- the end, and then nothing is to be read; or nothing was to be read
+abbrev pub TakesEntry : ToRead → Option (Result (Bor (List ℕ) × Option (Bor (List ℕ))) Fault) → ToRead → Type 0
+TakesEntry old (Some (Ok e)) new =
+    (new.left + 1 ≡ old.left) × (t : List ℕ) × (old.bytes ≡ t ++ new.bytes) × SpellsEntry t (lent_entry e)
+TakesEntry old (Some (Err f)) new =
+    IfSome (refusal_of f) (λ r. first_fault_of (next_checks old) ≡ Some r) × IsSome (refusal_of f) × (new ≡ nothing)
+TakesEntry old None new = (old ≡ nothing) × (new ≡ nothing)
+
+-- an entry of owned texts
+abbrev pub owned_entry : String Global × Option (String Global) → Entry
+owned_entry e = (string_bytes e.0, option_map string_bytes e.1)
+
+-- what the map has at a key
+abbrev pub value_at : {S : Type 0} → HashMap (String Global) (Option (String Global)) S → List ℕ → Option Cell
+value_at m q = option_map (λ v. option_map string_bytes v) (get_by_text m q)
+
+-- two maps have the same at each key
+abbrev pub SameMap : {S : Type 0} → HashMap (String Global) (Option (String Global)) S → HashMap (String Global) (Option (String Global)) S → Type 0
+SameMap m n = (q : List ℕ) → value_at m q ≡ value_at n q
+
+-- what a cell reads as
+abbrev pub ReadsHstore : {S : Type 0} → Cell → Outcome (HashMap (String Global) (Option (String Global)) S) → Type 0
+ReadsHstore = ReadsPlain (FormHstore value_at) first_fault_hstore
+
+-- the first bytes and then the second, where both are there
+abbrev pub joined : Option (List ℕ) → Option (List ℕ) → Option (List ℕ)
+joined None r = None
+joined (Some a) r = option_map (λ b. a ++ b) r
+
+-- the bytes of a count, which four bytes hold
+abbrev pub count_bytes : ℕ → Option (List ℕ)
+count_bytes n = if nat_le n 2147483647 then Some (be w32 (pos n)) else None
+
+-- the frames of the entries' keys and values, in the order of the list, where each has one
+abbrev pub entries_bytes : List Entry → Option (List ℕ)
+entries_bytes [] = Some []
+entries_bytes (e ∷ es) = joined (joined (frame (Some e.0)) (frame e.1)) (entries_bytes es)
+
+-- the cell of entries: their count, and their frames
+abbrev pub hstore_bytes : List Entry → Option (List ℕ)
+hstore_bytes es = joined (count_bytes (length es)) (entries_bytes es)
+
+-- e, in front of f, in its place, or behind it
+abbrev pub placed_by : Ordering → Entry → Entry → List Entry → List Entry → List Entry
+placed_by Less e f fs rest = e ∷ f ∷ fs
+placed_by Equal e f fs rest = e ∷ fs
+placed_by Greater e f fs rest = f ∷ rest
+
+-- an entry placed among entries in order
+abbrev pub placed : Entry → List Entry → List Entry
+placed e [] = e ∷ []
+placed e (f ∷ fs) = placed_by (slice_cmp nat_cmp e.0 f.0) e f fs (placed e fs)
+
+-- the entries in the order of their keys' bytes, each key once
+abbrev pub in_key_order : List Entry → List Entry
+in_key_order [] = []
+in_key_order (e ∷ es) = placed e (in_key_order es)
+
+-- bytes, or Transmit where a limit is passed
+abbrev pub wire_of : Option (List ℕ) → Wire
+wire_of None = Err transmit
+wire_of (Some b) = Ok (Some b)
+
+-- what entries are written as: their cell, in the order of their keys
+abbrev pub wire_hstore : List Entry → Wire
+wire_hstore es = wire_of (hstore_bytes (in_key_order es))

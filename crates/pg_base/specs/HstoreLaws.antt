@@ -1,0 +1,272 @@
+-- Hstore is a grammar: its bytes spell one map, and pass every check.
+use Rattle.std.specs.Prelude.{◌≡◌, ℕ, zero, suc, ℤ, pos, negsuc, List, [], ◌∷◌, ◌++◌, ◌≤◌, ◌+◌, length, take, drop, Option, Some, None, Bool, true, false, nat_le, IsUtf8, refl}
+use Rattle.std.proofs.Common.{sym, ◌∙◌, ap, ap₂, subst, arith, cond, append_assoc}
+use Rattle.std.proofs.Math.Dec.{leb-zero}
+use Rattle.std.proofs.Math.Seq.{take-append_seam, drop-append_seam}
+use Rattle.std.proofs.lemmas.Bool.Decides.{nat_tests}
+use Rattle.std.proofs.lemmas.List.{length-append}
+use Rattle.std.proofs.lemmas.Nat.{from_be_bytes-to_be_bytes_4}
+use Rattle.std.proofs.lemmas.Str.{is_utf8-from_IsUtf8, IsUtf8-nil}
+use Rattle.std.specs.Int.{w32, cast_signed, from_be_bytes}
+use Rattle.std.specs.Str.{is_utf8}
+use Rattle.pg_base.specs.Cells.{Cell, be, IsBe, Spells}
+use Rattle.pg_base.specs.Faults.{Refusal, size, utf8, key_length}
+use Rattle.pg_base.specs.FormatLaws.{be-back}
+use Rattle.pg_base.specs.Formats.{IsGrammar, first_fault_of}
+use Rattle.pg_base.specs.FrameLaws.{bytes-frame}
+use Rattle.pg_base.specs.Hstore.{Entry, ToRead, nothing, count_checks, checks_of_next, next_checks, SpellsText, SpellsEntry, SpellsEntries, SpellsCount, FormHstore, Checks, has_number, number_in, stated, not_negative, has_text, text_in, behind_text, key_checks, value_checks, entry_checks, entries_checks, first_fault_hstore, last_value}
+use Rattle.pg_base.specs.Options.{NoneOr}
+use Rattle.pg_base.specs.Sameness.{IsEquivalence}
+
+-- checks that are met are passed by
+met_by : (t : Bool) (r : Refusal) (xs ys : Checks) → ((first_fault_of xs ≡ None) → first_fault_of (xs ++ ys) ≡ first_fault_of ys)
+    → cond t (first_fault_of xs) (Some r) ≡ None → cond t (first_fault_of (xs ++ ys)) (Some r) ≡ first_fault_of ys
+met_by true r xs ys later e = later e
+met_by false r xs ys later e = let no : ⊥ = cc in absurd no
+
+checks_met : (xs ys : Checks) → first_fault_of xs ≡ None → first_fault_of (xs ++ ys) ≡ first_fault_of ys
+checks_met [] ys e = refl
+checks_met (x ∷ xs) ys e = met_by x.0 x.1 xs ys (checks_met xs ys) e
+
+-- and the first that fails is the first of more
+failed_by : (t : Bool) (r s : Refusal) (xs ys : Checks) → ((first_fault_of xs ≡ Some s) → first_fault_of (xs ++ ys) ≡ Some s)
+    → cond t (first_fault_of xs) (Some r) ≡ Some s → cond t (first_fault_of (xs ++ ys)) (Some r) ≡ Some s
+failed_by true r s xs ys later e = later e
+failed_by false r s xs ys later e = e
+
+check_failed : (xs ys : Checks) (s : Refusal) → first_fault_of xs ≡ Some s → first_fault_of (xs ++ ys) ≡ Some s
+check_failed [] ys s e = let no : ⊥ = cc in absurd no
+check_failed (x ∷ xs) ys s e = failed_by x.0 x.1 s xs ys (check_failed xs ys s) e
+
+-- what is known of bytes with this number in front of u
+record IsNumberThen (s : List ℕ) (n : ℤ) (u : List ℕ) : Type 0 where
+  pub has : has_number s ≡ true
+  pub number : number_in s ≡ n
+  pub rest : drop 4 s ≡ u
+
+has_four : (s : List ℕ) → 4 ≤ length s → has_number s ≡ true
+has_four s h = grind (arith, nat_tests)
+
+be_then : (n : ℤ) (u : List ℕ) → cast_signed w32 (from_be_bytes w32 (be w32 n)) ≡ n → IsNumberThen (be w32 n ++ u) n u
+be_then n u back = record { has = has_four (be w32 n ++ u) (omega (arith, length-append (be w32 n) u)); number = back; rest = refl }
+
+number_then : (b h u : List ℕ) (n : ℤ) → b ≡ h ++ u → IsBe w32 h n → IsNumberThen b n u
+number_then b h u n e p =
+    subst (λ s. IsNumberThen s n u) (sym (e ∙ ap (λ s. s ++ u) p.1)) (be_then n u (be-back w32 from_be_bytes-to_be_bytes_4 n p.0))
+
+-- the text of a value; NULL has none
+abbrev text_or_none : Cell → List ℕ
+text_or_none None = []
+text_or_none (Some x) = x
+
+-- the value that s begins with
+abbrev value_by : ℤ → List ℕ → Cell
+value_by (pos n) x = Some x
+value_by (negsuc n) x = None
+
+abbrev value_in : List ℕ → Cell
+value_in s = value_by (number_in s) (text_in s)
+
+-- the entry that s begins with
+abbrev entry_in : List ℕ → Entry
+entry_in s = (text_in s, value_in (behind_text s))
+
+-- what is known of bytes that begin with this text, or NULL, and go on with u
+record IsTextThen (s : List ℕ) (c : Cell) (u : List ℕ) : Type 0 where
+  pub has : has_number s ≡ true
+  pub whole : has_text s ≡ true
+  pub text : text_in s ≡ text_or_none c
+  pub value : value_in s ≡ c
+  pub rest : behind_text s ≡ u
+
+null_then : (s u : List ℕ) (n : ℕ) → IsNumberThen s (negsuc n) u → IsTextThen s None u
+null_then s u n p = record {
+  has = p.has;
+  whole = rw p.number (leb-zero (length (drop 4 s)));
+  text = rw p.number refl;
+  value = rw p.number refl;
+  rest = rw p.number p.rest;
+}
+
+long_enough : (x u : List ℕ) → nat_le (length x) (length (x ++ u)) ≡ true
+long_enough x u = grind (arith, nat_tests, length-append x u)
+
+some_then : (s x u : List ℕ) → IsNumberThen s (pos (length x)) (x ++ u) → IsTextThen s (Some x) u
+some_then s x u p =
+    let text : text_in s ≡ x = rw (p.number, p.rest) (take-append_seam x u) in
+    record {
+      has = p.has;
+      whole = rw (p.number, p.rest) (long_enough x u);
+      text = text;
+      value = rw p.number (ap Some (rw (p.rest) (take-append_seam x u)));
+      rest = rw (p.number, p.rest) (drop-append_seam x u);
+    }
+
+text_then : (t u : List ℕ) (c : Cell) → Spells t c → IsTextThen (t ++ u) c u
+text_then t u None p = null_then (t ++ u) u p.0 (number_then (t ++ u) t u (negsuc p.0) refl p.1)
+text_then t u (Some x) p =
+    let framed = bytes-frame t x p in
+    let parts : t ++ u ≡ framed.0 ++ (x ++ u) = ap (λ s. s ++ u) framed.1 ∙ append_assoc framed.0 x u in
+    some_then (t ++ u) x u (number_then (t ++ u) framed.0 (x ++ u) (pos (length x)) parts framed.2)
+
+utf8_of : (c : Cell) → NoneOr IsUtf8 c → is_utf8 (text_or_none c) ≡ true
+utf8_of None h = is_utf8-from_IsUtf8 [] IsUtf8-nil
+utf8_of (Some x) h = is_utf8-from_IsUtf8 x h
+
+-- a text in front passes the checks
+value_passes : (s u : List ℕ) (c : Cell) → IsTextThen s c u → NoneOr IsUtf8 c → first_fault_of (value_checks s) ≡ None
+value_passes s u c p h = rw (p.has, p.whole, p.text, utf8_of c h) refl
+
+some_not_negative : (n : ℤ) (y x : List ℕ) → value_by n y ≡ Some x → not_negative n ≡ true
+some_not_negative (pos n) y x e = refl
+some_not_negative (negsuc n) y x e = let no : ⊥ = cc in absurd no
+
+key_passes : (s x u : List ℕ) → IsTextThen s (Some x) u → IsUtf8 x → first_fault_of (key_checks s) ≡ None
+key_passes s x u p h = rw (p.has, some_not_negative (number_in s) (text_in s) x p.value, p.whole, p.text, is_utf8-from_IsUtf8 x h) refl
+
+-- the first fault of a text in front is that of a key in front
+key_fault_by : (t : Bool) (n : ℤ) (d : List ℕ) (r : Refusal)
+    → first_fault_of ((t, size) ∷ (nat_le (stated n) (length d), size) ∷ (is_utf8 (take (stated n) d), utf8) ∷ []) ≡ Some r
+    → first_fault_of ((t, size) ∷ (not_negative n, key_length) ∷ (nat_le (stated n) (length d), size) ∷ (is_utf8 (take (stated n) d), utf8) ∷ []) ≡ Some r
+key_fault_by false n d r e = e
+key_fault_by true (pos n) d r e = e
+key_fault_by true (negsuc n) d r e = let none : None ≡ Some r = sym (rw (leb-zero (length d), is_utf8-from_IsUtf8 [] IsUtf8-nil) refl) ∙ e in let no : ⊥ = cc in absurd no
+
+pub key_fault : (s : List ℕ) (r : Refusal) → first_fault_of (value_checks s) ≡ Some r → first_fault_of (entry_checks s) ≡ Some r
+key_fault s r e = check_failed (key_checks s) (value_checks (behind_text s)) r (key_fault_by (has_number s) (number_in s) (drop 4 s) r e)
+
+-- behind a sound key the first fault is the value's
+pub value_fault : (t u x : List ℕ) (r : Refusal) → SpellsText t (Some x) → first_fault_of (value_checks u) ≡ Some r → first_fault_of (entry_checks (t ++ u)) ≡ Some r
+value_fault t u x r p e =
+    let after = text_then t u (Some x) p.0 in
+    checks_met (key_checks (t ++ u)) (value_checks (behind_text (t ++ u))) (key_passes (t ++ u) x u after p.1)
+    ∙ ap (λ s. first_fault_of (value_checks s)) after.rest ∙ e
+
+-- what is known of bytes that begin with this entry and go on with u
+record IsEntryThen (s : List ℕ) (e : Entry) (u : List ℕ) : Type 0 where
+  pub passes : first_fault_of (entry_checks s) ≡ None
+  pub entry : entry_in s ≡ e
+  pub rest : behind_text (behind_text s) ≡ u
+
+entry_then : (t u : List ℕ) (e : Entry) → SpellsEntry t e → IsEntryThen (t ++ u) e u
+entry_then t u e p =
+    let s : List ℕ = p.0 ++ (p.1 ++ u) in
+    let parts : t ++ u ≡ s = ap (λ x. x ++ u) p.2 ∙ append_assoc p.0 p.1 u in
+    let key = text_then p.0 (p.1 ++ u) (Some e.0) p.3.0 in
+    let value = text_then p.1 u e.1 p.4.0 in
+    rw parts (record {
+      passes = checks_met (key_checks s) (value_checks (behind_text s)) (key_passes s e.0 (p.1 ++ u) key p.3.1)
+          ∙ ap (λ x. first_fault_of (value_checks x)) key.rest ∙ value_passes (p.1 ++ u) u e.1 value p.4.1;
+      entry = ap₂ (λ (x : List ℕ) (c : Cell). let e : Entry = (x, c) in e) key.text (ap value_in key.rest ∙ value.value);
+      rest = ap behind_text key.rest ∙ value.rest;
+    })
+
+-- so many entries, and n more
+and_more : List Entry → ℕ → ℕ
+and_more [] n = n
+and_more (e ∷ es) n = suc (and_more es n)
+
+and_more-is : (es : List Entry) (n : ℕ) → and_more es n ≡ length es + n
+unfolding and_more
+and_more-is [] n = omega arith
+and_more-is (e ∷ es) n = omega (arith, and_more-is es n)
+
+passed : (s rest : List ℕ) (es : List Entry) (n : ℕ) → SpellsEntries s es rest → first_fault_of (entries_checks (and_more es n) s) ≡ first_fault_of (entries_checks n rest)
+unfolding and_more
+passed s rest [] n p = ap (λ x. first_fault_of (entries_checks n x)) p
+passed s rest (e ∷ es) n p =
+    let first = entry_then p.0 p.1 e p.3 in
+    rw p.2 (checks_met (entry_checks (p.0 ++ p.1)) (entries_checks (and_more es n) (behind_text (behind_text (p.0 ++ p.1)))) first.passes
+    ∙ ap (λ x. first_fault_of (entries_checks (and_more es n) x)) first.rest ∙ passed p.1 rest es n p.4)
+
+-- what is checked behind sound entries is what is checked of the rest
+entries_pass : (s rest : List ℕ) (es : List Entry) (n m : ℕ) → SpellsEntries s es rest → length es + n ≡ m → first_fault_of (entries_checks m s) ≡ first_fault_of (entries_checks n rest)
+entries_pass s rest es n m p e =
+    ap (λ k. first_fault_of (entries_checks k s)) (sym e ∙ sym (and_more-is es n)) ∙ passed s rest es n p
+
+-- the first n entries of s
+entries_in : ℕ → List ℕ → List Entry
+entries_in zero s = []
+entries_in (suc n) s = entry_in s ∷ entries_in n (behind_text (behind_text s))
+
+entries_are : (s rest : List ℕ) (es : List Entry) → SpellsEntries s es rest → entries_in (length es) s ≡ es
+unfolding entries_in
+entries_are s rest [] p = refl
+entries_are s rest (e ∷ es) p =
+    let first = entry_then p.0 p.1 e p.3 in
+    rw p.2 (ap₂ (λ (x : Entry) (xs : List Entry). x ∷ xs) first.entry (ap (entries_in (length es)) first.rest ∙ entries_are p.1 rest es p.4))
+
+-- bytes spell one list of entries
+entries_single : (b s u : List ℕ) (es fs : List Entry) → SpellsCount b (record { left = length es; bytes = s }) → SpellsEntries s es []
+    → SpellsCount b (record { left = length fs; bytes = u }) → SpellsEntries u fs [] → es ≡ fs
+entries_single b s u es fs c p d q =
+    let one = number_then b c.0 s (pos (length es)) c.1 c.2 in
+    let two = number_then b d.0 u (pos (length fs)) d.1 d.2 in
+    let same : length es ≡ length fs = ap stated (sym one.number ∙ two.number) in
+    sym (entries_are s [] es p) ∙ ap₂ entries_in same (sym one.rest ∙ two.rest) ∙ entries_are u [] fs q
+
+-- behind a sound count, the first fault is that of the entries
+counted : (b : List ℕ) (r : ToRead) → SpellsCount b r → first_fault_hstore b ≡ first_fault_of (entries_checks r.left r.bytes)
+counted b r c =
+    let one = number_then b c.0 r.bytes (pos r.left) c.1 c.2 in
+    rw (one.has, one.number, one.rest) refl
+
+form_passes : (b s : List ℕ) (es : List Entry) → SpellsCount b (record { left = length es; bytes = s }) → SpellsEntries s es [] → first_fault_hstore b ≡ None
+form_passes b s es c p = counted b (record { left = length es; bytes = s }) c ∙ entries_pass s [] es 0 (length es) p (omega arith)
+
+pub hstore_grammar : {A : Type 0} (value_at : A → List ℕ → Option Cell) → IsGrammar (λ m n. (q : List ℕ) → value_at m q ≡ value_at n q) (FormHstore value_at) first_fault_hstore
+hstore_grammar value_at = record {
+  passes = λ b m h. form_passes b h.1 h.0 h.2 h.3;
+  single = λ b m n h k. λ q. h.4 q ∙ ap (last_value q) (entries_single b h.1 k.1 h.0 k.0 h.2 h.3 k.2 k.3) ∙ sym (k.4 q);
+}
+
+-- a damaged count is the first fault
+pub count_fault : (b : List ℕ) (r : Refusal) → first_fault_of (count_checks b) ≡ Some r → first_fault_hstore b ≡ Some r
+count_fault b r e = check_failed (count_checks b) (entries_checks (stated (number_in b)) (drop 4 b)) r e
+
+next_fault : (n : ℕ) (s : List ℕ) (r : Refusal) → first_fault_of (checks_of_next n s) ≡ Some r → first_fault_of (entries_checks n s) ≡ Some r
+next_fault zero s r e = e
+next_fault (suc n) s r e = check_failed (entry_checks s) (entries_checks n (behind_text (behind_text s))) r e
+
+-- between the start and now these entries were read
+pub record HaveBeenRead (start : ToRead) (es : List Entry) (now : ToRead) : Type 0 where
+  pub so_many : length es + now.left ≡ start.left
+  pub spelled : SpellsEntries start.bytes es now.bytes
+
+-- the next fault is then the first
+pub entry_fault : (b : List ℕ) (start now : ToRead) (es : List Entry) (r : Refusal) → SpellsCount b start → HaveBeenRead start es now
+    → first_fault_of (next_checks now) ≡ Some r → first_fault_hstore b ≡ Some r
+entry_fault b start now es r c h e =
+    counted b start c ∙ entries_pass start.bytes now.bytes es now.left start.left h.spelled h.so_many ∙ next_fault now.left now.bytes r e
+
+one_more : (s t u : List ℕ) (es : List Entry) (e : Entry) (rest : List ℕ) → SpellsEntries s es rest → rest ≡ t ++ u → SpellsEntry t e → SpellsEntries s (es ++ e ∷ []) u
+one_more s t u [] e rest p is h = (t, u, p ∙ is, h, refl)
+one_more s t u (x ∷ xs) e rest p is h = (p.0, p.1, p.2, p.3, one_more p.1 t u xs e rest p.4 is h)
+
+-- the next entry is one more
+pub read_next : (start now next : ToRead) (es : List Entry) (e : Entry) (t : List ℕ) → HaveBeenRead start es now → next.left + 1 ≡ now.left → now.bytes ≡ t ++ next.bytes → SpellsEntry t e
+    → HaveBeenRead start (es ++ e ∷ []) next
+read_next start now next es e t h n is p = record {
+  so_many = omega (arith, h.so_many, length-append es (e ∷ []));
+  spelled = one_more start.bytes t next.bytes es e now.bytes h.spelled is p;
+}
+
+-- where nothing is to be read, the bytes spell the map of what was read
+pub read_all : {A : Type 0} (value_at : A → List ℕ → Option Cell) (b : List ℕ) (start now : ToRead) (es : List Entry) (m : A) → SpellsCount b start → HaveBeenRead start es now → now ≡ nothing
+    → ((q : List ℕ) → value_at m q ≡ last_value q es) → FormHstore value_at b m
+read_all value_at b start now es m c h end is =
+    let all : length es ≡ start.left = omega (arith, h.so_many, ap (λ (r : ToRead). r.left) end) in (
+      es,
+      start.bytes,
+      (c.0, c.1, subst (λ n. IsBe w32 c.0 (pos n)) (sym all) c.2),
+      subst (λ s. SpellsEntries start.bytes es s) (ap (λ (r : ToRead). r.bytes) end) h.spelled,
+      is,
+    )
+
+-- to have the same at each key is an equivalence
+pub value_equivalence : {A : Type 0} (value_at : A → List ℕ → Option Cell) → IsEquivalence (λ m n. (q : List ℕ) → value_at m q ≡ value_at n q)
+value_equivalence value_at = record {
+  reflexive = λ m q. refl;
+  symmetric = λ m n h q. sym (h q);
+  transitive = λ k m n h g q. h q ∙ g q;
+}

@@ -1,0 +1,18 @@
+-- Identifiers: MACADDR (macaddr_send, macaddr_recv), of six bytes, and UUID (uuid_send, uuid_recv), of sixteen.
+use Rattle.std.specs.Prelude.{◌≡◌, ℕ, ◌==◌, List, length, Some, if◌then◌else◌, Ok, Err}
+use Rattle.pg_base.specs.Cells.{Cell}
+use Rattle.pg_base.specs.Faults.{Outcome, transmit}
+use Rattle.pg_base.specs.Formats.{ReadsPlain}
+use Rattle.pg_base.specs.Numbers.{first_fault_number}
+use Rattle.pg_base.specs.Appending.{Wire}
+
+-- any bytes of the width spell themselves
+abbrev pub FormIdentifier : ℕ → List ℕ → List ℕ → Type 0
+FormIdentifier width b v = (v ≡ b) × (length b ≡ width)
+
+abbrev pub ReadsIdentifier : ℕ → Cell → Outcome (List ℕ) → Type 0
+ReadsIdentifier width = ReadsPlain (FormIdentifier width) (first_fault_number width)
+
+-- the cell of an identifier: its bytes
+abbrev pub wire_identifier : ℕ → List ℕ → Wire
+wire_identifier width v = if length v == width then Ok (Some v) else Err transmit

@@ -1,0 +1,124 @@
+-- Addresses: INET (inet_send, inet_recv) and CIDR (cidr_send, cidr_recv).
+use Rattle.std.specs.Prelude.{◌≡◌, ℕ, ◌-◌, ◌*◌, ◌%◌, ◌^◌, ◌≤◌, ◌==◌, ◌&&◌, ◌||◌, nat_le, List, [], ◌∷◌, ◌++◌, length, drop, slice_index, Bool, Option, Some, None, if◌then◌else◌, Ok, Err}
+use Rattle.std.specs.Int.Digits.{number_from_digits}
+use Rattle.std.specs.Net.Addr.{ipv4_octets, ipv6_octets}
+use Rattle.std.specs.declared.net.ip_addr.IpAddr.{IpAddr}
+use Rattle.std.specs.declared.net.ip_addr.IpAddr.TheVariants.{V4, V6}
+use Rattle.pg_base.specs.Cells.{Cell}
+use Rattle.pg_base.specs.Faults.{Refusal, Outcome, size, family, netmask, address_length, host_bits, transmit}
+use Rattle.pg_base.specs.Formats.{first_fault_of, ReadsPlain}
+use Rattle.pg_base.specs.Appending.{Wire}
+
+-- the octets of an address, the highest first
+abbrev pub address_octets : IpAddr → List ℕ
+address_octets (V4 a) = ipv4_octets a
+address_octets (V6 a) = ipv6_octets a
+
+-- the number of an address's family: 2 for IPv4 (PGSQL_AF_INET), 3 for IPv6 (PGSQL_AF_INET6)
+abbrev pub family_of : IpAddr → ℕ
+family_of (V4 a) = 2
+family_of (V6 a) = 3
+
+-- how many octets the addresses of a family have
+abbrev pub family_len : ℕ → ℕ
+family_len number = if number == 2 then 4 else 16
+
+-- how many octets an address has, and how many bits
+abbrev pub address_len : IpAddr → ℕ
+address_len a = family_len (family_of a)
+
+abbrev pub address_bits : IpAddr → ℕ
+address_bits a = 8 * address_len a
+
+-- an address and the length of its netmask: how many of the first bits name the network
+pub record Network : Type 0 where
+  pub address : IpAddr
+  pub masklen : ℕ
+
+-- the address with a netmask of that length
+abbrev pub with_netmask : IpAddr → ℕ → Network
+with_netmask a masklen = record { address = a; masklen = masklen }
+
+-- the netmask is no longer than the address
+abbrev pub NetmaskFits : Network → Type 0
+NetmaskFits n = n.masklen ≤ address_bits n.address
+
+-- the number that the bits of the octets after the netmask's make
+abbrev pub host_part : List ℕ → ℕ → ℕ
+host_part octets masklen = number_from_digits 256 octets % 2 ^ (8 * length octets - masklen)
+
+-- no bit of the address after the netmask is 1
+abbrev pub NoHostBits : Network → Type 0
+NoHostBits n = host_part (address_octets n.address) n.masklen ≡ 0
+
+-- the bytes of an address with its netmask: the family, the netmask's length, a flag, the number of octets, and the octets
+abbrev pub network_bytes : ℕ → Network → List ℕ
+network_bytes flag n = family_of n.address ∷ n.masklen ∷ flag ∷ address_len n.address ∷ address_octets n.address
+
+-- INET: the bytes of an address of its family's length, with a netmask that fits and any flag
+abbrev pub FormInet : List ℕ → Network → Type 0
+FormInet b n = (flag : ℕ) × (b ≡ network_bytes flag n) × (length (address_octets n.address) ≡ address_len n.address) × NetmaskFits n
+
+-- CIDR: the same, without host bits
+abbrev pub FormCidr : List ℕ → Network → Type 0
+FormCidr b n = FormInet b n × NoHostBits n
+
+-- an address alone: INET with any netmask
+abbrev pub FormAddress : List ℕ → IpAddr → Type 0
+FormAddress b a = (masklen : ℕ) × FormInet b (with_netmask a masklen)
+
+-- the checks of INET: fewer than four bytes are Size, then another family than 2 and 3 is Family, a netmask that is too long
+-- Netmask, another number of octets than the family's AddressLength, and octets of another length than that Size
+abbrev pub inet_checks : List ℕ → List (Bool × Refusal)
+inet_checks b =
+    (nat_le 4 (length b), size)
+    ∷ (slice_index b 0 == 2 || slice_index b 0 == 3, family)
+    ∷ (nat_le (slice_index b 1) (8 * family_len (slice_index b 0)), netmask)
+    ∷ (slice_index b 3 == family_len (slice_index b 0), address_length)
+    ∷ (length (drop 4 b) == family_len (slice_index b 0), size)
+    ∷ []
+
+abbrev pub first_fault_inet : List ℕ → Option Refusal
+first_fault_inet b = first_fault_of (inet_checks b)
+
+-- and of CIDR: host bits are HostBits
+abbrev pub first_fault_cidr : List ℕ → Option Refusal
+first_fault_cidr b = first_fault_of (inet_checks b ++ (host_part (drop 4 b) (slice_index b 1) == 0, host_bits) ∷ [])
+
+abbrev pub ReadsInet : Cell → Outcome Network → Type 0
+ReadsInet = ReadsPlain FormInet first_fault_inet
+
+abbrev pub ReadsCidr : Cell → Outcome Network → Type 0
+ReadsCidr = ReadsPlain FormCidr first_fault_cidr
+
+abbrev pub ReadsAddress : Cell → Outcome IpAddr → Type 0
+ReadsAddress = ReadsPlain FormAddress first_fault_inet
+
+-- the fault of an address with a netmask that is too long
+abbrev pub first_fault_netmask : Network → Option Refusal
+first_fault_netmask n = first_fault_of ((nat_le n.masklen (address_bits n.address), netmask) ∷ [])
+
+-- the fault of what is no network: its netmask is too long, or else it has host bits
+abbrev pub first_fault_network : Network → Option Refusal
+first_fault_network n =
+    first_fault_of ((nat_le n.masklen (address_bits n.address), netmask) ∷ (host_part (address_octets n.address) n.masklen == 0, host_bits) ∷ [])
+
+-- what is made of the parts n: they themselves where there is no fault, and else the fault
+abbrev pub Made : Network → Option Refusal → Outcome Network → Type 0
+Made n fault (Ok made) = (made ≡ n) × (fault ≡ None)
+Made n fault (Err r) = fault ≡ Some r
+
+-- whether the address has its family's length and the netmask fits
+abbrev pub is_network : Network → Bool
+is_network n = length (address_octets n.address) == address_len n.address && nat_le n.masklen (address_bits n.address)
+
+-- the cell of an address with its netmask: its bytes with the flag 0
+abbrev pub wire_inet : Network → Wire
+wire_inet n = if is_network n then Ok (Some (network_bytes 0 n)) else Err transmit
+
+abbrev pub wire_cidr : Network → Wire
+wire_cidr n = if is_network n && host_part (address_octets n.address) n.masklen == 0 then Ok (Some (network_bytes 0 n)) else Err transmit
+
+-- the cell of an address alone: that with a netmask of all its bits
+abbrev pub wire_address : IpAddr → Wire
+wire_address a = wire_inet (with_netmask a (address_bits a))

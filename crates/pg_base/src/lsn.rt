@@ -1,0 +1,86 @@
+//! Log positions.
+ghost use Rattle.std.specs.Prelude.{◌≡◌, ℕ, Some};
+ghost use Rattle.std.specs.Result.{result_ok};
+ghost use Rattle.pg_base.specs.Lsn.{half_of, lsn_of, lsn_text};
+
+pub mod laws;
+
+use std::fmt;
+use std::marker::Model;
+use std::str::FromStr;
+
+/// A position in the write-ahead log, which is a number of 64 bits.
+///
+/// It is printed as its high and its low 32 bits in upper-case hexadecimal, without leading zeros
+/// and with `/` between, as by PostgreSQL's `pg_lsn_out`.
+#[derive(Clone, Copy, PartialEq, Eq, PartialOrd, Ord)]
+pub struct PgLsn(u64);
+
+impl Model for PgLsn {
+    ghost Value = { ℕ };
+
+    ghost view = { λ lsn. lsn.0 };
+
+    ghost inverse = { λ n. record { 0 = n } };
+}
+
+impl From<u64> for PgLsn {
+    ghost from_gives = { λ n lsn. lsn ≡ n };
+
+    fn from(lsn: u64) -> PgLsn {
+        PgLsn(lsn)
+    }
+}
+
+impl From<PgLsn> for u64 {
+    ghost from_gives = { λ lsn n. n ≡ lsn };
+
+    fn from(lsn: PgLsn) -> u64 {
+        lsn.0
+    }
+}
+
+/// A text that is no log position.
+#[derive(Debug, Drop)]
+pub struct ParseLsnError(());
+
+/// Parses two halves with a `/` between, at the first `/` of the text. Each is an optional `+` and
+/// one or more hexadecimal digits of either case, of value below 2^64. The position is
+/// `(high << 32) | low`: the high half loses its bits beyond 32, and the low half may have more.
+impl FromStr for PgLsn {
+    type Err = ParseLsnError;
+
+    ghost from_str_gives = { λ text parsed. result_ok parsed ≡ lsn_of text };
+
+    #[tactic(auto, using(crate::proofs::LsnLemmas::no_slash))]
+    fn from_str(text: &str) -> Result<PgLsn, ParseLsnError> {
+        let Some((high, low)) = text.split_once('/') else {
+            return Err(ParseLsnError(()));
+        };
+        let (high, low) = (half(high)?, half(low)?);
+        Ok(PgLsn((high << 32) | low))
+    }
+}
+
+/// The number of one half of the text.
+#[tactic(auto, using(crate::proofs::LsnLemmas::half_from_parse))]
+fn half(text: &str) -> Result<u64, ParseLsnError>
+    ensures { result_ok result ≡ half_of text.now }
+{
+    u64::from_str_radix(text, 16).map_err(|_| ParseLsnError(()))
+}
+
+impl fmt::Display for PgLsn {
+    ghost output = { λ lsn. Some (lsn_text lsn) };
+
+    fn fmt<W: fmt::Write>(&self, f: &mut fmt::Formatter<W>) -> fmt::Result {
+        let (high, low) = (self.0 >> 32, self.0 & 0xffff_ffff);
+        write!(f, "{high:X}/{low:X}")
+    }
+}
+
+impl fmt::Debug for PgLsn {
+    fn fmt<W: fmt::Write>(&self, f: &mut fmt::Formatter<W>) -> fmt::Result {
+        fmt::Display::fmt(self, f)
+    }
+}

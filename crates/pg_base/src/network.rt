@@ -1,0 +1,156 @@
+//! Internet addresses with their netmasks, and hardware addresses.
+ghost use Rattle.std.specs.Prelude.{◌≡◌, ℕ, ◌==◌, List, not};
+ghost use Rattle.pg_base.specs.Faults.{Answers, NeverMemory};
+ghost use Rattle.pg_base.specs.Network.{Made, Network, NetmaskFits, NoHostBits, address_bits, address_octets, first_fault_netmask, first_fault_network, host_part, with_netmask};
+
+pub mod laws;
+
+use crate::fault::Fault;
+use std::marker::Model;
+use std::net::{IpAddr, Ipv4Addr, Ipv6Addr};
+
+/// How many bits an address has: 32 in IPv4 and 128 in IPv6.
+pub fn address_bits(addr: IpAddr) -> u8
+    ensures { result ≡ address_bits addr }
+{
+    match addr {
+        IpAddr::V4(_) => 32,
+        IpAddr::V6(_) => 128,
+    }
+}
+
+/// An address of a host and the length of its netmask, how many of the address's first bits name
+/// the network.
+#[derive(Debug, Clone, Copy, PartialEq, Eq)]
+pub struct IpInet {
+    address: IpAddr,
+    len: u8,
+}
+
+impl Model for IpInet {
+    ghost Value = { Network };
+
+    ghost view = { λ n. with_netmask n.address n.len };
+
+    ghost inverse = { λ n. record { address = n.address; len = n.masklen } };
+
+    ghost invariant = { λ n. NetmaskFits (with_netmask n.address n.len) };
+}
+
+impl IpInet {
+    /// The address with a netmask of `len` bits, which is refused with `Netmask` where the address
+    /// has fewer: 32 in IPv4, 128 in IPv6.
+    pub fn new(addr: IpAddr, len: u8) -> Result<IpInet, Fault>
+        ensures outcome { Answers (Made (with_netmask addr len) (first_fault_netmask (with_netmask addr len))) result }
+        ensures never_memory { NeverMemory result }
+    {
+        if len > address_bits(addr) {
+            return Err(Fault::Netmask);
+        }
+        Ok(IpInet { address: addr, len })
+    }
+
+    /// The address.
+    pub fn address(&self) -> IpAddr
+        ensures { result ≡ self.now.address }
+    {
+        self.address
+    }
+
+    /// The length of the netmask.
+    pub fn network_length(&self) -> u8
+        ensures length { result ≡ self.now.masklen }
+        ensures fits { NetmaskFits self.now }
+    {
+        self.len
+    }
+}
+
+/// A network: its first address and the length of its netmask, after which no bit of the address
+/// is 1.
+#[derive(Debug, Clone, Copy, PartialEq, Eq)]
+pub struct IpCidr {
+    first: IpInet,
+}
+
+impl Model for IpCidr {
+    ghost Value = { Network };
+
+    ghost view = { λ n. n.first };
+
+    ghost inverse = { λ n. record { first = n } };
+
+    ghost invariant = { λ n. NoHostBits n.first };
+}
+
+impl IpCidr {
+    /// The network of that first address and a netmask of `len` bits. It is refused with `Netmask`
+    /// where the address has fewer bits, 32 in IPv4 and 128 in IPv6, and then with `HostBits` where
+    /// a bit of the address after the first `len` is 1.
+    pub fn new(addr: IpAddr, len: u8) -> Result<IpCidr, Fault>
+        ensures outcome { Answers (Made (with_netmask addr len) (first_fault_network (with_netmask addr len))) result }
+        ensures never_memory { NeverMemory result }
+    {
+        let first = IpInet::new(addr, len)?;
+        if has_host_bits(addr, len) {
+            return Err(Fault::HostBits);
+        }
+        Ok(IpCidr { first })
+    }
+
+    /// The first address of the network.
+    pub fn first_address(&self) -> IpAddr
+        ensures { result ≡ self.now.address }
+    {
+        self.first.address()
+    }
+
+    /// The length of the netmask.
+    pub fn network_length(&self) -> u8
+        ensures length { result ≡ self.now.masklen }
+        ensures fits { NetmaskFits self.now }
+        ensures network { NoHostBits self.now }
+    {
+        self.first.network_length()
+    }
+}
+
+/// Whether a bit of the address after the first `len` is 1.
+#[tactic(auto, using(crate::proofs::HostBits::v4_host_part, crate::proofs::HostBits::v6_host_part))]
+fn has_host_bits(addr: IpAddr, len: u8) -> bool
+    ensures { result ≡ not (host_part (address_octets addr) len == 0) }
+{
+    let len = u32::from(len);
+    match addr {
+        IpAddr::V4(addr) => len + addr.to_bits().trailing_zeros() < Ipv4Addr::BITS,
+        IpAddr::V6(addr) => len + addr.to_bits().trailing_zeros() < Ipv6Addr::BITS,
+    }
+}
+
+/// The hardware address of a network card: 6 bytes.
+#[derive(Debug, Clone, Copy, PartialEq, Eq)]
+pub struct MacAddress([u8; 6]);
+
+impl Model for MacAddress {
+    ghost Value = { List ℕ };
+
+    ghost view = { λ a. a.0 };
+
+    ghost inverse = { λ bytes. record { 0 = bytes } };
+}
+
+impl MacAddress {
+    /// The hardware address of these bytes.
+    pub fn new(bytes: [u8; 6]) -> MacAddress
+        ensures { result ≡ bytes }
+    {
+        MacAddress(bytes)
+    }
+
+    /// The bytes of the hardware address.
+    pub fn to_array(&self) -> [u8; 6]
+        ensures { result ≡ self.now }
+    {
+        self.0
+    }
+}

@@ -1,0 +1,105 @@
+//! Lists of bits. They lie packed, the first on top of the first byte.
+ghost use Rattle.std.specs.Prelude.{◌≡◌, ◌≤◌, ◌+◌, ◌++◌, length};
+ghost use Rattle.pg_base.specs.Bits.{FormBits, bits_cell, bytes_for, first_bits, first_fault_bits, packed, pad_of, without_low};
+ghost use Rattle.pg_base.specs.Faults.{Answers, NeverMemory};
+ghost use Rattle.pg_base.specs.Formats.{Decodes};
+ghost use Rattle.pg_base.specs.Appending.{Appends};
+
+use super::numbers::int4_from_sql;
+use crate::fault::Fault;
+use bytes::BytesMut;
+use std::alloc::Global;
+
+/// The most bits of a cell.
+const MAX_BITS: usize = 2_147_483_647;
+
+/// The bits of a cell, in place.
+#[derive(Debug, Clone, Copy)]
+pub struct Varbit<'a> {
+    len: usize,
+    bytes: &'a [u8],
+    ghost whole: { length bytes.now ≡ bytes_for len },
+}
+
+impl<'a> Varbit<'a> {
+    /// The number of bits.
+    pub fn len(&self) -> usize
+        ensures { result ≡ self.now.len }
+    {
+        self.len
+    }
+
+    /// As many bytes as the bits take. The bits are their first ones, the top one of each byte
+    /// first; what pads the last byte is as the cell has it.
+    pub fn bytes(&self) -> &'a [u8]
+        ensures bytes { result.now ≡ self.now.bytes.now }
+        ensures whole { length result.now ≡ bytes_for self.now.len }
+    {
+        self.bytes
+    }
+}
+
+/// Reads BIT and VARBIT: the number of bits in 4 bytes, and as many bytes as they take, the first
+/// bit on top of the first byte (`bit_recv`, `varbit_recv`). A number that is cut is `Size`, a
+/// negative one `Count`, and any other number of bytes `Size`. What pads the last byte is ignored.
+pub fn varbit_from_sql(raw: &[u8]) -> Result<Varbit<'_>, Fault>
+    ensures outcome { Answers (Decodes (FormBits (λ v. first_bits v.len v.bytes.now)) first_fault_bits raw.now) result }
+    ensures never_memory { NeverMemory result }
+{
+    if raw.len() < 4 {
+        return Err(Fault::Size);
+    }
+    let (head, bytes) = raw.split_at(4);
+    let count = int4_from_sql(head)?;
+    if count < 0 {
+        return Err(Fault::Count);
+    }
+    let len = count as usize;
+    if bytes.len() != len.div_ceil(8) {
+        return Err(Fault::Size);
+    }
+    Ok(Varbit { len, bytes })
+}
+
+/// Appends BIT and VARBIT: the number of bits in 4 bytes, and the bytes, of which there must be as
+/// many as the bits take (`bit_send`, `varbit_send`). What pads the last byte is written 0. More
+/// than 2,147,483,647 bits are `Transmit`.
+pub fn varbit_to_sql(
+    _alloc: Global,
+    len: usize,
+    bytes: &[u8],
+    out: &mut BytesMut,
+) -> Result<(), Fault>
+    requires { length bytes.now ≡ bytes_for len }
+    ensures { Appends (bits_cell (first_bits len bytes.now)) out.old out.new result }
+{
+    if len > MAX_BITS {
+        return Err(Fault::Transmit);
+    }
+    out.reserve(4 + bytes.len())?;
+    out.extend_reserved(&(len as i32).to_be_bytes());
+    extend_by_bits(len, bytes, out);
+    Ok(())
+}
+
+/// Appends the bytes of the bits, with 0 for what pads the last one. There must be room for them.
+fn extend_by_bits(len: usize, bytes: &[u8], out: &mut BytesMut)
+    requires whole { length bytes.now ≡ bytes_for len }
+    requires room { length bytes.now ≤ out.old.spare }
+    ensures items { out.new.items ≡ out.old.items ++ packed (first_bits len bytes.now) }
+    ensures spare { out.new.spare + length bytes.now ≡ out.old.spare }
+{
+    let Some((last, whole)) = bytes.split_last() else {
+        return;
+    };
+    out.extend_reserved(whole);
+    out.extend_reserved(&[without_pad(*last, len)]);
+}
+
+/// The last byte of `len` bits, with 0 for what pads it.
+pub(crate) fn without_pad(byte: u8, len: usize) -> u8
+    ensures { result ≡ without_low (pad_of len) byte }
+{
+    let pad = (8 - len % 8) % 8;
+    byte >> pad << pad
+}

@@ -1,0 +1,184 @@
+//! Maps of texts.
+ghost use Rattle.std.specs.Prelude.{◌≡◌, ◌≤◌, ℕ, List, [], ◌∷◌, Some, None, length, map, MatchResult};
+ghost use Rattle.std.specs.Int.{w32};
+ghost use Rattle.pg_base.specs.declared.fault.Fault.TheVariants.{Transmit};
+ghost use Rattle.pg_base.specs.Appending.{Appends};
+ghost use Rattle.pg_base.specs.Cells.{IsBe, cell_of, frame};
+ghost use Rattle.pg_base.specs.Faults.{Answers, NeverMemory, size};
+ghost use Rattle.pg_base.specs.Formats.{Decodes, first_fault_of};
+ghost use Rattle.pg_base.specs.Hstore.{InFront, SpellsCount, SpellsEntry, SpellsText, TakesEntry, ToRead, count_checks, entry_checks, has_number, hstore_bytes, lent_entry, value_checks};
+
+use super::frames::{MAX_CELL, frame_to_sql};
+use super::numbers::{int4_from_sql, int4_to_sql};
+use super::texts::text_from_sql;
+use crate::fault::Fault;
+use bytes::BytesMut;
+use std::alloc::Global;
+use std::marker::Model;
+
+/// An hstore's key and its value, of which `None` is NULL.
+type Entry<'a> = (&'a str, Option<&'a str>);
+
+/// The entries of an hstore's cell that are to be read; see [`hstore_from_sql`].
+#[derive(Drop)]
+pub struct HstoreEntries<'a> {
+    left: u32,
+    bytes: &'a [u8],
+}
+
+impl<'a> Model for HstoreEntries<'a> {
+    ghost Value = { ToRead };
+
+    ghost view = { λ e. record { left = e.left; bytes = e.bytes.now } };
+}
+
+/// Reads the count of an hstore (`hstore_recv`): 4 bytes, and the entries come behind it. Where it
+/// is cut it answers `Size`, and where it is negative `Count`. It takes no memory.
+pub fn hstore_from_sql(_alloc: Global, raw: &[u8]) -> Result<HstoreEntries<'_>, Fault>
+    ensures outcome { Answers (Decodes SpellsCount (λ b. first_fault_of (count_checks b)) raw.now) result }
+    ensures never_memory { NeverMemory result }
+{
+    let (count, bytes) = split_number(raw)?;
+    if count < 0 {
+        return Err(Fault::Count);
+    }
+    Ok(HstoreEntries {
+        left: count as u32,
+        bytes,
+    })
+}
+
+impl<'a> HstoreEntries<'a> {
+    /// The next entry: the length of its key and the key, and the length of its value and the
+    /// value, every negative length NULL. Where the next entry is damaged it answers a fault:
+    /// `Size` where a part is cut, `KeyLength` where the key's length is negative, `Utf8` where a
+    /// text is no UTF-8. Where bytes are left after the last entry it answers `Size`. After a fault,
+    /// and after the last entry, it answers `None`, for good. It takes no memory.
+    pub fn next(&mut self) -> Option<Result<Entry<'a>, Fault>>
+        ensures { TakesEntry self.old result self.new }
+    {
+        if self.left == 0 {
+            if self.bytes.is_empty() {
+                return None;
+            }
+            self.bytes = &[];
+            return Some(Err(Fault::Size));
+        }
+        match split_entry(self.bytes) {
+            Ok((entry, bytes)) => {
+                self.left -= 1;
+                self.bytes = bytes;
+                Some(Ok(entry))
+            }
+            Err(fault) => {
+                self.left = 0;
+                self.bytes = &[];
+                Some(Err(fault))
+            }
+        }
+    }
+}
+
+/// The entry in front, and the bytes after it.
+fn split_entry(bytes: &[u8]) -> Result<(Entry<'_>, &[u8]), Fault>
+    ensures outcome { Answers (Decodes (InFront (λ s e. SpellsEntry s (lent_entry e))) (λ s. first_fault_of (entry_checks s)) bytes.now) result }
+    ensures never_memory { NeverMemory result }
+{
+    let (key, bytes) = split_text(bytes)?;
+    let Some(key) = key else {
+        return Err(Fault::KeyLength);
+    };
+    let (value, bytes) = split_text(bytes)?;
+    Ok(((key, value), bytes))
+}
+
+/// The text in front, of which every negative length is NULL, and the bytes after it.
+fn split_text(bytes: &[u8]) -> Result<(Option<&str>, &[u8]), Fault>
+    ensures outcome { Answers (Decodes (InFront (λ s text. SpellsText s (cell_of text))) (λ s. first_fault_of (value_checks s)) bytes.now) result }
+    ensures never_memory { NeverMemory result }
+{
+    let (len, bytes) = split_number(bytes)?;
+    if len < 0 {
+        return Ok((None, bytes));
+    }
+    let len = len as usize;
+    if bytes.len() < len {
+        return Err(Fault::Size);
+    }
+    let (text, bytes) = bytes.split_at(len);
+    Ok((Some(text_from_sql(text)?), bytes))
+}
+
+/// The number in front, in 4 bytes, and the bytes after it.
+fn split_number(bytes: &[u8]) -> Result<(i32, &[u8]), Fault>
+    ensures outcome { Answers (Decodes (InFront (IsBe w32)) (λ s. first_fault_of ((has_number s, size) ∷ [])) bytes.now) result }
+    ensures never_memory { NeverMemory result }
+{
+    if bytes.len() < 4 {
+        return Err(Fault::Size);
+    }
+    let (head, bytes) = bytes.split_at(4);
+    Ok((int4_from_sql(head)?, bytes))
+}
+
+/// The most entries of an hstore.
+const MAX_ENTRIES: usize = 2_147_483_647;
+
+/// Appends an hstore (`hstore_send`): the number of its entries in 4 bytes, highest first, and for
+/// each entry, in the order of the list, the frame of its key and the frame of its value, which for
+/// NULL is the length -1. Where the number of entries, a key or a value passes 2,147,483,647 it
+/// answers `Transmit`.
+pub fn hstore_to_sql(
+    alloc: Global,
+    entries: &[(&str, Option<&str>)],
+    out: &mut BytesMut,
+) -> Result<(), Fault>
+    ensures { Appends (hstore_bytes (map lent_entry entries.now)) out.old out.new result }
+{
+    out.reserve(hstore_len(entries)?)?;
+    int4_to_sql(alloc, entries.len() as i32, out)?;
+    for (key, value) in entries {
+        text_frame_to_sql(alloc, Some(key), out)?;
+        text_frame_to_sql(alloc, *value, out)?;
+    }
+    Ok(())
+}
+
+/// Appends the frame of a text, of which `None` is NULL.
+fn text_frame_to_sql(alloc: Global, text: Option<&str>, out: &mut BytesMut) -> Result<(), Fault>
+    ensures { Appends (frame (cell_of text.entry)) out.old out.new result }
+{
+    frame_to_sql(alloc, text.map(|text| text.as_bytes()), out)
+}
+
+/// How many bytes the entries take.
+fn hstore_len(entries: &[(&str, Option<&str>)]) -> Result<usize, Fault>
+    ensures { MatchResult result
+        (λ n. (b : List ℕ) × (hstore_bytes (map lent_entry entries.now) ≡ Some b) × (length b ≡ n))
+        (λ fault. (fault ≡ Transmit) × (hstore_bytes (map lent_entry entries.now) ≡ None)) }
+{
+    if entries.len() > MAX_ENTRIES {
+        return Err(Fault::Transmit);
+    }
+    let mut len = 4;
+    for (key, value) in entries {
+        len += frame_len(Some(key))?;
+        len += frame_len(*value)?;
+    }
+    Ok(len)
+}
+
+/// How many bytes the frame of the text takes.
+fn frame_len(text: Option<&str>) -> Result<usize, Fault>
+    ensures { MatchResult result
+        (λ n. (b : List ℕ) × (frame (cell_of text.entry) ≡ Some b) × (length b ≡ n) × (n ≤ 2147483651))
+        (λ fault. (fault ≡ Transmit) × (frame (cell_of text.entry) ≡ None)) }
+{
+    let Some(text) = text else {
+        return Ok(4);
+    };
+    if text.len() > MAX_CELL {
+        return Err(Fault::Transmit);
+    }
+    Ok(4 + text.len())
+}

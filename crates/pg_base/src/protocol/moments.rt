@@ -1,0 +1,31 @@
+//! Moments, counted in microseconds from 2000-01-01 00:00:00.
+ghost use Rattle.std.specs.Prelude.{Some};
+ghost use Rattle.std.specs.Int.{w64};
+ghost use Rattle.pg_base.specs.Appending.{Appends};
+ghost use Rattle.pg_base.specs.Cells.{be};
+ghost use Rattle.pg_base.specs.Faults.{Answers, NeverMemory};
+ghost use Rattle.pg_base.specs.Formats.{Decodes};
+ghost use Rattle.pg_base.specs.Numbers.{FormSigned, first_fault_number};
+
+use super::{int8_from_sql, int8_to_sql};
+use crate::fault::Fault;
+use bytes::BytesMut;
+use std::alloc::Global;
+
+/// Reads TIMESTAMP and TIMESTAMPTZ: the microseconds from 2000-01-01 00:00:00, UTC for the latter,
+/// in 8 bytes, highest first, in two's complement (`timestamp_recv`, `timestamptz_recv`). Any other
+/// length is `Size`; every count is a value, the two that PostgreSQL takes for infinities included.
+pub fn timestamp_from_sql(raw: &[u8]) -> Result<i64, Fault>
+    ensures outcome { Answers (Decodes (FormSigned w64) (first_fault_number 8) raw.now) result }
+    ensures never_memory { NeverMemory result }
+{
+    int8_from_sql(raw)
+}
+
+/// Appends TIMESTAMP and TIMESTAMPTZ: the microseconds from 2000-01-01 00:00:00, UTC for the
+/// latter, in 8 bytes, highest first, in two's complement (`timestamp_send`, `timestamptz_send`).
+pub fn timestamp_to_sql(alloc: Global, v: i64, out: &mut BytesMut) -> Result<(), Fault>
+    ensures { Appends (Some (be w64 v)) out.old out.new result }
+{
+    int8_to_sql(alloc, v, out)
+}

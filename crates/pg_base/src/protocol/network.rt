@@ -1,0 +1,135 @@
+//! Internet addresses with their netmasks.
+ghost use Rattle.std.specs.Prelude.{◌≡◌, ◌≢◌, ◌<◌, ◌⊎◌, ◌∷◌, Some, IfOk, IfErr, length};
+ghost use Rattle.pg_base.specs.Appending.{Appends};
+ghost use Rattle.pg_base.specs.Faults.{Answers, NeverMemory};
+ghost use Rattle.pg_base.specs.Formats.{Decodes};
+ghost use Rattle.pg_base.specs.Network.{FormInet, NetmaskFits, Network, address_len, address_octets, family_len, family_of, first_fault_inet, network_bytes, with_netmask};
+ghost use Rattle.pg_base.specs.declared.fault.Fault.TheVariants.{Size};
+
+use crate::fault::Fault;
+use bytes::BytesMut;
+use std::alloc::Global;
+use std::marker::Model;
+use std::net::{IpAddr, Ipv4Addr, Ipv6Addr};
+
+/// The number of the family of IPv4 addresses.
+const IPV4: u8 = 2;
+
+/// The number of the family of IPv6 addresses.
+const IPV6: u8 = 3;
+
+/// An address and the length of its netmask, how many of the address's first bits name the network.
+#[derive(Debug, Clone, Copy)]
+pub struct Inet {
+    addr: IpAddr,
+    netmask: u8,
+}
+
+impl Model for Inet {
+    ghost Value = { Network };
+
+    ghost view = { λ n. with_netmask n.addr n.netmask };
+
+    ghost inverse = { λ n. record { addr = n.address; netmask = n.masklen } };
+
+    ghost invariant = { λ n. NetmaskFits (with_netmask n.addr n.netmask) };
+}
+
+impl Inet {
+    /// The address.
+    pub fn addr(&self) -> IpAddr
+        ensures { result ≡ self.now.address }
+    {
+        self.addr
+    }
+
+    /// The length of the netmask.
+    pub fn netmask(&self) -> u8
+        ensures length { result ≡ self.now.masklen }
+        ensures fits { NetmaskFits self.now }
+    {
+        self.netmask
+    }
+}
+
+/// Reads INET or CIDR: the family's number, 2 for IPv4 and 3 for IPv6, the length of the netmask, a
+/// flag of any value, the number of octets, and the octets, 4 or 16 (`inet_recv`, `cidr_recv`).
+/// Fewer than 4 bytes are `Size`; then another family is `Family`, a netmask of more than 32 or 128
+/// bits `Netmask`, another number of octets than the family's `AddressLength`, and octets of another
+/// length than that `Size`. Bits behind the netmask are not looked at.
+pub fn inet_from_sql(raw: &[u8]) -> Result<Inet, Fault>
+    ensures outcome { Answers (Decodes FormInet first_fault_inet raw.now) result }
+    ensures never_memory { NeverMemory result }
+{
+    let [family, netmask, _flag, len, octets @ ..] = raw else {
+        return Err(Fault::Size);
+    };
+    let family_len = match *family {
+        IPV4 => 4,
+        IPV6 => 16,
+        _ => return Err(Fault::Family),
+    };
+    if *netmask > 8 * family_len {
+        return Err(Fault::Netmask);
+    }
+    if *len != family_len {
+        return Err(Fault::AddressLength);
+    }
+    Ok(Inet {
+        addr: address_from_octets(*family, octets)?,
+        netmask: *netmask,
+    })
+}
+
+/// The address of that family with these octets. Another number of octets than the family's is
+/// `Size`.
+#[tactic(auto, using(crate::proofs::Octets::octets_back))]
+fn address_from_octets(family: u8, octets: &[u8]) -> Result<IpAddr, Fault>
+    requires { (family ≡ 2) ⊎ (family ≡ 3) }
+    ensures address { IfOk result (λ a. (family_of a ≡ family) × (address_octets a ≡ octets.now) × (length octets.now ≡ address_len a)) }
+    ensures refused { IfErr result (λ f. (f ≡ Size) × (length octets.now ≢ family_len family)) }
+{
+    if family == IPV4 {
+        match <[u8; 4]>::try_from(octets) {
+            Ok(octets) => Ok(IpAddr::V4(Ipv4Addr::from_octets(octets))),
+            Err(_) => Err(Fault::Size),
+        }
+    } else {
+        match <[u8; 16]>::try_from(octets) {
+            Ok(octets) => Ok(IpAddr::V6(Ipv6Addr::from_octets(octets))),
+            Err(_) => Err(Fault::Size),
+        }
+    }
+}
+
+/// Appends INET or CIDR: the family's number, 2 for IPv4 and 3 for IPv6, the length of the netmask,
+/// the flag 0, the number of octets, and the octets, 4 or 16 (`inet_send`, `cidr_send`). The netmask
+/// must be no longer than the address: 32 or 128 bits. The clause `octets` says for writers that the
+/// address has as many octets as its family, which a written form asks for.
+pub fn inet_to_sql(
+    _alloc: Global,
+    addr: IpAddr,
+    netmask: u8,
+    out: &mut BytesMut,
+) -> Result<(), Fault>
+    requires { NetmaskFits (with_netmask addr netmask) }
+    ensures appends { Appends (Some (network_bytes 0 (with_netmask addr netmask))) out.old out.new result }
+    ensures octets { length (address_octets addr) ≡ address_len addr }
+{
+    match addr {
+        IpAddr::V4(addr) => octets_to_sql(IPV4, netmask, &addr.octets(), out),
+        IpAddr::V6(addr) => octets_to_sql(IPV6, netmask, &addr.octets(), out),
+    }
+}
+
+/// Appends the family's number, the length of the netmask, the flag 0, the number of octets, and the
+/// octets.
+fn octets_to_sql(family: u8, netmask: u8, octets: &[u8], out: &mut BytesMut) -> Result<(), Fault>
+    requires { length octets.now < 256 }
+    ensures { Appends (Some (family ∷ netmask ∷ 0 ∷ length octets.now ∷ octets.now)) out.old out.new result }
+{
+    out.reserve(4 + octets.len())?;
+    out.extend_reserved(&[family, netmask, 0, octets.len() as u8]);
+    out.extend_reserved(octets);
+    Ok(())
+}

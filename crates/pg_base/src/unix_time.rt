@@ -1,0 +1,71 @@
+//! Moments in seconds.
+ghost use Rattle.std.specs.Prelude.{◌≡◌, ◌≤◌, ◌<◌, false, MatchOption};
+ghost use Rattle.std.specs.Int.{w64};
+
+pub mod laws;
+
+/// A moment: seconds from 1970-01-01 00:00:00 UTC, negative before it, and the nanoseconds after
+/// that second.
+///
+/// Its order is that by seconds and then by nanoseconds, which is that of moments.
+#[derive(Debug, Clone, Copy, PartialEq, Eq, PartialOrd, Ord)]
+pub struct UnixTime {
+    secs: i64,
+    nanos: u32,
+    ghost within_second: { nanos < 1_000_000_000 },
+}
+
+/// 2000-01-01 00:00:00 UTC, from which PostgreSQL counts, in seconds.
+const POSTGRES_EPOCH: i64 = 946_684_800;
+
+impl UnixTime {
+    ghost use Rattle.pg_base.specs.Moments.{IsAfterBase, nanos_of, cut_micros};
+    ghost use Rattle.pg_base.specs.Numbers.{fits_signed};
+
+    /// The moment `nanos` nanoseconds after second `secs`; `None` where `nanos` is 1,000,000,000 or
+    /// more.
+    pub fn new(secs: i64, nanos: u32) -> Option<UnixTime>
+        ensures { MatchOption result (1_000_000_000 ≤ nanos) (λ t. (t.secs ≡ secs) × (t.nanos ≡ nanos)) }
+    {
+        if nanos >= 1_000_000_000 {
+            return None;
+        }
+        Some(UnixTime { secs, nanos })
+    }
+
+    /// The seconds from 1970-01-01 00:00:00 UTC.
+    pub fn secs(&self) -> i64
+        ensures { result ≡ self.now.secs }
+    {
+        self.secs
+    }
+
+    /// The nanoseconds after that second, fewer than 1,000,000,000.
+    pub fn nanos(&self) -> u32
+        ensures value { result ≡ self.now.nanos }
+        ensures within_second { result < 1_000_000_000 }
+    {
+        self.nanos
+    }
+
+    /// The moment that many microseconds after 2000-01-01 00:00:00 UTC.
+    pub fn from_postgres_micros(micros: i64) -> UnixTime
+        ensures { IsAfterBase nanos_of micros result }
+    {
+        UnixTime {
+            secs: POSTGRES_EPOCH + micros.div_euclid(1_000_000),
+            nanos: micros.rem_euclid(1_000_000) as u32 * 1_000,
+        }
+    }
+
+    /// The microseconds from 2000-01-01 00:00:00 UTC to the moment, cut toward 2000 on both sides;
+    /// `None` where they leave an `i64`.
+    pub fn to_postgres_micros(&self) -> Option<i64>
+        ensures { MatchOption result (fits_signed w64 (cut_micros (nanos_of self.now)) ≡ false)
+            (λ micros. micros ≡ cut_micros (nanos_of self.now)) }
+    {
+        let secs = i128::from(self.secs) - i128::from(POSTGRES_EPOCH);
+        let nanos = secs * 1_000_000_000 + i128::from(self.nanos);
+        i64::try_from(nanos / 1_000).ok()
+    }
+}

@@ -1,0 +1,42 @@
+//! Reading lists of bits.
+ghost use Rattle.std.specs.Prelude.{◌≡◌};
+ghost use Rattle.pg_base.specs.Bits.{FormBits, accepted_bits, ReadsBits, first_fault_bits};
+ghost use Rattle.pg_base.specs.BitsLaws.{bits_grammar};
+ghost use Rattle.pg_base.specs.Sameness.{equal_equivalence};
+ghost use Rattle.pg_read.specs.Reading.{NullAlone, plain_single};
+
+use crate::from_sql::FromSql;
+use pg_base::acceptance::is_bits;
+use pg_base::bits::BitVec;
+use pg_base::fault::Fault;
+use pg_base::protocol::varbit_from_sql;
+use pg_base::types::PgType;
+use std::alloc::Global;
+
+/// BIT and VARBIT: the number of bits in 4 bytes, and as many bytes as they take. A number that is
+/// cut is `Size`, a negative one `Count`, any other number of bytes `Size`, and NULL is `WasNull`.
+impl<'a> FromSql<'a> for BitVec {
+    ghost same = { λ v w. v ≡ w };
+
+    ghost accepted = { accepted_bits };
+
+    ghost reads = { λ _. ReadsBits (λ v. v) };
+
+    ghost memory_free = { NullAlone };
+
+    ghost equivalence = { equal_equivalence };
+
+    ghost single = { λ _ _. plain_single (λ v w. v ≡ w) (FormBits (λ v. v)) first_fault_bits (bits_grammar (λ v. v)) };
+
+    fn from_sql(alloc: Global, _ty: &PgType, raw: &'a [u8]) -> Result<BitVec, Fault> {
+        BitVec::from_varbit(alloc, varbit_from_sql(raw)?)
+    }
+
+    fn from_sql_null(_alloc: Global, _ty: &PgType) -> Result<BitVec, Fault> {
+        Err(Fault::WasNull)
+    }
+
+    fn accepts(ty: &PgType) -> bool {
+        is_bits(ty)
+    }
+}

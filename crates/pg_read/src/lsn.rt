@@ -1,0 +1,45 @@
+//! Reading log positions.
+ghost use Rattle.std.specs.Prelude.{◌≡◌};
+ghost use Rattle.std.specs.Int.{w64};
+ghost use Rattle.pg_base.specs.declared.types.built_in.BuiltIn.TheVariants.{PgLsn as PgLsnRow};
+ghost use Rattle.pg_base.specs.Content.{is_row};
+ghost use Rattle.pg_base.specs.LsnLaws.{lsn_grammar};
+ghost use Rattle.pg_base.specs.Numbers.{FormUnsigned, ReadsUnsigned, first_fault_number};
+ghost use Rattle.pg_base.specs.Sameness.{equal_equivalence};
+ghost use Rattle.pg_read.specs.Reading.{EveryCell, plain_single};
+
+use crate::from_sql::FromSql;
+use pg_base::fault::Fault;
+use pg_base::lsn::PgLsn;
+use pg_base::protocol::lsn_from_sql;
+use pg_base::types::PgType;
+use std::alloc::Global;
+
+/// PG_LSN: 8 bytes without a sign, highest first. Any other length is `Size`, and NULL is
+/// `WasNull`.
+impl<'a> FromSql<'a> for PgLsn {
+    ghost same = { λ v w. v ≡ w };
+
+    ghost accepted = { is_row PgLsnRow };
+
+    ghost reads = { λ _. ReadsUnsigned w64 };
+
+    ghost memory_free = { EveryCell };
+
+    ghost equivalence = { equal_equivalence };
+
+    ghost single = { λ _ _. plain_single (λ v w. v ≡ w) (FormUnsigned w64) (first_fault_number 8) lsn_grammar };
+
+    fn from_sql(_alloc: Global, _ty: &PgType, raw: &'a [u8]) -> Result<PgLsn, Fault> {
+        Ok(lsn_from_sql(raw)?.into())
+    }
+
+    fn from_sql_null(_alloc: Global, _ty: &PgType) -> Result<PgLsn, Fault> {
+        Err(Fault::WasNull)
+    }
+
+    #[tactic(auto, using(pg_base::proofs::DerivedTypes::eq_content))]
+    fn accepts(ty: &PgType) -> bool {
+        *ty == PgType::PG_LSN
+    }
+}

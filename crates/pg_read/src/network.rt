@@ -1,0 +1,107 @@
+//! Reading Internet addresses.
+ghost use Rattle.std.specs.Prelude.{◌≡◌};
+ghost use Rattle.pg_base.specs.declared.types.built_in.BuiltIn.TheVariants.{Cidr, Inet};
+ghost use Rattle.pg_base.specs.Content.{is_row};
+ghost use Rattle.pg_base.specs.Network.{FormAddress, FormCidr, FormInet, ReadsAddress, ReadsCidr, ReadsInet, first_fault_cidr, first_fault_inet};
+ghost use Rattle.pg_base.specs.NetworkLaws.{address_grammar, cidr_grammar, inet_grammar};
+ghost use Rattle.pg_base.specs.Sameness.{equal_equivalence};
+ghost use Rattle.pg_read.specs.Reading.{EveryCell, plain_single};
+
+use crate::from_sql::FromSql;
+use pg_base::fault::Fault;
+use pg_base::network::{IpCidr, IpInet};
+use pg_base::protocol::inet_from_sql;
+use pg_base::types::PgType;
+use std::alloc::Global;
+use std::net::IpAddr;
+
+/// INET: the family's number, 2 or 3, the length of the netmask, a flag of any value, the number of
+/// octets, and the octets, 4 or 16, which alone are the value. Fewer than 4 bytes are `Size`; then
+/// another family is `Family`, a netmask that is longer than the address `Netmask`, another number of
+/// octets than the family's `AddressLength`, and octets of another length than that `Size`. NULL is
+/// `WasNull`.
+impl<'a> FromSql<'a> for IpAddr {
+    ghost same = { λ v w. v ≡ w };
+
+    ghost accepted = { is_row Inet };
+
+    ghost reads = { λ _. ReadsAddress };
+
+    ghost memory_free = { EveryCell };
+
+    ghost equivalence = { equal_equivalence };
+
+    ghost single = { λ _ _. plain_single (λ v w. v ≡ w) FormAddress first_fault_inet address_grammar };
+
+    fn from_sql(_alloc: Global, _ty: &PgType, raw: &'a [u8]) -> Result<IpAddr, Fault> {
+        Ok(inet_from_sql(raw)?.addr())
+    }
+
+    fn from_sql_null(_alloc: Global, _ty: &PgType) -> Result<IpAddr, Fault> {
+        Err(Fault::WasNull)
+    }
+
+    #[tactic(auto, using(pg_base::proofs::DerivedTypes::eq_content))]
+    fn accepts(ty: &PgType) -> bool {
+        *ty == PgType::INET
+    }
+}
+
+/// INET: as for `IpAddr`, with the netmask. NULL is `WasNull`.
+impl<'a> FromSql<'a> for IpInet {
+    ghost same = { λ v w. v ≡ w };
+
+    ghost accepted = { is_row Inet };
+
+    ghost reads = { λ _. ReadsInet };
+
+    ghost memory_free = { EveryCell };
+
+    ghost equivalence = { equal_equivalence };
+
+    ghost single = { λ _ _. plain_single (λ v w. v ≡ w) FormInet first_fault_inet inet_grammar };
+
+    fn from_sql(_alloc: Global, _ty: &PgType, raw: &'a [u8]) -> Result<IpInet, Fault> {
+        let inet = inet_from_sql(raw)?;
+        IpInet::new(inet.addr(), inet.netmask())
+    }
+
+    fn from_sql_null(_alloc: Global, _ty: &PgType) -> Result<IpInet, Fault> {
+        Err(Fault::WasNull)
+    }
+
+    #[tactic(auto, using(pg_base::proofs::DerivedTypes::eq_content))]
+    fn accepts(ty: &PgType) -> bool {
+        *ty == PgType::INET
+    }
+}
+
+/// CIDR: as INET for `IpInet`, and then, where a bit of the address after the netmask is 1, `HostBits`.
+/// NULL is `WasNull`.
+impl<'a> FromSql<'a> for IpCidr {
+    ghost same = { λ v w. v ≡ w };
+
+    ghost accepted = { is_row Cidr };
+
+    ghost reads = { λ _. ReadsCidr };
+
+    ghost memory_free = { EveryCell };
+
+    ghost equivalence = { equal_equivalence };
+
+    ghost single = { λ _ _. plain_single (λ v w. v ≡ w) FormCidr first_fault_cidr cidr_grammar };
+
+    fn from_sql(_alloc: Global, _ty: &PgType, raw: &'a [u8]) -> Result<IpCidr, Fault> {
+        let inet = inet_from_sql(raw)?;
+        IpCidr::new(inet.addr(), inet.netmask())
+    }
+
+    fn from_sql_null(_alloc: Global, _ty: &PgType) -> Result<IpCidr, Fault> {
+        Err(Fault::WasNull)
+    }
+
+    #[tactic(auto, using(pg_base::proofs::DerivedTypes::eq_content))]
+    fn accepts(ty: &PgType) -> bool {
+        *ty == PgType::CIDR
+    }
+}

@@ -1,0 +1,61 @@
+//! Writing lists of bits.
+ghost use Rattle.std.specs.Prelude.{true, codes, refl};
+ghost use Rattle.pg_base.specs.declared.format.Format.TheVariants.{Binary};
+ghost use Rattle.pg_base.specs.Bits.{accepted_bits, wire_bits};
+ghost use Rattle.pg_write.specs.Writing.{checked_by};
+
+use crate::to_sql::{ToSql, wrong_type};
+use bytes::BytesMut;
+use pg_base::acceptance::is_bits;
+use pg_base::bits::BitVec;
+use pg_base::fault::Fault;
+use pg_base::format::{Format, IsNull};
+use pg_base::protocol::varbit_to_sql;
+use pg_base::types::PgType;
+use std::alloc::Global;
+
+/// BIT and VARBIT: the number of bits in 4 bytes, and as many bytes as they take, with 0 for what
+/// pads the last one. More than 2,147,483,647 bits are `Transmit`.
+impl ToSql for BitVec {
+    ghost accepted = { accepted_bits };
+
+    ghost name = { codes "BitVec" };
+
+    ghost wire = { λ _ v. wire_bits v };
+
+    ghost checked = { λ ty v. checked_by (accepted_bits ty) ty (codes "BitVec") (wire_bits v) };
+
+    ghost format = { λ _ _. Binary };
+
+    ghost by_room = { λ _. Unit {0} };
+
+    ghost refuses_memory_free = { true };
+
+    fn to_sql(&self, alloc: Global, _ty: &PgType, out: &mut BytesMut) -> Result<IsNull, Fault> {
+        varbit_to_sql(alloc, self.len(), self.as_bytes(), out)?;
+        Ok(IsNull::No)
+    }
+
+    fn accepts(ty: &PgType) -> bool {
+        is_bits(ty)
+    }
+
+    fn to_sql_checked(
+        &self,
+        alloc: Global,
+        ty: &PgType,
+        out: &mut BytesMut,
+    ) -> Result<IsNull, Fault> {
+        if <BitVec as ToSql>::accepts(ty) {
+            self.to_sql(alloc, ty, out)
+        } else {
+            Err(wrong_type(ty, "BitVec"))
+        }
+    }
+
+    fn encode_format(&self, _ty: &PgType) -> Format {
+        Format::Binary
+    }
+
+    ghost checks = { λ _ _. refl };
+}

@@ -1,0 +1,82 @@
+//! Writing maps of texts.
+ghost use Rattle.std.specs.Prelude.{◌≡◌, map, true, codes, refl, IfOk, IfErr};
+ghost use Rattle.pg_base.specs.declared.fault.Fault.TheVariants.{Memory};
+ghost use Rattle.pg_base.specs.declared.format.Format.TheVariants.{Binary};
+ghost use Rattle.pg_base.specs.Hstore.{in_key_order, lent_entry, owned_entry, wire_hstore};
+ghost use Rattle.pg_base.specs.Texts.{is_named};
+ghost use Rattle.pg_write.specs.Writing.{checked_by};
+
+use crate::to_sql::{ToSql, wrong_type};
+use bytes::BytesMut;
+use pg_base::acceptance::is_hstore;
+use pg_base::fault::Fault;
+use pg_base::format::{Format, IsNull};
+use pg_base::protocol::hstore_to_sql;
+use pg_base::types::PgType;
+use std::alloc::Global;
+use std::collections::HashMap;
+use std::hash::BuildHasher;
+
+/// Any type that is named hstore: the number of entries, and the frames of each key and its value,
+/// in the order of the keys' bytes. Where the number of entries, a key or a value passes
+/// 2,147,483,647 it is `Transmit`. The entries are sorted in memory of their own, which may be
+/// refused.
+impl<S: BuildHasher + Drop> ToSql for HashMap<String, Option<String>, S> {
+    ghost accepted = { is_named (codes "hstore") };
+
+    ghost name = { codes "HashMap" };
+
+    ghost wire = { λ _ m. wire_hstore (map owned_entry m.entries) };
+
+    ghost checked = { λ ty m. checked_by (is_named (codes "hstore") ty) ty (codes "HashMap") (wire_hstore (map owned_entry m.entries)) };
+
+    ghost format = { λ _ _. Binary };
+
+    ghost refuses_memory_free = { true };
+
+    fn to_sql(&self, alloc: Global, _ty: &PgType, out: &mut BytesMut) -> Result<IsNull, Fault> {
+        let entries = sorted_entries(alloc, self)?;
+        hstore_to_sql(alloc, entries.as_slice(), out)?;
+        Ok(IsNull::No)
+    }
+
+    fn accepts(ty: &PgType) -> bool {
+        is_hstore(ty)
+    }
+
+    fn to_sql_checked(
+        &self,
+        alloc: Global,
+        ty: &PgType,
+        out: &mut BytesMut,
+    ) -> Result<IsNull, Fault> {
+        if Self::accepts(ty) {
+            self.to_sql(alloc, ty, out)
+        } else {
+            Err(wrong_type(ty, "HashMap"))
+        }
+    }
+
+    fn encode_format(&self, _ty: &PgType) -> Format {
+        Format::Binary
+    }
+
+    ghost checks = { λ _ _. refl };
+}
+
+/// The map's entries, lent, in the order of their keys' bytes.
+fn sorted_entries<'a, S: BuildHasher + Drop>(
+    alloc: Global,
+    store: &'a HashMap<String, Option<String>, S>,
+) -> Result<Vec<(&'a str, Option<&'a str>)>, Fault>
+    ensures sorted { IfOk result (λ v. map lent_entry v.items ≡ in_key_order (map owned_entry store.now.entries)) }
+    ensures refused { IfErr result (λ fault. fault ≡ Memory) }
+{
+    let mut entries = Vec::with_capacity(alloc, store.len())?;
+    for (key, value) in store.iter() {
+        let value = value.as_ref().map(|text| text.as_str());
+        entries.push((key.as_str(), value))?;
+    }
+    entries.sort_unstable_by_key(|entry| entry.0);
+    Ok(entries)
+}

@@ -1,0 +1,109 @@
+//! Writing identifiers.
+ghost use Rattle.std.specs.Prelude.{true, codes, refl};
+ghost use Rattle.pg_base.specs.declared.format.Format.TheVariants.{Binary};
+ghost use Rattle.pg_base.specs.declared.types.built_in.BuiltIn.TheVariants.{Macaddr, Uuid as UuidRow};
+ghost use Rattle.pg_base.specs.Content.{is_row};
+ghost use Rattle.pg_base.specs.Identifiers.{wire_identifier};
+ghost use Rattle.pg_write.specs.Writing.{checked_by};
+
+use crate::to_sql::{ToSql, wrong_type};
+use bytes::BytesMut;
+use pg_base::fault::Fault;
+use pg_base::format::{Format, IsNull};
+use pg_base::network::MacAddress;
+use pg_base::protocol::{macaddr_to_sql, uuid_to_sql};
+use pg_base::types::PgType;
+use std::alloc::Global;
+use uuid::Uuid;
+
+/// MACADDR: 6 bytes.
+impl ToSql for MacAddress {
+    ghost accepted = { is_row Macaddr };
+
+    ghost name = { codes "MacAddress" };
+
+    ghost wire = { λ _ v. wire_identifier 6 v };
+
+    ghost checked = { λ ty v. checked_by (is_row Macaddr ty) ty (codes "MacAddress") (wire_identifier 6 v) };
+
+    ghost format = { λ _ _. Binary };
+
+    ghost by_room = { λ _. Unit {0} };
+
+    ghost refuses_memory_free = { true };
+
+    fn to_sql(&self, alloc: Global, _ty: &PgType, out: &mut BytesMut) -> Result<IsNull, Fault> {
+        macaddr_to_sql(alloc, self.to_array(), out)?;
+        Ok(IsNull::No)
+    }
+
+    #[tactic(auto, using(pg_base::proofs::DerivedTypes::eq_content))]
+    fn accepts(ty: &PgType) -> bool {
+        *ty == PgType::MACADDR
+    }
+
+    fn to_sql_checked(
+        &self,
+        alloc: Global,
+        ty: &PgType,
+        out: &mut BytesMut,
+    ) -> Result<IsNull, Fault> {
+        if <MacAddress as ToSql>::accepts(ty) {
+            self.to_sql(alloc, ty, out)
+        } else {
+            Err(wrong_type(ty, "MacAddress"))
+        }
+    }
+
+    fn encode_format(&self, _ty: &PgType) -> Format {
+        Format::Binary
+    }
+
+    ghost checks = { λ _ _. refl };
+}
+
+/// UUID: 16 bytes.
+impl ToSql for Uuid {
+    ghost accepted = { is_row UuidRow };
+
+    ghost name = { codes "Uuid" };
+
+    ghost wire = { λ _ v. wire_identifier 16 v };
+
+    ghost checked = { λ ty v. checked_by (is_row UuidRow ty) ty (codes "Uuid") (wire_identifier 16 v) };
+
+    ghost format = { λ _ _. Binary };
+
+    ghost by_room = { λ _. Unit {0} };
+
+    ghost refuses_memory_free = { true };
+
+    fn to_sql(&self, alloc: Global, _ty: &PgType, out: &mut BytesMut) -> Result<IsNull, Fault> {
+        uuid_to_sql(alloc, self.into_bytes(), out)?;
+        Ok(IsNull::No)
+    }
+
+    #[tactic(auto, using(pg_base::proofs::DerivedTypes::eq_content))]
+    fn accepts(ty: &PgType) -> bool {
+        *ty == PgType::UUID
+    }
+
+    fn to_sql_checked(
+        &self,
+        alloc: Global,
+        ty: &PgType,
+        out: &mut BytesMut,
+    ) -> Result<IsNull, Fault> {
+        if <Uuid as ToSql>::accepts(ty) {
+            self.to_sql(alloc, ty, out)
+        } else {
+            Err(wrong_type(ty, "Uuid"))
+        }
+    }
+
+    fn encode_format(&self, _ty: &PgType) -> Format {
+        Format::Binary
+    }
+
+    ghost checks = { λ _ _. refl };
+}

@@ -1,0 +1,63 @@
+//! Writing log positions.
+ghost use Rattle.std.specs.Prelude.{true, codes, refl};
+ghost use Rattle.std.specs.Int.{w64};
+ghost use Rattle.pg_base.specs.declared.format.Format.TheVariants.{Binary};
+ghost use Rattle.pg_base.specs.declared.types.built_in.BuiltIn.TheVariants.{PgLsn as PgLsnRow};
+ghost use Rattle.pg_base.specs.Content.{is_row};
+ghost use Rattle.pg_base.specs.Numbers.{wire_unsigned};
+ghost use Rattle.pg_write.specs.Writing.{checked_by};
+
+use crate::to_sql::{ToSql, wrong_type};
+use bytes::BytesMut;
+use pg_base::fault::Fault;
+use pg_base::format::{Format, IsNull};
+use pg_base::lsn::PgLsn;
+use pg_base::protocol::lsn_to_sql;
+use pg_base::types::PgType;
+use std::alloc::Global;
+
+/// PG_LSN: 8 bytes without a sign, highest first.
+impl ToSql for PgLsn {
+    ghost accepted = { is_row PgLsnRow };
+
+    ghost name = { codes "PgLsn" };
+
+    ghost wire = { λ _ v. wire_unsigned w64 v };
+
+    ghost checked = { λ ty v. checked_by (is_row PgLsnRow ty) ty (codes "PgLsn") (wire_unsigned w64 v) };
+
+    ghost format = { λ _ _. Binary };
+
+    ghost by_room = { λ _. Unit {0} };
+
+    ghost refuses_memory_free = { true };
+
+    fn to_sql(&self, alloc: Global, _ty: &PgType, out: &mut BytesMut) -> Result<IsNull, Fault> {
+        lsn_to_sql(alloc, u64::from(*self), out)?;
+        Ok(IsNull::No)
+    }
+
+    #[tactic(auto, using(pg_base::proofs::DerivedTypes::eq_content))]
+    fn accepts(ty: &PgType) -> bool {
+        *ty == PgType::PG_LSN
+    }
+
+    fn to_sql_checked(
+        &self,
+        alloc: Global,
+        ty: &PgType,
+        out: &mut BytesMut,
+    ) -> Result<IsNull, Fault> {
+        if <PgLsn as ToSql>::accepts(ty) {
+            self.to_sql(alloc, ty, out)
+        } else {
+            Err(wrong_type(ty, "PgLsn"))
+        }
+    }
+
+    fn encode_format(&self, _ty: &PgType) -> Format {
+        Format::Binary
+    }
+
+    ghost checks = { λ _ _. refl };
+}

@@ -1,0 +1,62 @@
+//! Writing moments.
+ghost use Rattle.std.specs.Prelude.{true, codes, refl};
+ghost use Rattle.pg_base.specs.declared.format.Format.TheVariants.{Binary};
+ghost use Rattle.pg_base.specs.Moments.{accepted_moment, nanos_of, wire_timestamp};
+ghost use Rattle.pg_write.specs.Writing.{checked_by};
+
+use crate::to_sql::{ToSql, wrong_type};
+use bytes::BytesMut;
+use pg_base::acceptance::is_moment;
+use pg_base::fault::Fault;
+use pg_base::format::{Format, IsNull};
+use pg_base::protocol::timestamp_to_sql;
+use pg_base::types::PgType;
+use pg_base::unix_time::UnixTime;
+use std::alloc::Global;
+
+/// TIMESTAMP, TIMESTAMPTZ: 8 bytes, highest first, in two's complement, the microseconds from
+/// 2000-01-01 00:00:00 UTC, cut toward it. Where they leave 8 bytes the moment is `Transmit`.
+impl ToSql for UnixTime {
+    ghost accepted = { accepted_moment };
+
+    ghost name = { codes "UnixTime" };
+
+    ghost wire = { λ _ v. wire_timestamp (nanos_of v) };
+
+    ghost checked = { λ ty v. checked_by (accepted_moment ty) ty (codes "UnixTime") (wire_timestamp (nanos_of v)) };
+
+    ghost format = { λ _ _. Binary };
+
+    ghost by_room = { λ _. Unit {0} };
+
+    ghost refuses_memory_free = { true };
+
+    fn to_sql(&self, alloc: Global, _ty: &PgType, out: &mut BytesMut) -> Result<IsNull, Fault> {
+        let micros = self.to_postgres_micros().ok_or(Fault::Transmit)?;
+        timestamp_to_sql(alloc, micros, out)?;
+        Ok(IsNull::No)
+    }
+
+    fn accepts(ty: &PgType) -> bool {
+        is_moment(ty)
+    }
+
+    fn to_sql_checked(
+        &self,
+        alloc: Global,
+        ty: &PgType,
+        out: &mut BytesMut,
+    ) -> Result<IsNull, Fault> {
+        if <UnixTime as ToSql>::accepts(ty) {
+            self.to_sql(alloc, ty, out)
+        } else {
+            Err(wrong_type(ty, "UnixTime"))
+        }
+    }
+
+    fn encode_format(&self, _ty: &PgType) -> Format {
+        Format::Binary
+    }
+
+    ghost checks = { λ _ _. refl };
+}

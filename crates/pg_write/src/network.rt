@@ -1,0 +1,156 @@
+//! Writing Internet addresses.
+ghost use Rattle.std.specs.Prelude.{true, codes, refl};
+ghost use Rattle.pg_base.specs.declared.format.Format.TheVariants.{Binary};
+ghost use Rattle.pg_base.specs.declared.types.built_in.BuiltIn.TheVariants.{Cidr, Inet};
+ghost use Rattle.pg_base.specs.Content.{is_row};
+ghost use Rattle.pg_base.specs.Network.{wire_address, wire_cidr, wire_inet};
+ghost use Rattle.pg_write.specs.Writing.{checked_by};
+
+use crate::to_sql::{ToSql, wrong_type};
+use bytes::BytesMut;
+use pg_base::fault::Fault;
+use pg_base::format::{Format, IsNull};
+use pg_base::network::{IpCidr, IpInet, address_bits};
+use pg_base::protocol::inet_to_sql;
+use pg_base::types::PgType;
+use std::alloc::Global;
+use std::net::IpAddr;
+
+/// INET: the family's number, 2 or 3, a netmask of all the address's bits, 32 or 128, the flag 0, the
+/// number of octets, and the octets, 4 or 16.
+impl ToSql for IpAddr {
+    ghost accepted = { is_row Inet };
+
+    ghost name = { codes "IpAddr" };
+
+    ghost wire = { λ _ v. wire_address v };
+
+    ghost checked = { λ ty v. checked_by (is_row Inet ty) ty (codes "IpAddr") (wire_address v) };
+
+    ghost format = { λ _ _. Binary };
+
+    ghost by_room = { λ _. Unit {0} };
+
+    ghost refuses_memory_free = { true };
+
+    fn to_sql(&self, alloc: Global, _ty: &PgType, out: &mut BytesMut) -> Result<IsNull, Fault> {
+        inet_to_sql(alloc, *self, address_bits(*self), out)?;
+        Ok(IsNull::No)
+    }
+
+    #[tactic(auto, using(pg_base::proofs::DerivedTypes::eq_content))]
+    fn accepts(ty: &PgType) -> bool {
+        *ty == PgType::INET
+    }
+
+    fn to_sql_checked(
+        &self,
+        alloc: Global,
+        ty: &PgType,
+        out: &mut BytesMut,
+    ) -> Result<IsNull, Fault> {
+        if <IpAddr as ToSql>::accepts(ty) {
+            self.to_sql(alloc, ty, out)
+        } else {
+            Err(wrong_type(ty, "IpAddr"))
+        }
+    }
+
+    fn encode_format(&self, _ty: &PgType) -> Format {
+        Format::Binary
+    }
+
+    ghost checks = { λ _ _. refl };
+}
+
+/// INET: as for `IpAddr`, with the netmask of the value.
+impl ToSql for IpInet {
+    ghost accepted = { is_row Inet };
+
+    ghost name = { codes "IpInet" };
+
+    ghost wire = { λ _ v. wire_inet v };
+
+    ghost checked = { λ ty v. checked_by (is_row Inet ty) ty (codes "IpInet") (wire_inet v) };
+
+    ghost format = { λ _ _. Binary };
+
+    ghost by_room = { λ _. Unit {0} };
+
+    ghost refuses_memory_free = { true };
+
+    fn to_sql(&self, alloc: Global, _ty: &PgType, out: &mut BytesMut) -> Result<IsNull, Fault> {
+        inet_to_sql(alloc, self.address(), self.network_length(), out)?;
+        Ok(IsNull::No)
+    }
+
+    #[tactic(auto, using(pg_base::proofs::DerivedTypes::eq_content))]
+    fn accepts(ty: &PgType) -> bool {
+        *ty == PgType::INET
+    }
+
+    fn to_sql_checked(
+        &self,
+        alloc: Global,
+        ty: &PgType,
+        out: &mut BytesMut,
+    ) -> Result<IsNull, Fault> {
+        if <IpInet as ToSql>::accepts(ty) {
+            self.to_sql(alloc, ty, out)
+        } else {
+            Err(wrong_type(ty, "IpInet"))
+        }
+    }
+
+    fn encode_format(&self, _ty: &PgType) -> Format {
+        Format::Binary
+    }
+
+    ghost checks = { λ _ _. refl };
+}
+
+/// CIDR: as INET for `IpInet`.
+impl ToSql for IpCidr {
+    ghost accepted = { is_row Cidr };
+
+    ghost name = { codes "IpCidr" };
+
+    ghost wire = { λ _ v. wire_cidr v };
+
+    ghost checked = { λ ty v. checked_by (is_row Cidr ty) ty (codes "IpCidr") (wire_cidr v) };
+
+    ghost format = { λ _ _. Binary };
+
+    ghost by_room = { λ _. Unit {0} };
+
+    ghost refuses_memory_free = { true };
+
+    fn to_sql(&self, alloc: Global, _ty: &PgType, out: &mut BytesMut) -> Result<IsNull, Fault> {
+        inet_to_sql(alloc, self.first_address(), self.network_length(), out)?;
+        Ok(IsNull::No)
+    }
+
+    #[tactic(auto, using(pg_base::proofs::DerivedTypes::eq_content))]
+    fn accepts(ty: &PgType) -> bool {
+        *ty == PgType::CIDR
+    }
+
+    fn to_sql_checked(
+        &self,
+        alloc: Global,
+        ty: &PgType,
+        out: &mut BytesMut,
+    ) -> Result<IsNull, Fault> {
+        if <IpCidr as ToSql>::accepts(ty) {
+            self.to_sql(alloc, ty, out)
+        } else {
+            Err(wrong_type(ty, "IpCidr"))
+        }
+    }
+
+    fn encode_format(&self, _ty: &PgType) -> Format {
+        Format::Binary
+    }
+
+    ghost checks = { λ _ _. refl };
+}
