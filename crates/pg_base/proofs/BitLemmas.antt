@@ -8,7 +8,7 @@ use Rattle.std.specs.Vec.{vec_len}
 use Rattle.std.proofs.lemmas.Bool.{cases_lt, cases_eq, eq-eqb, ne_eqb}
 use Rattle.std.proofs.lemmas.Bool.Decides.{eqb_tells, nat_tests, same_from_decides, Decides-like, Decides-and, Decides-eqb}
 use Rattle.std.proofs.lemmas.Slice.Eq.{slice_eq-Decides, bytes_eq-Decides}
-use Rattle.std.specs.Bool.{beq}
+use Rattle.std.specs.Bool.{Decides, beq}
 use Rattle.std.specs.Cmp.{booleans_Decides}
 use Rattle.std.specs.Cmp.Lexicographic.{pointwise}
 use Rattle.std.proofs.lemmas.List.{ext_get_or, get_or_past, get_or_push, set_at, get_or_read_under, get_or-set_same, get_or-set_other, get_or-take, length-take-le, length_push, length-set, get_or_append_left, get_or-append_right}
@@ -269,11 +269,15 @@ tidy_pad n b e i h = ap (λ x. nth_bit x i) e ∙ packed_bit (first_bits n b) i 
 pub all_bits : (n : ℕ) (b : List ℕ) → n ≡ 8 * length b → ((k : ℕ) → get_or b k 0 < 256) → b ≡ packed (first_bits n b)
 all_bits n b e below = tidy n b (omega arith) below (λ i h. nth_bit_past b i (omega arith))
 
+-- lists of bits are compared bit by bit
+pub bits_compared : (a b : List Bool) → Decides (pointwise beq a b) (a ≡ b)
+bits_compared a b = slice_eq-Decides booleans_Decides a b (pointwise beq a b) refl
+
 -- packed bytes and how many bits they hold are the same where the bits are
 pub same_packed : (n m : ℕ) (b c : List ℕ) → b ≡ packed (first_bits n b) → c ≡ packed (first_bits m c) → pointwise beq (first_bits n b) (first_bits m c) ≡ (eqb n m && pointwise eqb b c)
 same_packed n m b c e f =
     same_from_decides (pointwise beq (first_bits n b) (first_bits m c)) (eqb n m && pointwise eqb b c)
-    (slice_eq-Decides booleans_Decides (first_bits n b) (first_bits m c) (pointwise beq (first_bits n b) (first_bits m c)) refl)
+    (bits_compared (first_bits n b) (first_bits m c))
     (Decides-like (eqb n m && pointwise eqb b c) (λ p. ap (λ x. first_bits x b) p.0 ∙ ap (first_bits m) p.1)
     (λ p. (sym (first_bits_len n b) ∙ ap length p ∙ first_bits_len m c, e ∙ ap packed p ∙ sym f))
     (Decides-and (eqb n m) (pointwise eqb b c) (Decides-eqb n m) (bytes_eq-Decides b c)))
