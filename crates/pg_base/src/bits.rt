@@ -79,11 +79,10 @@ impl BitVec {
     }
 
     /// Whether there are no bits.
-    #[tactic(auto, using(crate::proofs::BitLemmas::first_bits_len))]
     pub fn is_empty(&self) -> bool
         ensures { result ≡ (length self.now == 0) }
     {
-        self.len == 0
+        self.len() == 0
     }
 
     /// The bit at this place, or `None` past the last one.
