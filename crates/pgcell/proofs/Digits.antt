@@ -1,5 +1,5 @@
 -- Lemmas on the digits of an OID.
-use Rattle.std.proofs.Common.{◌≡◌, ◌≢◌, ◌<◌, ◌≤◌, ◌^◌, ◌&&◌, ◌==◌, ℕ, List, [], ◌∷◌, nat_eq, ◌∙◌, length, Bool, true, false, Option, Some, None, Result, Ok, Err, get_or, nat_lt, IsUtf8, if◌then◌else◌, arith, refl, sym, ap, subst}
+use Rattle.std.proofs.Common.{◌≡◌, ◌≢◌, ◌<◌, ◌≤◌, ◌^◌, ◌&&◌, ◌==◌, ℕ, List, [], ◌∷◌, nat_eq, ◌∙◌, length, Bool, true, false, Option, Some, None, Result, Ok, Err, get_or, nat_lt, IsUtf8, if◌then◌else◌, arith, refl, sym, subst}
 use Rattle.std.specs.List.{starts_with}
 use Rattle.std.specs.Result.{OkIff, result_ok}
 use Rattle.std.specs.Str.{IsAscii, all_ascii_digits}

@@ -1,6 +1,10 @@
 //! What a name stands for.
-ghost use Rattle.std.specs.Prelude.{◌≡◌};
-ghost use Rattle.pgcell.specs.Names.{base_of, conversion_of};
+ghost use Rattle.std.specs.Prelude.{◌≡◌, IfOk, codes};
+ghost use Rattle.postgres_types.specs.Content.{MadeType, SimpleKind, content};
+ghost use Rattle.pgcell.specs.Names.{base_of, conversion_of, type_of_base};
+
+use postgres_types::{Kind, Oid, Type};
+use std::alloc::{AllocError, Global};
 
 /// What a base name stands for: a Rust type and a Postgres type.
 #[derive(Debug, Clone, Copy, PartialEq, Eq)]
@@ -108,4 +112,43 @@ impl Base {
             _ => None,
         }
     }
+
+    /// The Postgres type that the base name stands for.
+    pub fn postgres_type(self, alloc: Global) -> Result<Type, AllocError>
+        ensures { IfOk result (λ ty. content ty ≡ type_of_base self) }
+    {
+        match self {
+            Base::Bool => Ok(Type::BOOL),
+            Base::Char => Ok(Type::CHAR),
+            Base::Int2 => Ok(Type::INT2),
+            Base::Int4 => Ok(Type::INT4),
+            Base::Int8 => Ok(Type::INT8),
+            Base::Oid => Ok(Type::OID),
+            Base::Text => Ok(Type::TEXT),
+            Base::Varchar => Ok(Type::VARCHAR),
+            Base::Bpchar => Ok(Type::BPCHAR),
+            Base::Name => Ok(Type::NAME),
+            Base::Unknown => Ok(Type::UNKNOWN),
+            Base::Bytea => Ok(Type::BYTEA),
+            Base::Bit => Ok(Type::BIT),
+            Base::Varbit => Ok(Type::VARBIT),
+            Base::Inet | Base::Addr => Ok(Type::INET),
+            Base::Cidr => Ok(Type::CIDR),
+            Base::Macaddr => Ok(Type::MACADDR),
+            Base::Uuid => Ok(Type::UUID),
+            Base::PgLsn => Ok(Type::PG_LSN),
+            Base::Unix => Ok(Type::TIMESTAMP),
+            Base::Ltree => made(alloc, "ltree", 100_001),
+            Base::Hstore => made(alloc, "hstore", 100_002),
+        }
+    }
+}
+
+/// A made type of that name, of kind Simple and in the schema public.
+fn made(alloc: Global, name: &str, oid: Oid) -> Result<Type, AllocError>
+    ensures { IfOk result (λ ty. content ty ≡ MadeType name.now oid SimpleKind (codes "public")) }
+{
+    let name = String::from_str(alloc, name)?;
+    let schema = String::from_str(alloc, "public")?;
+    Type::new(alloc, name, oid, Kind::Simple, schema).map_err(|_| AllocError)
 }
