@@ -1,30 +1,24 @@
 -- Lemmas on cells of bits.
-use Rattle.std.proofs.Common.{◌≡◌, ℕ, ◌+◌, ◌<◌, ◌≤◌, ℤ, pos, negsuc, true, false, nat_le, Some, None, List, ◌++◌, length, refl, ap, sym, subst, ◌∙◌, arith, Result, Ok, Err, IsErr}
+use Rattle.std.proofs.Common.{◌≡◌, ℕ, ◌+◌, ◌<◌, ◌≤◌, pos, true, false, nat_le, Some, None, List, ◌++◌, length, refl, ap, sym, subst, ◌∙◌, arith, Result, Ok, Err, IsErr}
 use Rattle.std.specs.Prelude.{⊤}
 use Rattle.std.specs.Result.{IsErrAnd}
 use Rattle.std.specs.Int.{w32}
 use Rattle.std.proofs.lemmas.Bool.Decides.{nat_tests}
 use Rattle.bytes.specs.Filled.{Filled}
-use lib.IntN.{nat_abs}
-use lib.Signed.{lt_z}
 use Rattle.pg_base.specs.declared.fault.Fault.{Fault}
 use Rattle.pg_base.specs.declared.fault.Fault.TheVariants.{Memory}
 use Rattle.pg_base.specs.Appending.{Appends}
 use Rattle.pg_base.specs.Bits.{FormBits, bits_cell, bytes_for, first_bits, packed}
-use Rattle.pg_base.specs.Cells.{be, IsBe}
+use Rattle.pg_base.specs.Cells.{be}
+use Rattle.pg_base.specs.Counts.{IsCount}
 use Rattle.pg_base.proofs.BitLemmas.{first_bits_len, packed_len}
 
 -- ---- reading
--- a count that is not negative is its size
-pub count_is : (z : ℤ) → lt_z z (pos 0) ≡ false → z ≡ pos (nat_abs z)
-count_is (pos n) h = refl
-count_is (negsuc n) h = absurd (cc)
-
 -- a count, and as many bytes as so many bits take, spell the first bits
-pub spelt : (b head rest : List ℕ) (z : ℤ) (n : ℕ) → b ≡ head ++ rest → IsBe w32 head z → z ≡ pos n → length rest ≡ bytes_for n → FormBits (λ v. v) b (first_bits n rest)
-spelt b head rest z n e is count whole =
+pub spelt : (b head rest : List ℕ) (n : ℕ) → b ≡ head ++ rest → IsCount head n → length rest ≡ bytes_for n → FormBits (λ v. v) b (first_bits n rest)
+spelt b head rest n e is whole =
     let m : n ≡ length (first_bits n rest) = sym (first_bits_len n rest) in
-    (head, rest, e, subst (λ x. IsBe w32 head x) (count ∙ ap pos m) is, whole ∙ ap bytes_for m, ap (λ x. first_bits x rest) m)
+    (head, rest, e, subst (λ x. IsCount head x) m is, whole ∙ ap bytes_for m, ap (λ x. first_bits x rest) m)
 
 -- ---- writing
 -- the bytes of a cell

@@ -2,13 +2,18 @@
 use Rattle.std.specs.Prelude.{◌≡◌, ℕ, ◌+◌, ◌<◌, ◌≤◌, List, ◌++◌, length, Option, Some, None, Result, Ok, Err, ⊤}
 use Rattle.bytes.specs.Filled.{Filled}
 use Rattle.pg_base.specs.Cells.{Cell}
-use Rattle.pg_base.specs.Faults.{Refusal}
+use Rattle.pg_base.specs.Faults.{Refusal, transmit}
 use Rattle.pg_base.specs.declared.fault.Fault.{Fault}
 use Rattle.pg_base.specs.declared.fault.Fault.TheVariants.{Memory, Transmit}
 
 -- a written form: a cell, or a refusal
 abbrev pub Wire : Type 0
 Wire = Result Cell Refusal
+
+-- bytes, or Transmit where a limit is passed
+abbrev pub wire_of : Option (List ℕ) → Wire
+wire_of None = Err transmit
+wire_of (Some b) = Ok (Some b)
 
 -- an appender appended these bytes, and used no more room than they take; or it left the bytes as they were with
 -- Memory, and there was less room than they take. Where a limit is passed there is nothing to append: it answered

@@ -1,13 +1,13 @@
 -- Bits: BIT (bit_send, bit_recv) and VARBIT (varbit_send, varbit_recv).
-use Rattle.std.specs.Prelude.{◌≡◌, ℕ, ◌+◌, ◌-◌, ◌*◌, ◌/◌, ◌%◌, ◌^◌, ◌<◌, ◌≤◌, ◌==◌, pos, List, [], ◌∷◌, ◌++◌, length, map, take, slice_index, slice_index_or, Option, Some, None, Bool, false, ◌||◌, nat_lt, nat_le, if◌then◌else◌, Result, Ok, Err, ⊤}
-use Rattle.std.specs.Int.{w32, bit_at, div_ceil, from_be_bytes}
+use Rattle.std.specs.Prelude.{◌≡◌, ℕ, ◌+◌, ◌-◌, ◌*◌, ◌/◌, ◌%◌, ◌^◌, ◌<◌, ◌≤◌, ◌==◌, pos, List, [], ◌∷◌, ◌++◌, length, map, drop, slice_index, slice_index_or, Option, Some, None, Bool, false, ◌||◌, nat_lt, nat_le, if◌then◌else◌, Result, Ok, Err, ⊤}
+use Rattle.std.specs.Int.{w32, bit_at, div_ceil}
 use Rattle.std.specs.List.{range_with_len}
-use Rattle.std.specs.Option.{option_map_or}
-use Rattle.pg_base.specs.Appending.{Wire}
-use Rattle.pg_base.specs.Cells.{Cell, be, IsBe}
+use Rattle.pg_base.specs.Appending.{Wire, wire_of}
+use Rattle.pg_base.specs.Cells.{Cell, be}
+use Rattle.pg_base.specs.Counts.{IsCount, count_checks, number_in, stated}
 use Rattle.pg_base.specs.declared.types.built_in.BuiltIn.TheVariants.{Bit, Varbit}
 use Rattle.pg_base.specs.Content.{Content, is_row}
-use Rattle.pg_base.specs.Faults.{Refusal, Outcome, refusal_of, size, count, transmit}
+use Rattle.pg_base.specs.Faults.{Refusal, Outcome, refusal_of, size, transmit}
 use Rattle.pg_base.specs.declared.fault.Fault.{Fault}
 use Rattle.pg_base.specs.declared.fault.Fault.TheVariants.{Memory}
 use Rattle.pg_base.specs.Formats.{first_fault_of, ReadsPlain}
@@ -83,18 +83,12 @@ Pops old None new = (old ≡ []) × (new ≡ [])
 -- bytes as they take, and what pads the last one is free
 abbrev pub FormBits : {A : Type 0} → (A → List Bool) → List ℕ → A → Type 0
 FormBits bits_of b v =
-    (s p : List ℕ) × (b ≡ s ++ p) × IsBe w32 s (pos (length (bits_of v))) × (length p ≡ bytes_for (length (bits_of v))) ×
+    (s p : List ℕ) × (b ≡ s ++ p) × IsCount s (length (bits_of v)) × (length p ≡ bytes_for (length (bits_of v))) ×
     (bits_of v ≡ first_bits (length (bits_of v)) p)
 
--- the number that the first four bytes state, read without a sign: a negative one is 2,147,483,648 or more
-abbrev pub stated : List ℕ → ℕ
-stated b = from_be_bytes w32 (take 4 b)
-
--- a count that is cut is Size, a negative one Count, and any other number of bytes than the bits take Size
+-- the checks of the count come first; then any other number of bytes than the bits take is Size
 abbrev pub first_fault_bits : List ℕ → Option Refusal
-first_fault_bits b =
-    first_fault_of ((nat_le 4 (length b), size) ∷ (nat_lt (stated b) 2147483648, count) ∷
-    (length b == 4 + bytes_for (stated b), size) ∷ [])
+first_fault_bits b = first_fault_of (count_checks b ++ (length (drop 4 b) == bytes_for (stated (number_in b)), size) ∷ [])
 
 abbrev pub ReadsBits : {A : Type 0} → (A → List Bool) → Cell → Outcome A → Type 0
 ReadsBits bits_of = ReadsPlain (FormBits bits_of) first_fault_bits
@@ -105,4 +99,4 @@ bits_cell v = if nat_le (length v) 2147483647 then Some (be w32 (pos (length v))
 
 -- the cell of bits; where there are too many, Transmit
 abbrev pub wire_bits : List Bool → Wire
-wire_bits v = option_map_or (λ b. Ok (Some b)) (bits_cell v) (Err transmit)
+wire_bits v = wire_of (bits_cell v)

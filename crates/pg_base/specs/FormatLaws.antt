@@ -1,6 +1,6 @@
 -- Laws of formats: which of them are grammars.
-use Rattle.std.specs.Prelude.{◌≡◌, ℕ, suc, zero, ◌<◌, ◌^◌, ◌==◌, ℤ, List, length, None, Bool, true, false, not, FitsSigned, refl}
-use Rattle.std.proofs.Common.{sym, ◌∙◌, ap, arith, drop}
+use Rattle.std.specs.Prelude.{◌≡◌, ◌++◌, [], ◌∷◌, Some, ℕ, suc, zero, ◌<◌, ◌^◌, ◌==◌, ℤ, List, length, None, Bool, true, false, not, FitsSigned, refl}
+use Rattle.std.proofs.Common.{sym, ◌∙◌, ap, arith, cond, drop}
 use Rattle.std.proofs.Math.Facts.{Fits-of_z}
 use Rattle.std.proofs.lemmas.Bool.{eq-eqb}
 use Rattle.std.proofs.lemmas.Int.{to_z-of_z}
@@ -10,9 +10,30 @@ use Rattle.std.specs.Int.{Width, w8, w16, w32, w64, byte_len, bytes_high_first, 
 use mir.Val.{bits}
 use Rattle.pg_base.specs.Bytes.{FormBytes, first_fault_bytes}
 use Rattle.pg_base.specs.Cells.{be, IsBe, IsBeUnsigned}
-use Rattle.pg_base.specs.Formats.{IsGrammar}
+use Rattle.pg_base.specs.Faults.{Refusal}
+use Rattle.pg_base.specs.Formats.{Checks, IsGrammar, first_fault_of}
 use Rattle.pg_base.specs.Numbers.{FormSigned, FormUnsigned, FormBool, first_fault_number}
 use Rattle.pg_base.specs.Texts.{FormText, first_fault_text}
+
+-- checks that are met are passed by
+met_by : (t : Bool) (r : Refusal) (xs ys : Checks) → ((first_fault_of xs ≡ None) → first_fault_of (xs ++ ys) ≡ first_fault_of ys)
+    → cond t (first_fault_of xs) (Some r) ≡ None → cond t (first_fault_of (xs ++ ys)) (Some r) ≡ first_fault_of ys
+met_by true r xs ys later e = later e
+met_by false r xs ys later e = let no : ⊥ = cc in absurd no
+
+pub checks_met : (xs ys : Checks) → first_fault_of xs ≡ None → first_fault_of (xs ++ ys) ≡ first_fault_of ys
+checks_met [] ys e = refl
+checks_met (x ∷ xs) ys e = met_by x.0 x.1 xs ys (checks_met xs ys) e
+
+-- and the first that fails is the first of more
+failed_by : (t : Bool) (r s : Refusal) (xs ys : Checks) → ((first_fault_of xs ≡ Some s) → first_fault_of (xs ++ ys) ≡ Some s)
+    → cond t (first_fault_of xs) (Some r) ≡ Some s → cond t (first_fault_of (xs ++ ys)) (Some r) ≡ Some s
+failed_by true r s xs ys later e = later e
+failed_by false r s xs ys later e = e
+
+pub check_failed : (xs ys : Checks) (s : Refusal) → first_fault_of xs ≡ Some s → first_fault_of (xs ++ ys) ≡ Some s
+check_failed [] ys s e = let no : ⊥ = cc in absurd no
+check_failed (x ∷ xs) ys s e = failed_by x.0 x.1 s xs ys (check_failed xs ys s) e
 
 length-bytes_high_first : (k n : ℕ) → length (bytes_high_first k n) ≡ k
 length-bytes_high_first zero n = refl

@@ -3,8 +3,12 @@ use Rattle.std.specs.Prelude.{◌≡◌, ℕ, List, [], ◌∷◌, Bool, if◌th
 use Rattle.pg_base.specs.Cells.{Cell}
 use Rattle.pg_base.specs.Faults.{Refusal, Outcome, was_null}
 
--- the fault of the first check that fails: a check is whether it is met, and the fault where it is not
-abbrev pub first_fault_of : List (Bool × Refusal) → Option Refusal
+-- checks, in their order: of each whether it is met, and the fault where it is not
+abbrev pub Checks : Type 0
+Checks = List (Bool × Refusal)
+
+-- the fault of the first check that fails
+abbrev pub first_fault_of : Checks → Option Refusal
 first_fault_of [] = None
 first_fault_of (check ∷ checks) = if check.0 then first_fault_of checks else Some check.1
 

@@ -1,19 +1,20 @@
 -- Hstore (hstore_send, hstore_recv): a count, and for each entry its key and its value, which may be NULL.
-use Rattle.std.specs.Prelude.{◌≡◌, ℕ, ◌+◌, ◌==◌, zero, suc, ℤ, pos, negsuc, List, [], ◌∷◌, ◌++◌, length, take, drop, Option, Some, None, option_map, Bool, true, false, nat_le, if◌then◌else◌, Result, Ok, Err, IfSome, IsSome, IsUtf8, String, string_bytes}
+use Rattle.std.specs.Prelude.{◌≡◌, ℕ, ◌+◌, ◌==◌, zero, suc, pos, List, [], ◌∷◌, ◌++◌, length, take, drop, Option, Some, None, option_map, Bool, nat_le, if◌then◌else◌, Result, Ok, Err, IfSome, IsSome, IsUtf8, String, string_bytes}
 use Rattle.std.specs.Borrow.{Bor}
 use Rattle.std.specs.Cmp.Lexicographic.{slice_cmp}
 use Rattle.std.specs.Global.{Global}
 use Rattle.std.specs.HashMap.{HashMap, get_by_text}
-use Rattle.std.specs.Int.{w32, cast_signed, from_be_bytes}
+use Rattle.std.specs.Int.{w32}
 use Rattle.std.specs.Ordering.{nat_cmp}
 use Rattle.std.specs.declared.cmp.Ordering.{Ordering}
 use Rattle.std.specs.declared.cmp.Ordering.TheVariants.{Less, Equal, Greater}
 use Rattle.std.specs.Str.{bytes_eq, is_utf8}
 use Rattle.pg_base.specs.declared.fault.Fault.{Fault}
-use Rattle.pg_base.specs.Appending.{Wire}
-use Rattle.pg_base.specs.Cells.{Cell, cell_of, be, IsBe, frame, Spells}
-use Rattle.pg_base.specs.Faults.{Refusal, Outcome, refusal_of, size, utf8, count, key_length, transmit}
-use Rattle.pg_base.specs.Formats.{first_fault_of, ReadsPlain}
+use Rattle.pg_base.specs.Appending.{Wire, wire_of}
+use Rattle.pg_base.specs.Cells.{Cell, cell_of, be, frame, Spells}
+use Rattle.pg_base.specs.Counts.{IsCount, count_checks, has_number, not_negative, number_in, stated}
+use Rattle.pg_base.specs.Faults.{Refusal, Outcome, refusal_of, size, utf8, key_length}
+use Rattle.pg_base.specs.Formats.{Checks, first_fault_of, ReadsPlain}
 use Rattle.pg_base.specs.Options.{NoneOr}
 
 -- an entry: a key, and its value or NULL
@@ -40,7 +41,7 @@ pub record ToRead : Type 0 where
 
 -- b is the bytes of a count, and then what is to be read
 abbrev pub SpellsCount : List ℕ → ToRead → Type 0
-SpellsCount b r = (h : List ℕ) × (b ≡ h ++ r.bytes) × IsBe w32 h (pos r.left)
+SpellsCount b r = (h : List ℕ) × (b ≡ h ++ r.bytes) × IsCount h r.left
 
 -- what a later entry gives, or else this one
 abbrev pub or_this : List ℕ → Entry → Option Cell → Option Cell
@@ -58,22 +59,6 @@ abbrev pub FormHstore : {A : Type 0} → (A → List ℕ → Option Cell) → Li
 FormHstore value_at b m =
     (es : List Entry) × (s : List ℕ) × SpellsCount b (record { left = length es; bytes = s }) × SpellsEntries s es [] × ((q : List ℕ) → value_at m q ≡ last_value q es)
 
--- the number in the first four bytes, where they are there
-abbrev pub has_number : List ℕ → Bool
-has_number s = nat_le 4 (length s)
-
-abbrev pub number_in : List ℕ → ℤ
-number_in s = cast_signed w32 (from_be_bytes w32 (take 4 s))
-
--- how many entries or bytes a number states: a negative one states none
-abbrev pub stated : ℤ → ℕ
-stated (pos n) = n
-stated (negsuc n) = 0
-
-abbrev pub not_negative : ℤ → Bool
-not_negative (pos n) = true
-not_negative (negsuc n) = false
-
 -- the text whose length stands in front, where all of it is there, and what follows it
 abbrev pub has_text : List ℕ → Bool
 has_text s = nat_le (stated (number_in s)) (length (drop 4 s))
@@ -83,9 +68,6 @@ text_in s = take (stated (number_in s)) (drop 4 s)
 
 abbrev pub behind_text : List ℕ → List ℕ
 behind_text s = drop (stated (number_in s)) (drop 4 s)
-
-abbrev pub Checks : Type 0
-Checks = List (Bool × Refusal)
 
 -- the checks of an entry in front of s, in the order of its bytes. A value of negative length is NULL, and has no text
 abbrev pub key_checks : List ℕ → Checks
@@ -111,9 +93,6 @@ abbrev pub entries_checks : ℕ → List ℕ → Checks
 entries_checks zero s = (length s == 0, size) ∷ []
 entries_checks (suc n) s = entry_checks s ++ entries_checks n (behind_text (behind_text s))
 
-abbrev pub count_checks : List ℕ → Checks
-count_checks b = (has_number b, size) ∷ (not_negative (number_in b), count) ∷ []
-
 -- the checks of the count come first, and then those of as many entries
 abbrev pub first_fault_hstore : List ℕ → Option Refusal
 first_fault_hstore b = first_fault_of (count_checks b ++ entries_checks (stated (number_in b)) (drop 4 b))
@@ -121,10 +100,6 @@ first_fault_hstore b = first_fault_of (count_checks b ++ entries_checks (stated 
 -- an entry of lent texts
 abbrev pub lent_entry : Bor (List ℕ) × Option (Bor (List ℕ)) → Entry
 lent_entry e = (e.0.now, cell_of e.1)
-
--- s begins with what spells a value, and rest comes after it
-abbrev pub InFront : {A : Type 0} → (List ℕ → A → Type 0) → List ℕ → A × Bor (List ℕ) → Type 0
-InFront spells s p = (t : List ℕ) × (s ≡ t ++ p.1.now) × spells t p.0
 
 -- nothing is to be read
 abbrev pub nothing : ToRead
@@ -184,15 +159,10 @@ abbrev pub placed : Entry → List Entry → List Entry
 placed e [] = e ∷ []
 placed e (f ∷ fs) = placed_by (slice_cmp nat_cmp e.0 f.0) e f fs (placed e fs)
 
--- the entries in the order of their keys' bytes, each key once
+-- the entries in the order of their keys' bytes; of equal keys, which no map has, the first
 abbrev pub in_key_order : List Entry → List Entry
 in_key_order [] = []
 in_key_order (e ∷ es) = placed e (in_key_order es)
-
--- bytes, or Transmit where a limit is passed
-abbrev pub wire_of : Option (List ℕ) → Wire
-wire_of None = Err transmit
-wire_of (Some b) = Ok (Some b)
 
 -- what entries are written as: their cell, in the order of their keys
 abbrev pub wire_hstore : List Entry → Wire

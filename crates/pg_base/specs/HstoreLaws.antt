@@ -1,58 +1,23 @@
 -- Hstore is a grammar: its bytes spell one map, and pass every check.
-use Rattle.std.specs.Prelude.{◌≡◌, ℕ, zero, suc, ℤ, pos, negsuc, List, [], ◌∷◌, ◌++◌, ◌≤◌, ◌+◌, length, take, drop, Option, Some, None, Bool, true, false, nat_le, IsUtf8, refl}
-use Rattle.std.proofs.Common.{sym, ◌∙◌, ap, ap₂, subst, arith, cond, append_assoc}
+use Rattle.std.specs.Prelude.{◌≡◌, ℕ, zero, suc, ℤ, pos, negsuc, List, [], ◌∷◌, ◌++◌, ◌+◌, length, take, drop, Option, Some, None, Bool, true, false, nat_le, IsUtf8, refl}
+use Rattle.std.proofs.Common.{sym, ◌∙◌, ap, ap₂, subst, arith, append_assoc}
 use Rattle.std.proofs.Math.Dec.{leb-zero}
 use Rattle.std.proofs.Math.Seq.{take-append_seam, drop-append_seam}
 use Rattle.std.proofs.lemmas.Bool.Decides.{nat_tests}
 use Rattle.std.proofs.lemmas.List.{length-append}
-use Rattle.std.proofs.lemmas.Nat.{from_be_bytes-to_be_bytes_4}
 use Rattle.std.proofs.lemmas.Str.{is_utf8-from_IsUtf8, IsUtf8-nil}
-use Rattle.std.specs.Int.{w32, cast_signed, from_be_bytes}
+use Rattle.std.specs.Int.{w32}
 use Rattle.std.specs.Str.{is_utf8}
-use Rattle.pg_base.specs.Cells.{Cell, be, IsBe, Spells}
+use Rattle.pg_base.specs.Cells.{Cell, IsBe, Spells}
 use Rattle.pg_base.specs.Faults.{Refusal, size, utf8, key_length}
-use Rattle.pg_base.specs.FormatLaws.{be-back}
+use Rattle.pg_base.specs.CountLaws.{IsNumberThen, number_then}
+use Rattle.pg_base.specs.Counts.{count_checks, has_number, not_negative, number_in, stated}
+use Rattle.pg_base.specs.FormatLaws.{check_failed, checks_met}
 use Rattle.pg_base.specs.Formats.{IsGrammar, first_fault_of}
 use Rattle.pg_base.specs.FrameLaws.{bytes-frame}
-use Rattle.pg_base.specs.Hstore.{Entry, ToRead, nothing, count_checks, checks_of_next, next_checks, SpellsText, SpellsEntry, SpellsEntries, SpellsCount, FormHstore, Checks, has_number, number_in, stated, not_negative, has_text, text_in, behind_text, key_checks, value_checks, entry_checks, entries_checks, first_fault_hstore, last_value}
+use Rattle.pg_base.specs.Hstore.{Entry, ToRead, nothing, checks_of_next, next_checks, SpellsText, SpellsEntry, SpellsEntries, SpellsCount, FormHstore, has_text, text_in, behind_text, key_checks, value_checks, entry_checks, entries_checks, first_fault_hstore, last_value}
 use Rattle.pg_base.specs.Options.{NoneOr}
 use Rattle.pg_base.specs.Sameness.{IsEquivalence}
-
--- checks that are met are passed by
-met_by : (t : Bool) (r : Refusal) (xs ys : Checks) → ((first_fault_of xs ≡ None) → first_fault_of (xs ++ ys) ≡ first_fault_of ys)
-    → cond t (first_fault_of xs) (Some r) ≡ None → cond t (first_fault_of (xs ++ ys)) (Some r) ≡ first_fault_of ys
-met_by true r xs ys later e = later e
-met_by false r xs ys later e = let no : ⊥ = cc in absurd no
-
-checks_met : (xs ys : Checks) → first_fault_of xs ≡ None → first_fault_of (xs ++ ys) ≡ first_fault_of ys
-checks_met [] ys e = refl
-checks_met (x ∷ xs) ys e = met_by x.0 x.1 xs ys (checks_met xs ys) e
-
--- and the first that fails is the first of more
-failed_by : (t : Bool) (r s : Refusal) (xs ys : Checks) → ((first_fault_of xs ≡ Some s) → first_fault_of (xs ++ ys) ≡ Some s)
-    → cond t (first_fault_of xs) (Some r) ≡ Some s → cond t (first_fault_of (xs ++ ys)) (Some r) ≡ Some s
-failed_by true r s xs ys later e = later e
-failed_by false r s xs ys later e = e
-
-check_failed : (xs ys : Checks) (s : Refusal) → first_fault_of xs ≡ Some s → first_fault_of (xs ++ ys) ≡ Some s
-check_failed [] ys s e = let no : ⊥ = cc in absurd no
-check_failed (x ∷ xs) ys s e = failed_by x.0 x.1 s xs ys (check_failed xs ys s) e
-
--- what is known of bytes with this number in front of u
-record IsNumberThen (s : List ℕ) (n : ℤ) (u : List ℕ) : Type 0 where
-  pub has : has_number s ≡ true
-  pub number : number_in s ≡ n
-  pub rest : drop 4 s ≡ u
-
-has_four : (s : List ℕ) → 4 ≤ length s → has_number s ≡ true
-has_four s h = grind (arith, nat_tests)
-
-be_then : (n : ℤ) (u : List ℕ) → cast_signed w32 (from_be_bytes w32 (be w32 n)) ≡ n → IsNumberThen (be w32 n ++ u) n u
-be_then n u back = record { has = has_four (be w32 n ++ u) (omega (arith, length-append (be w32 n) u)); number = back; rest = refl }
-
-number_then : (b h u : List ℕ) (n : ℤ) → b ≡ h ++ u → IsBe w32 h n → IsNumberThen b n u
-number_then b h u n e p =
-    subst (λ s. IsNumberThen s n u) (sym (e ∙ ap (λ s. s ++ u) p.1)) (be_then n u (be-back w32 from_be_bytes-to_be_bytes_4 n p.0))
 
 -- the text of a value; NULL has none
 abbrev text_or_none : Cell → List ℕ

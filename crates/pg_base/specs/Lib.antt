@@ -6,6 +6,8 @@ pub mod BuiltInRows
 pub mod Bytes
 pub mod Cells
 pub mod Content
+pub mod CountLaws
+pub mod Counts
 pub mod Digest
 pub mod Faults
 pub mod FaultTexts
@@ -15,6 +17,7 @@ pub mod FrameLaws
 pub mod Hstore
 pub mod HstoreLaws
 pub mod Identifiers
+pub mod IdentifiersLaws
 pub mod Lsn
 pub mod LsnLaws
 pub mod Moments

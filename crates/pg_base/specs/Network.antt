@@ -6,7 +6,7 @@ use Rattle.std.specs.declared.net.ip_addr.IpAddr.{IpAddr}
 use Rattle.std.specs.declared.net.ip_addr.IpAddr.TheVariants.{V4, V6}
 use Rattle.pg_base.specs.Cells.{Cell}
 use Rattle.pg_base.specs.Faults.{Refusal, Outcome, size, family, netmask, address_length, host_bits, transmit}
-use Rattle.pg_base.specs.Formats.{first_fault_of, ReadsPlain}
+use Rattle.pg_base.specs.Formats.{Checks, first_fault_of, ReadsPlain}
 use Rattle.pg_base.specs.Appending.{Wire}
 
 -- the octets of an address, the highest first
@@ -69,7 +69,7 @@ FormAddress b a = (masklen : ℕ) × FormInet b (with_netmask a masklen)
 
 -- the checks of INET: fewer than four bytes are Size, then another family than 2 and 3 is Family, a netmask that is too long
 -- Netmask, another number of octets than the family's AddressLength, and octets of another length than that Size
-abbrev pub inet_checks : List ℕ → List (Bool × Refusal)
+abbrev pub inet_checks : List ℕ → Checks
 inet_checks b =
     (nat_le 4 (length b), size)
     ∷ (slice_index b 0 == 2 || slice_index b 0 == 3, family)

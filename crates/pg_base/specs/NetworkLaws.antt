@@ -1,15 +1,12 @@
--- Laws of addresses and identifiers: their formats are grammars.
-use Rattle.std.specs.Prelude.{◌≡◌, ℕ, ◌*◌, ◌/◌, ◌%◌, ◌≤◌, ◌==◌, List, [], ◌∷◌, ◌++◌, length, drop, slice_index, Bool, None, true, refl}
+-- Laws of addresses: their formats are grammars.
+use Rattle.std.specs.Prelude.{◌≡◌, ℕ, ◌*◌, ◌/◌, ◌%◌, ◌≤◌, ◌==◌, List, [], ◌∷◌, ◌++◌, length, drop, slice_index, None, true, refl}
 use Rattle.std.proofs.Common.{sym, ◌∙◌, ap, arith, eq-eqb, le-leb}
 use Rattle.std.specs.Net.Addr.{ipv4_octets, ipv6_segments, octets_of}
 use Rattle.std.specs.declared.net.ip_addr.IpAddr.{IpAddr}
 use Rattle.std.specs.declared.net.ip_addr.IpAddr.TheVariants.{V4, V6}
-use Rattle.pg_base.specs.Faults.{Refusal, host_bits}
-use Rattle.pg_base.specs.FormatLaws.{passes_number}
-use Rattle.pg_base.specs.Formats.{IsGrammar, first_fault_of}
-use Rattle.pg_base.specs.Identifiers.{FormIdentifier}
+use Rattle.pg_base.specs.Faults.{host_bits}
+use Rattle.pg_base.specs.Formats.{Checks, IsGrammar, first_fault_of}
 use Rattle.pg_base.specs.Network.{FormAddress, FormCidr, FormInet, Network, address_len, address_octets, family_of, first_fault_cidr, first_fault_inet, host_part, inet_checks, network_bytes, with_netmask}
-use Rattle.pg_base.specs.Numbers.{first_fault_number}
 
 -- segments of the same octets are the same
 same_segments : (s t : List ℕ) → octets_of s ≡ octets_of t → s ≡ t
@@ -32,7 +29,7 @@ same_address (V6 a) (V4 b) f h = absurd (omega arith)
 same_address (V6 a) (V6 b) f h = ap (λ s. V6 (record { segments = s })) (same_segments (ipv6_segments a) (ipv6_segments b) h)
 
 -- the bytes of an address with its netmask meet the checks of INET, and other checks are left
-met : (more : List (Bool × Refusal)) (flag : ℕ) (a : IpAddr) (masklen : ℕ) → length (address_octets a) ≡ address_len a → masklen ≤ 8 * address_len a
+met : (more : Checks) (flag : ℕ) (a : IpAddr) (masklen : ℕ) → length (address_octets a) ≡ address_len a → masklen ≤ 8 * address_len a
     → first_fault_of (inet_checks (network_bytes flag (with_netmask a masklen)) ++ more) ≡ first_fault_of more
 met more flag (V4 a) masklen len fits =
     let four : 4 ≤ length (network_bytes flag (with_netmask (V4 a) masklen)) = omega arith in
@@ -75,6 +72,3 @@ address_grammar = record {
   passes = λ b a h. inet_passes b (with_netmask a h.0) h.1;
   single = λ b a c h k. ap (λ n. n.address) (inet_single b (with_netmask a h.0) (with_netmask c k.0) h.1 k.1);
 }
-
-pub identifier_grammar : (width : ℕ) → IsGrammar (λ v w. v ≡ w) (FormIdentifier width) (first_fault_number width)
-identifier_grammar width = record { passes = λ b v h. passes_number width b h.1; single = λ b v w h k. h.0 ∙ sym k.0 }

@@ -7,6 +7,7 @@
 
 mod bits;
 mod bytea;
+mod counts;
 mod frames;
 mod hstore;
 mod identifiers;

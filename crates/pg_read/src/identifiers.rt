@@ -3,7 +3,7 @@ ghost use Rattle.std.specs.Prelude.{◌≡◌};
 ghost use Rattle.pg_base.specs.declared.types.built_in.BuiltIn.TheVariants.{Macaddr, Uuid as UuidRow};
 ghost use Rattle.pg_base.specs.Content.{is_row};
 ghost use Rattle.pg_base.specs.Identifiers.{FormIdentifier, ReadsIdentifier};
-ghost use Rattle.pg_base.specs.NetworkLaws.{identifier_grammar};
+ghost use Rattle.pg_base.specs.IdentifiersLaws.{identifier_grammar};
 ghost use Rattle.pg_base.specs.Numbers.{first_fault_number};
 ghost use Rattle.pg_base.specs.Sameness.{equal_equivalence};
 ghost use Rattle.pg_read.specs.Reading.{EveryCell, plain_single};

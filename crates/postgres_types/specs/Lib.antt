@@ -8,6 +8,8 @@ pub use Rattle.pg_base.specs.BuiltInRows
 pub use Rattle.pg_base.specs.Bytes
 pub use Rattle.pg_base.specs.Cells
 pub use Rattle.pg_base.specs.Content
+pub use Rattle.pg_base.specs.CountLaws
+pub use Rattle.pg_base.specs.Counts
 pub use Rattle.pg_base.specs.Digest
 pub use Rattle.pg_base.specs.Faults
 pub use Rattle.pg_base.specs.FaultTexts
@@ -17,6 +19,7 @@ pub use Rattle.pg_base.specs.FrameLaws
 pub use Rattle.pg_base.specs.Hstore
 pub use Rattle.pg_base.specs.HstoreLaws
 pub use Rattle.pg_base.specs.Identifiers
+pub use Rattle.pg_base.specs.IdentifiersLaws
 pub use Rattle.pg_base.specs.Lsn
 pub use Rattle.pg_base.specs.LsnLaws
 pub use Rattle.pg_base.specs.Moments

@@ -5,7 +5,7 @@ ghost use Rattle.pg_base.specs.Faults.{Answers, NeverMemory};
 ghost use Rattle.pg_base.specs.Formats.{Decodes};
 ghost use Rattle.pg_base.specs.Appending.{Appends};
 
-use super::numbers::int4_from_sql;
+use super::counts::split_count;
 use crate::fault::Fault;
 use bytes::BytesMut;
 use std::alloc::Global;
@@ -46,15 +46,7 @@ pub fn varbit_from_sql(raw: &[u8]) -> Result<Varbit<'_>, Fault>
     ensures outcome { Answers (Decodes (FormBits (λ v. first_bits v.len v.bytes.now)) first_fault_bits raw.now) result }
     ensures never_memory { NeverMemory result }
 {
-    if raw.len() < 4 {
-        return Err(Fault::Size);
-    }
-    let (head, bytes) = raw.split_at(4);
-    let count = int4_from_sql(head)?;
-    if count < 0 {
-        return Err(Fault::Count);
-    }
-    let len = count as usize;
+    let (len, bytes) = split_count(raw)?;
     if bytes.len() != len.div_ceil(8) {
         return Err(Fault::Size);
     }

@@ -3,13 +3,15 @@ ghost use Rattle.std.specs.Prelude.{◌≡◌, ◌≤◌, ℕ, List, [], ◌∷�
 ghost use Rattle.std.specs.Int.{w32};
 ghost use Rattle.pg_base.specs.declared.fault.Fault.TheVariants.{Transmit};
 ghost use Rattle.pg_base.specs.Appending.{Appends};
-ghost use Rattle.pg_base.specs.Cells.{IsBe, cell_of, frame};
-ghost use Rattle.pg_base.specs.Faults.{Answers, NeverMemory, size};
+ghost use Rattle.pg_base.specs.Cells.{cell_of, frame};
+ghost use Rattle.pg_base.specs.Counts.{InFront, count_checks};
+ghost use Rattle.pg_base.specs.Faults.{Answers, NeverMemory};
 ghost use Rattle.pg_base.specs.Formats.{Decodes, first_fault_of};
-ghost use Rattle.pg_base.specs.Hstore.{InFront, SpellsCount, SpellsEntry, SpellsText, TakesEntry, ToRead, count_checks, entry_checks, has_number, hstore_bytes, lent_entry, value_checks};
+ghost use Rattle.pg_base.specs.Hstore.{SpellsCount, SpellsEntry, SpellsText, TakesEntry, ToRead, entry_checks, hstore_bytes, lent_entry, value_checks};
 
+use super::counts::{split_count, split_number};
 use super::frames::{MAX_CELL, frame_to_sql};
-use super::numbers::{int4_from_sql, int4_to_sql};
+use super::numbers::int4_to_sql;
 use super::texts::text_from_sql;
 use crate::fault::Fault;
 use bytes::BytesMut;
@@ -22,7 +24,7 @@ type Entry<'a> = (&'a str, Option<&'a str>);
 /// The entries of an hstore's cell that are to be read; see [`hstore_from_sql`].
 #[derive(Drop)]
 pub struct HstoreEntries<'a> {
-    left: u32,
+    left: usize,
     bytes: &'a [u8],
 }
 
@@ -38,14 +40,8 @@ pub fn hstore_from_sql(_alloc: Global, raw: &[u8]) -> Result<HstoreEntries<'_>, 
     ensures outcome { Answers (Decodes SpellsCount (λ b. first_fault_of (count_checks b)) raw.now) result }
     ensures never_memory { NeverMemory result }
 {
-    let (count, bytes) = split_number(raw)?;
-    if count < 0 {
-        return Err(Fault::Count);
-    }
-    Ok(HstoreEntries {
-        left: count as u32,
-        bytes,
-    })
+    let (left, bytes) = split_count(raw)?;
+    Ok(HstoreEntries { left, bytes })
 }
 
 impl<'a> HstoreEntries<'a> {
@@ -107,18 +103,6 @@ fn split_text(bytes: &[u8]) -> Result<(Option<&str>, &[u8]), Fault>
     }
     let (text, bytes) = bytes.split_at(len);
     Ok((Some(text_from_sql(text)?), bytes))
-}
-
-/// The number in front, in 4 bytes, and the bytes after it.
-fn split_number(bytes: &[u8]) -> Result<(i32, &[u8]), Fault>
-    ensures outcome { Answers (Decodes (InFront (IsBe w32)) (λ s. first_fault_of ((has_number s, size) ∷ [])) bytes.now) result }
-    ensures never_memory { NeverMemory result }
-{
-    if bytes.len() < 4 {
-        return Err(Fault::Size);
-    }
-    let (head, bytes) = bytes.split_at(4);
-    Ok((int4_from_sql(head)?, bytes))
 }
 
 /// The most entries of an hstore.

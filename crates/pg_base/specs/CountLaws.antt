@@ -1,0 +1,26 @@
+-- Laws of a number in front.
+use Rattle.std.specs.Prelude.{◌≡◌, ℕ, ℤ, List, ◌++◌, ◌≤◌, length, drop, true, refl}
+use Rattle.std.proofs.Common.{sym, ◌∙◌, ap, subst, arith}
+use Rattle.std.proofs.lemmas.Bool.Decides.{nat_tests}
+use Rattle.std.proofs.lemmas.List.{length-append}
+use Rattle.std.proofs.lemmas.Nat.{from_be_bytes-to_be_bytes_4}
+use Rattle.std.specs.Int.{w32, cast_signed, from_be_bytes}
+use Rattle.pg_base.specs.Cells.{be, IsBe}
+use Rattle.pg_base.specs.Counts.{has_number, number_in}
+use Rattle.pg_base.specs.FormatLaws.{be-back}
+
+-- what is known of bytes with this number in front of u
+pub record IsNumberThen (s : List ℕ) (n : ℤ) (u : List ℕ) : Type 0 where
+  pub has : has_number s ≡ true
+  pub number : number_in s ≡ n
+  pub rest : drop 4 s ≡ u
+
+has_four : (s : List ℕ) → 4 ≤ length s → has_number s ≡ true
+has_four s h = grind (arith, nat_tests)
+
+be_then : (n : ℤ) (u : List ℕ) → cast_signed w32 (from_be_bytes w32 (be w32 n)) ≡ n → IsNumberThen (be w32 n ++ u) n u
+be_then n u back = record { has = has_four (be w32 n ++ u) (omega (arith, length-append (be w32 n) u)); number = back; rest = refl }
+
+pub number_then : (b h u : List ℕ) (n : ℤ) → b ≡ h ++ u → IsBe w32 h n → IsNumberThen b n u
+number_then b h u n e p =
+    subst (λ s. IsNumberThen s n u) (sym (e ∙ ap (λ s. s ++ u) p.1)) (be_then n u (be-back w32 from_be_bytes-to_be_bytes_4 n p.0))

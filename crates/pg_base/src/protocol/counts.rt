@@ -1,0 +1,34 @@
+//! A number of 4 bytes in front of others, as counts and lengths stand.
+ghost use Rattle.std.specs.Prelude.{◌∷◌, []};
+ghost use Rattle.std.specs.Int.{w32};
+ghost use Rattle.pg_base.specs.Cells.{IsBe};
+ghost use Rattle.pg_base.specs.Counts.{InFront, IsCount, count_checks, has_number};
+ghost use Rattle.pg_base.specs.Faults.{Answers, NeverMemory, size};
+ghost use Rattle.pg_base.specs.Formats.{Decodes, first_fault_of};
+
+use super::numbers::int4_from_sql;
+use crate::fault::Fault;
+
+/// The number in front, and the bytes after it.
+pub(super) fn split_number(bytes: &[u8]) -> Result<(i32, &[u8]), Fault>
+    ensures outcome { Answers (Decodes (InFront (IsBe w32)) (λ s. first_fault_of ((has_number s, size) ∷ [])) bytes.now) result }
+    ensures never_memory { NeverMemory result }
+{
+    if bytes.len() < 4 {
+        return Err(Fault::Size);
+    }
+    let (head, bytes) = bytes.split_at(4);
+    Ok((int4_from_sql(head)?, bytes))
+}
+
+/// The count in front, which is refused with `Count` where it is negative, and the bytes after it.
+pub(super) fn split_count(bytes: &[u8]) -> Result<(usize, &[u8]), Fault>
+    ensures outcome { Answers (Decodes (InFront IsCount) (λ s. first_fault_of (count_checks s)) bytes.now) result }
+    ensures never_memory { NeverMemory result }
+{
+    let (count, bytes) = split_number(bytes)?;
+    if count < 0 {
+        return Err(Fault::Count);
+    }
+    Ok((count as usize, bytes))
+}
