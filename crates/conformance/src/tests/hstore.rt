@@ -1,12 +1,16 @@
-use super::{made, read, refusal, writes};
+use super::{made, read, refusal, rewrites, writes};
 use postgres_types::private::BytesMut;
 use postgres_types::protocol::{hstore_from_sql, hstore_to_sql};
-use postgres_types::{Fault, Type, rewrite};
+use postgres_types::{Fault, Type};
 use std::alloc::Global;
 use std::collections::HashMap;
+use std::hash::{BuildHasherDefault, DefaultHasher};
 use std::test::Fail;
 
 type Map = HashMap<String, Option<String>>;
+
+/// The same with another hasher.
+type SipMap = HashMap<String, Option<String>, BuildHasherDefault<DefaultHasher>>;
 
 /// a => 1, a => NULL
 const TWICE: [u8; 23] = [
@@ -46,10 +50,8 @@ fn the_last_of_equal_keys_stays(rt: HostRuntime) -> Result<(), Fail> {
     let map: Map = read(alloc, &ty, Some(&TWICE))?;
     assert_eq!(rt; map.len(), 1);
     assert_eq!(rt; value_of(&map, "a"), Some(None));
-    let mut out = BytesMut::new(alloc);
-    let _ = rewrite::<Map>(alloc, &ty, Some(&TWICE), &mut out)?;
-    assert_eq!(rt; out.as_slice(), NULL.as_slice());
-    Ok(())
+    rewrites::<Map>(&rt, alloc, &ty, &TWICE, &NULL)?;
+    rewrites::<SipMap>(&rt, alloc, &ty, &TWICE, &NULL)
 }
 
 #[test]

@@ -1,12 +1,11 @@
-use super::{reads, refusal, writes};
+use super::{reads, refusal, rewrites, writes};
+use pg_base::network::laws::{same_cidr, same_inet, same_mac_address};
 use postgres_types::private::BytesMut;
 use postgres_types::protocol::{
     inet_from_sql, inet_to_sql, macaddr_from_sql, macaddr_to_sql, uuid_from_sql, uuid_to_sql,
 };
-use postgres_types::{Fault, FromSql, IpCidr, IpInet, IsNull, MacAddress, ToSql, Type, rewrite};
-use std::alloc::Global;
+use postgres_types::{Fault, IpCidr, IpInet, MacAddress, Type};
 use std::net::{IpAddr, Ipv4Addr, Ipv6Addr};
-use std::process::Abort;
 use std::test::Fail;
 use uuid::Uuid;
 
@@ -20,20 +19,6 @@ fn v6_cell(netmask: u8, n: u8) -> [u8; 20] {
     [
         3, netmask, 0, 16, 0x20, 0x01, 0x0d, 0xb8, 0, 0, 0, 0, 0, 0, 0, 0, 0, 0, 0, n,
     ]
-}
-
-/// The cell is read as a `T` and written as that other cell.
-fn rewrites<'a, T: FromSql<'a> + ToSql>(
-    rt: &impl Abort,
-    alloc: Global,
-    ty: &Type,
-    cell: &'a [u8],
-    written: &[u8],
-) -> Result<(), Fail> {
-    let mut out = BytesMut::new(alloc);
-    assert_eq!(rt; rewrite::<T>(alloc, ty, Some(cell), &mut out)?, IsNull::No);
-    assert_eq!(rt; out.as_slice(), written);
-    Ok(())
 }
 
 /// The number of the fault of what was made; 0 where there is none.
@@ -90,7 +75,13 @@ fn addresses_have_their_bytes(rt: HostRuntime) -> Result<(), Fail> {
         &IpCidr::new(ten(0, 0, 0), 8)?,
         &Type::CIDR,
         &network,
-    )
+    )?;
+
+    let cell = v6_cell(64, 0);
+    let first = Ipv6Addr::new(0x2001, 0xdb8, 0, 0, 0, 0, 0, 0);
+    let network = IpCidr::new(IpAddr::V6(first), 64)?;
+    writes(&rt, alloc, &network, &Type::CIDR, &cell)?;
+    reads(&rt, alloc, &Type::CIDR, &cell, network)
 }
 
 #[test]
@@ -216,5 +207,21 @@ fn plain_addresses_and_identifiers_go_both_ways(rt: HostRuntime) -> Result<(), F
         MacAddress::new([1, 2, 3, 4, 5, 6]).to_array(),
         [1, 2, 3, 4, 5, 6]
     );
+    Ok(())
+}
+
+#[test]
+fn values_of_other_parts_are_different(rt: HostRuntime) -> Result<(), Fail> {
+    let host = IpInet::new(ten(1, 2, 3), 8)?;
+    assert!(rt; same_inet(&host, &host));
+    assert!(rt; !same_inet(&host, &IpInet::new(ten(1, 2, 3), 9)?));
+    assert!(rt; !same_inet(&host, &IpInet::new(ten(1, 2, 4), 8)?));
+    let network = IpCidr::new(ten(0, 0, 0), 8)?;
+    assert!(rt; same_cidr(&network, &network));
+    assert!(rt; !same_cidr(&network, &IpCidr::new(ten(0, 0, 0), 9)?));
+    assert!(rt; !same_cidr(&network, &IpCidr::new(ten(1, 0, 0), 16)?));
+    let card = MacAddress::new([1, 2, 3, 4, 5, 6]);
+    assert!(rt; same_mac_address(&card, &card));
+    assert!(rt; !same_mac_address(&card, &MacAddress::new([1, 2, 3, 4, 5, 7])));
     Ok(())
 }

@@ -1,6 +1,6 @@
 //! Whole numbers and truth values: a table of rows for each format.
 
-use super::{made, read, refuses, spells, writes};
+use super::{made, read, refuses, rewrites, spells, writes};
 use postgres_types::private::BytesMut;
 use postgres_types::protocol::{
     bool_from_sql, bool_to_sql, char_to_sql, int2_to_sql, int4_to_sql, int8_to_sql, oid_to_sql,
@@ -138,10 +138,8 @@ fn wide_numbers_are_appended_to_an_empty_buffer(rt: HostRuntime) -> Result<(), F
 fn any_byte_but_zero_is_true(rt: HostRuntime) -> Result<(), Fail> {
     let alloc = rt.alloc();
     for byte in [1u8, 2, 0x80, 0xff] {
-        let mut out = BytesMut::new(alloc);
         assert!(rt; bool_from_sql(&[byte])?);
-        let _ = rewrite::<bool>(alloc, &Type::BOOL, Some(&[byte]), &mut out)?;
-        assert_eq!(rt; out.as_slice(), [1].as_slice());
+        rewrites::<bool>(&rt, alloc, &Type::BOOL, &[byte], &[1])?;
     }
     Ok(())
 }
