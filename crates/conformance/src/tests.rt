@@ -1,5 +1,6 @@
 mod bits;
 mod bytes;
+mod civil;
 mod debug;
 mod faults;
 mod framed;

@@ -43,6 +43,10 @@ length-bytes_high_first (suc k) n = ap suc (length-bytes_high_first k n)
 pub passes_number : (width : ℕ) (b : List ℕ) → length b ≡ width → first_fault_number width b ≡ None
 passes_number width b h = rw (eq-eqb (length b) width h) refl
 
+-- the bytes of a number are as many as the width has
+pub be-length : (w : Width) (b : List ℕ) (z : ℤ) → IsBe w b z → length b ≡ byte_len w
+be-length w b z h = ap length h.1 ∙ length-bytes_high_first (byte_len w) (cast_unsigned w z)
+
 -- over a width whose bytes give the number back
 module _ (w : Width) (back : (n : ℕ) → n < 2 ^ bits w → from_be_bytes w (to_be_bytes w n) ≡ n) where
   be_unsigned-single : (b : List ℕ) (m n : ℕ) → IsBeUnsigned w b m → IsBeUnsigned w b n → m ≡ n
@@ -57,7 +61,7 @@ module _ (w : Width) (back : (n : ℕ) → n < 2 ^ bits w → from_be_bytes w (t
 
   signed_grammar : IsGrammar (λ v u. v ≡ u) (FormSigned w) (first_fault_number (byte_len w))
   signed_grammar = record {
-    passes = λ b v h. passes_number (byte_len w) b (ap length h.1 ∙ length-bytes_high_first (byte_len w) (cast_unsigned w v));
+    passes = λ b v h. passes_number (byte_len w) b (be-length w b v h);
     single = be-single;
   }
 

@@ -5,6 +5,8 @@ pub mod BitsLaws
 pub mod BuiltInRows
 pub mod Bytes
 pub mod Cells
+pub mod Civil
+pub mod CivilLaws
 pub mod Content
 pub mod CountLaws
 pub mod Counts

@@ -3,6 +3,8 @@ ghost use Rattle.std.specs.Prelude.{None};
 ghost use Rattle.pg_base.specs.Cells.{Cell};
 
 use crate::from_sql::FromSql;
+use jiff::Timestamp;
+use jiff::civil::{Date, DateTime, Time};
 use pg_base::bits::BitVec;
 use pg_base::lsn::PgLsn;
 use pg_base::network::{IpCidr, IpInet, MacAddress};
@@ -36,6 +38,10 @@ pub fn types_read_without_memory() {
     never_answers_memory::<&[u8]>();
     never_answers_memory::<PgLsn>();
     never_answers_memory::<UnixTime>();
+    never_answers_memory::<Date>();
+    never_answers_memory::<Time>();
+    never_answers_memory::<DateTime>();
+    never_answers_memory::<Timestamp>();
     never_answers_memory::<IpAddr>();
     never_answers_memory::<IpInet>();
     never_answers_memory::<IpCidr>();

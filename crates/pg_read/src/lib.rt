@@ -6,6 +6,7 @@
 
 mod bits;
 mod bytea;
+mod civil;
 pub mod from_sql;
 mod hstore;
 mod identifiers;

@@ -2,6 +2,8 @@
 ghost use Rattle.std.specs.Prelude.{IsTrue};
 
 use crate::to_sql::ToSql;
+use jiff::Timestamp;
+use jiff::civil::{Date, DateTime, Time};
 use pg_base::bits::BitVec;
 use pg_base::lsn::PgLsn;
 use pg_base::network::{IpCidr, IpInet, MacAddress};
@@ -42,6 +44,10 @@ pub fn types_that_keep_the_room_rule() {
     keeps_room_rule::<CowSlice<u8>>();
     keeps_room_rule::<PgLsn>();
     keeps_room_rule::<UnixTime>();
+    keeps_room_rule::<Date>();
+    keeps_room_rule::<Time>();
+    keeps_room_rule::<DateTime>();
+    keeps_room_rule::<Timestamp>();
     keeps_room_rule::<BitVec>();
     keeps_room_rule::<IpAddr>();
     keeps_room_rule::<IpInet>();

@@ -6,6 +6,7 @@
 
 mod bits;
 mod bytea;
+mod civil;
 mod hstore;
 mod identifiers;
 pub mod laws;

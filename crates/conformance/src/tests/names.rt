@@ -1,6 +1,8 @@
 //! The names of Rust types in the fault of a type that is not accepted.
 
 use super::made;
+use jiff::Timestamp;
+use jiff::civil::{Date, DateTime, Time};
 use postgres_types::private::BytesMut;
 use postgres_types::{BitVec, IpCidr, IpInet, MacAddress, PgLsn, ToSql, Type, UnixTime};
 use std::alloc::Global;
@@ -81,4 +83,13 @@ fn small_types_are_named(rt: HostRuntime) -> Result<(), Fail> {
     refuses_odd(&rt, alloc, &PgLsn::from(7u64), "PgLsn")?;
     let moment = UnixTime::new(0, 0).ok_or("no moment")?;
     refuses_odd(&rt, alloc, &moment, "UnixTime")
+}
+
+#[test]
+fn dates_and_times_are_named(rt: HostRuntime) -> Result<(), Fail> {
+    let alloc = rt.alloc();
+    refuses_odd(&rt, alloc, &Date::ZERO, "jiff::civil::Date")?;
+    refuses_odd(&rt, alloc, &Time::MIN, "jiff::civil::Time")?;
+    refuses_odd(&rt, alloc, &DateTime::ZERO, "jiff::civil::DateTime")?;
+    refuses_odd(&rt, alloc, &Timestamp::MIN, "jiff::Timestamp")
 }

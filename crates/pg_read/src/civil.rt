@@ -1,0 +1,201 @@
+//! Reading dates, times of day, and moments of `jiff`.
+ghost use Rattle.std.specs.Prelude.{◌≡◌, pos};
+ghost use Rattle.std.specs.Int.{w32, w64};
+ghost use Rattle.jiff.specs.Words.{civil_nanos, epoch_day, time_nanos};
+ghost use Rattle.pg_base.specs.Civil.{CountGives, FormCount, IsAfterMidnight, IsDayOf, ReadsDate, ReadsDateTime, ReadsInstant, ReadsTime, first_civil, first_day, first_fault_count, first_instant, instant_nanos, last_civil, last_day, last_instant, last_micros};
+ghost use Rattle.pg_base.specs.CivilLaws.{date_grammar, datetime_grammar, instant_grammar, time_grammar};
+ghost use Rattle.pg_base.specs.Content.{is_row};
+ghost use Rattle.pg_base.specs.Faults.{Answers, NeverMemory};
+ghost use Rattle.pg_base.specs.Moments.{IsAfterBase};
+ghost use Rattle.pg_base.specs.Sameness.{content_equivalence};
+ghost use Rattle.pg_base.specs.declared.types.built_in.BuiltIn.TheVariants.{Date as DateRow, Time as TimeRow, Timestamp as TimestampRow, Timestamptz};
+ghost use Rattle.pg_read.specs.Reading.{EveryCell, plain_single};
+
+use crate::from_sql::FromSql;
+use jiff::civil::{Date, DateTime, Time};
+use jiff::{SignedDuration, Timestamp};
+use pg_base::fault::Fault;
+use pg_base::protocol::{date_from_sql, time_from_sql, timestamp_from_sql};
+use pg_base::types::PgType;
+use std::alloc::Global;
+
+/// 2000-01-01, from which PostgreSQL counts, in days from 1970-01-01.
+const BASE_DAY: i64 = 10_957;
+
+/// 2000-01-01 00:00:00, from which PostgreSQL counts, in nanoseconds from 1970-01-01 00:00:00.
+const BASE_NANOS: i128 = 946_684_800_000_000_000;
+
+/// The date that many days after 2000-01-01.
+fn date_of(days: i32) -> Result<Date, Fault>
+    ensures gives { Answers (CountGives first_day last_day IsDayOf days) result }
+    ensures never_memory { NeverMemory result }
+{
+    let base = Date::ZERO;
+    let base_day = i64::from(base.to_plain().to_unix_epoch_day());
+    let distance = i64::from(days) + BASE_DAY - base_day;
+    match base.checked_add(SignedDuration::from_secs(distance * 86_400)) {
+        Ok(date) => Ok(date),
+        Err(_) => Err(Fault::Decode),
+    }
+}
+
+/// The time that many microseconds after midnight.
+fn time_of(micros: i64) -> Result<Time, Fault>
+    ensures gives { Answers (CountGives (pos 0) last_micros IsAfterMidnight micros) result }
+    ensures never_memory { NeverMemory result }
+{
+    match Time::midnight().checked_add(SignedDuration::from_micros(micros)) {
+        Ok(time) => Ok(time),
+        Err(_) => Err(Fault::Decode),
+    }
+}
+
+/// The moment on a clock that many microseconds after 2000-01-01 00:00:00.
+fn datetime_of(micros: i64) -> Result<DateTime, Fault>
+    ensures gives { Answers (CountGives first_civil last_civil (IsAfterBase civil_nanos) micros) result }
+    ensures never_memory { NeverMemory result }
+{
+    let base = DateTime::ZERO;
+    let distance = BASE_NANOS + i128::from(micros) * 1_000 - base.to_plain().to_nanosecond();
+    match base.checked_add(SignedDuration::from_nanos_i128(distance)) {
+        Ok(datetime) => Ok(datetime),
+        Err(_) => Err(Fault::Decode),
+    }
+}
+
+/// The instant that many microseconds after 2000-01-01 00:00:00 UTC.
+fn instant_of(micros: i64) -> Result<Timestamp, Fault>
+    ensures gives { Answers (CountGives first_instant last_instant (IsAfterBase instant_nanos) micros) result }
+    ensures never_memory { NeverMemory result }
+{
+    match Timestamp::from_nanosecond(BASE_NANOS + i128::from(micros) * 1_000) {
+        Ok(instant) => Ok(instant),
+        Err(_) => Err(Fault::Decode),
+    }
+}
+
+/// DATE: 4 bytes, highest first, in two's complement, the days from 2000-01-01 (`date_recv`). Any
+/// other length is `Size`, a date before -9999-01-01 or after 9999-12-31 is `Decode`, the two counts
+/// that PostgreSQL takes for infinities included, and NULL is `WasNull`.
+impl<'a> FromSql<'a> for Date {
+    ghost same = { λ v w. epoch_day v ≡ epoch_day w };
+
+    ghost accepted = { is_row DateRow };
+
+    ghost reads = { λ _. ReadsDate };
+
+    ghost memory_free = { EveryCell };
+
+    ghost equivalence = { content_equivalence epoch_day };
+
+    ghost single = { λ _ _. plain_single (λ v w. epoch_day v ≡ epoch_day w) (FormCount w32 first_day last_day IsDayOf) (first_fault_count w32 first_day last_day) date_grammar };
+
+    #[tactic(auto, using(pg_base::specs::CivilLaws::answered_4))]
+    fn from_sql(_alloc: Global, _ty: &PgType, raw: &'a [u8]) -> Result<Date, Fault> {
+        date_of(date_from_sql(raw)?)
+    }
+
+    fn from_sql_null(_alloc: Global, _ty: &PgType) -> Result<Date, Fault> {
+        Err(Fault::WasNull)
+    }
+
+    #[tactic(auto, using(pg_base::proofs::DerivedTypes::eq_content))]
+    fn accepts(ty: &PgType) -> bool {
+        *ty == PgType::DATE
+    }
+}
+
+/// TIME: 8 bytes, highest first, in two's complement, the microseconds from midnight (`time_recv`).
+/// Any other length is `Size`, what lies outside 0 to 86,399,999,999 is `Decode`, 24:00:00 included,
+/// and NULL is `WasNull`.
+impl<'a> FromSql<'a> for Time {
+    ghost same = { λ v w. time_nanos v ≡ time_nanos w };
+
+    ghost accepted = { is_row TimeRow };
+
+    ghost reads = { λ _. ReadsTime };
+
+    ghost memory_free = { EveryCell };
+
+    ghost equivalence = { content_equivalence time_nanos };
+
+    ghost single = { λ _ _. plain_single (λ v w. time_nanos v ≡ time_nanos w) (FormCount w64 (pos 0) last_micros IsAfterMidnight) (first_fault_count w64 (pos 0) last_micros) time_grammar };
+
+    #[tactic(auto, using(pg_base::specs::CivilLaws::answered_8))]
+    fn from_sql(_alloc: Global, _ty: &PgType, raw: &'a [u8]) -> Result<Time, Fault> {
+        time_of(time_from_sql(raw)?)
+    }
+
+    fn from_sql_null(_alloc: Global, _ty: &PgType) -> Result<Time, Fault> {
+        Err(Fault::WasNull)
+    }
+
+    #[tactic(auto, using(pg_base::proofs::DerivedTypes::eq_content))]
+    fn accepts(ty: &PgType) -> bool {
+        *ty == PgType::TIME
+    }
+}
+
+/// TIMESTAMP: 8 bytes, highest first, in two's complement, the microseconds from 2000-01-01 00:00:00
+/// (`timestamp_recv`). Any other length is `Size`, a moment before -9999-01-01 00:00:00 or after
+/// 9999-12-31 is `Decode`, the two counts that PostgreSQL takes for infinities included, and NULL is
+/// `WasNull`.
+impl<'a> FromSql<'a> for DateTime {
+    ghost same = { λ v w. civil_nanos v ≡ civil_nanos w };
+
+    ghost accepted = { is_row TimestampRow };
+
+    ghost reads = { λ _. ReadsDateTime };
+
+    ghost memory_free = { EveryCell };
+
+    ghost equivalence = { content_equivalence civil_nanos };
+
+    ghost single = { λ _ _. plain_single (λ v w. civil_nanos v ≡ civil_nanos w) (FormCount w64 first_civil last_civil (IsAfterBase civil_nanos)) (first_fault_count w64 first_civil last_civil) datetime_grammar };
+
+    #[tactic(auto, using(pg_base::specs::CivilLaws::answered_8))]
+    fn from_sql(_alloc: Global, _ty: &PgType, raw: &'a [u8]) -> Result<DateTime, Fault> {
+        datetime_of(timestamp_from_sql(raw)?)
+    }
+
+    fn from_sql_null(_alloc: Global, _ty: &PgType) -> Result<DateTime, Fault> {
+        Err(Fault::WasNull)
+    }
+
+    #[tactic(auto, using(pg_base::proofs::DerivedTypes::eq_content))]
+    fn accepts(ty: &PgType) -> bool {
+        *ty == PgType::TIMESTAMP
+    }
+}
+
+/// TIMESTAMPTZ: 8 bytes, highest first, in two's complement, the microseconds from 2000-01-01 00:00:00
+/// UTC (`timestamptz_recv`). Any other length is `Size`, an instant before [`Timestamp::MIN`] or after
+/// [`Timestamp::MAX`] is `Decode`, the two counts that PostgreSQL takes for infinities included, and
+/// NULL is `WasNull`.
+impl<'a> FromSql<'a> for Timestamp {
+    ghost same = { λ v w. instant_nanos v ≡ instant_nanos w };
+
+    ghost accepted = { is_row Timestamptz };
+
+    ghost reads = { λ _. ReadsInstant };
+
+    ghost memory_free = { EveryCell };
+
+    ghost equivalence = { content_equivalence instant_nanos };
+
+    ghost single = { λ _ _. plain_single (λ v w. instant_nanos v ≡ instant_nanos w) (FormCount w64 first_instant last_instant (IsAfterBase instant_nanos)) (first_fault_count w64 first_instant last_instant) instant_grammar };
+
+    #[tactic(auto, using(pg_base::specs::CivilLaws::answered_8))]
+    fn from_sql(_alloc: Global, _ty: &PgType, raw: &'a [u8]) -> Result<Timestamp, Fault> {
+        instant_of(timestamp_from_sql(raw)?)
+    }
+
+    fn from_sql_null(_alloc: Global, _ty: &PgType) -> Result<Timestamp, Fault> {
+        Err(Fault::WasNull)
+    }
+
+    #[tactic(auto, using(pg_base::proofs::DerivedTypes::eq_content))]
+    fn accepts(ty: &PgType) -> bool {
+        *ty == PgType::TIMESTAMPTZ
+    }
+}

@@ -1,0 +1,243 @@
+//! Writing dates, times of day, and moments of `jiff`.
+ghost use Rattle.std.specs.Prelude.{◌≡◌, ◌/◌, ◌-ℤ◌, pos, true, codes, refl};
+ghost use Rattle.jiff.specs.Words.{civil_nanos, epoch_day, time_nanos};
+ghost use Rattle.pg_base.specs.Civil.{base_day, instant_nanos, wire_date, wire_datetime, wire_instant, wire_time};
+ghost use Rattle.pg_base.specs.Content.{is_row};
+ghost use Rattle.pg_base.specs.Moments.{cut_micros};
+ghost use Rattle.pg_base.specs.declared.format.Format.TheVariants.{Binary};
+ghost use Rattle.pg_base.specs.declared.types.built_in.BuiltIn.TheVariants.{Date as DateRow, Time as TimeRow, Timestamp as TimestampRow, Timestamptz};
+ghost use Rattle.pg_write.specs.Writing.{checked_by};
+
+use crate::to_sql::{ToSql, wrong_type};
+use bytes::BytesMut;
+use jiff::Timestamp;
+use jiff::civil::{Date, DateTime, Time};
+use pg_base::fault::Fault;
+use pg_base::format::{Format, IsNull};
+use pg_base::protocol::{date_to_sql, time_to_sql, timestamp_to_sql};
+use pg_base::types::PgType;
+use std::alloc::Global;
+
+/// 2000-01-01, from which PostgreSQL counts, in days from 1970-01-01.
+const BASE_DAY: i32 = 10_957;
+
+/// 2000-01-01 00:00:00, from which PostgreSQL counts, in nanoseconds from 1970-01-01 00:00:00.
+const BASE_NANOS: i128 = 946_684_800_000_000_000;
+
+/// The days from 2000-01-01 to a date.
+fn days_of(date: Date) -> i32
+    ensures { result ≡ epoch_day date -ℤ base_day }
+{
+    date.to_plain().to_unix_epoch_day() - BASE_DAY
+}
+
+/// The microseconds from midnight to a time, cut.
+fn micros_of_time(time: Time) -> i64
+    ensures { result ≡ pos (time_nanos time / 1000) }
+{
+    (time.to_plain().to_nanosecond() / 1_000) as i64
+}
+
+/// The microseconds from 2000-01-01 00:00:00 to a moment on a clock, cut toward it.
+fn micros_of_datetime(datetime: DateTime) -> i64
+    ensures { result ≡ cut_micros (civil_nanos datetime) }
+{
+    ((datetime.to_plain().to_nanosecond() - BASE_NANOS) / 1_000) as i64
+}
+
+/// The microseconds from 2000-01-01 00:00:00 UTC to an instant, cut toward it.
+fn micros_of_instant(instant: Timestamp) -> i64
+    ensures { result ≡ cut_micros (instant_nanos instant) }
+{
+    ((instant.as_nanosecond() - BASE_NANOS) / 1_000) as i64
+}
+
+/// DATE: 4 bytes, highest first, in two's complement, the days from 2000-01-01 (`date_send`). No date
+/// is refused, and none is written as one of the two counts that PostgreSQL takes for infinities.
+impl ToSql for Date {
+    ghost accepted = { is_row DateRow };
+
+    ghost name = { codes "jiff::civil::Date" };
+
+    ghost wire = { λ _ v. wire_date v };
+
+    ghost checked = { λ ty v. checked_by (is_row DateRow ty) ty (codes "jiff::civil::Date") (wire_date v) };
+
+    ghost format = { λ _ _. Binary };
+
+    ghost by_room = { λ _. Unit {0} };
+
+    ghost refuses_memory_free = { true };
+
+    fn to_sql(&self, alloc: Global, _ty: &PgType, out: &mut BytesMut) -> Result<IsNull, Fault> {
+        date_to_sql(alloc, days_of(*self), out)?;
+        Ok(IsNull::No)
+    }
+
+    #[tactic(auto, using(pg_base::proofs::DerivedTypes::eq_content))]
+    fn accepts(ty: &PgType) -> bool {
+        *ty == PgType::DATE
+    }
+
+    fn to_sql_checked(
+        &self,
+        alloc: Global,
+        ty: &PgType,
+        out: &mut BytesMut,
+    ) -> Result<IsNull, Fault> {
+        if <Date as ToSql>::accepts(ty) {
+            self.to_sql(alloc, ty, out)
+        } else {
+            Err(wrong_type(ty, "jiff::civil::Date"))
+        }
+    }
+
+    fn encode_format(&self, _ty: &PgType) -> Format {
+        Format::Binary
+    }
+
+    ghost checks = { λ _ _. refl };
+}
+
+/// TIME: 8 bytes, highest first, in two's complement, the microseconds from midnight, cut
+/// (`time_send`). No time is refused.
+impl ToSql for Time {
+    ghost accepted = { is_row TimeRow };
+
+    ghost name = { codes "jiff::civil::Time" };
+
+    ghost wire = { λ _ v. wire_time v };
+
+    ghost checked = { λ ty v. checked_by (is_row TimeRow ty) ty (codes "jiff::civil::Time") (wire_time v) };
+
+    ghost format = { λ _ _. Binary };
+
+    ghost by_room = { λ _. Unit {0} };
+
+    ghost refuses_memory_free = { true };
+
+    fn to_sql(&self, alloc: Global, _ty: &PgType, out: &mut BytesMut) -> Result<IsNull, Fault> {
+        time_to_sql(alloc, micros_of_time(*self), out)?;
+        Ok(IsNull::No)
+    }
+
+    #[tactic(auto, using(pg_base::proofs::DerivedTypes::eq_content))]
+    fn accepts(ty: &PgType) -> bool {
+        *ty == PgType::TIME
+    }
+
+    fn to_sql_checked(
+        &self,
+        alloc: Global,
+        ty: &PgType,
+        out: &mut BytesMut,
+    ) -> Result<IsNull, Fault> {
+        if <Time as ToSql>::accepts(ty) {
+            self.to_sql(alloc, ty, out)
+        } else {
+            Err(wrong_type(ty, "jiff::civil::Time"))
+        }
+    }
+
+    fn encode_format(&self, _ty: &PgType) -> Format {
+        Format::Binary
+    }
+
+    ghost checks = { λ _ _. refl };
+}
+
+/// TIMESTAMP: 8 bytes, highest first, in two's complement, the microseconds from 2000-01-01 00:00:00,
+/// cut toward it on both sides (`timestamp_send`). No moment is refused, and none is written as one of
+/// the two counts that PostgreSQL takes for infinities.
+impl ToSql for DateTime {
+    ghost accepted = { is_row TimestampRow };
+
+    ghost name = { codes "jiff::civil::DateTime" };
+
+    ghost wire = { λ _ v. wire_datetime v };
+
+    ghost checked = { λ ty v. checked_by (is_row TimestampRow ty) ty (codes "jiff::civil::DateTime") (wire_datetime v) };
+
+    ghost format = { λ _ _. Binary };
+
+    ghost by_room = { λ _. Unit {0} };
+
+    ghost refuses_memory_free = { true };
+
+    fn to_sql(&self, alloc: Global, _ty: &PgType, out: &mut BytesMut) -> Result<IsNull, Fault> {
+        timestamp_to_sql(alloc, micros_of_datetime(*self), out)?;
+        Ok(IsNull::No)
+    }
+
+    #[tactic(auto, using(pg_base::proofs::DerivedTypes::eq_content))]
+    fn accepts(ty: &PgType) -> bool {
+        *ty == PgType::TIMESTAMP
+    }
+
+    fn to_sql_checked(
+        &self,
+        alloc: Global,
+        ty: &PgType,
+        out: &mut BytesMut,
+    ) -> Result<IsNull, Fault> {
+        if <DateTime as ToSql>::accepts(ty) {
+            self.to_sql(alloc, ty, out)
+        } else {
+            Err(wrong_type(ty, "jiff::civil::DateTime"))
+        }
+    }
+
+    fn encode_format(&self, _ty: &PgType) -> Format {
+        Format::Binary
+    }
+
+    ghost checks = { λ _ _. refl };
+}
+
+/// TIMESTAMPTZ: 8 bytes, highest first, in two's complement, the microseconds from 2000-01-01 00:00:00
+/// UTC, cut toward it on both sides (`timestamptz_send`). No instant is refused, and none is written
+/// as one of the two counts that PostgreSQL takes for infinities.
+impl ToSql for Timestamp {
+    ghost accepted = { is_row Timestamptz };
+
+    ghost name = { codes "jiff::Timestamp" };
+
+    ghost wire = { λ _ v. wire_instant v };
+
+    ghost checked = { λ ty v. checked_by (is_row Timestamptz ty) ty (codes "jiff::Timestamp") (wire_instant v) };
+
+    ghost format = { λ _ _. Binary };
+
+    ghost by_room = { λ _. Unit {0} };
+
+    ghost refuses_memory_free = { true };
+
+    fn to_sql(&self, alloc: Global, _ty: &PgType, out: &mut BytesMut) -> Result<IsNull, Fault> {
+        timestamp_to_sql(alloc, micros_of_instant(*self), out)?;
+        Ok(IsNull::No)
+    }
+
+    #[tactic(auto, using(pg_base::proofs::DerivedTypes::eq_content))]
+    fn accepts(ty: &PgType) -> bool {
+        *ty == PgType::TIMESTAMPTZ
+    }
+
+    fn to_sql_checked(
+        &self,
+        alloc: Global,
+        ty: &PgType,
+        out: &mut BytesMut,
+    ) -> Result<IsNull, Fault> {
+        if <Timestamp as ToSql>::accepts(ty) {
+            self.to_sql(alloc, ty, out)
+        } else {
+            Err(wrong_type(ty, "jiff::Timestamp"))
+        }
+    }
+
+    fn encode_format(&self, _ty: &PgType) -> Format {
+        Format::Binary
+    }
+
+    ghost checks = { λ _ _. refl };
+}
