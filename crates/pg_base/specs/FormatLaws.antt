@@ -14,7 +14,7 @@ use Rattle.pg_base.specs.Formats.{IsGrammar}
 use Rattle.pg_base.specs.Numbers.{FormSigned, FormUnsigned, FormBool, first_fault_number}
 use Rattle.pg_base.specs.Texts.{FormText, first_fault_text}
 
-length-bytes_high_first : (k n : ℕ) → length (bytes_high_first k n) ≡ k
+pub length-bytes_high_first : (k n : ℕ) → length (bytes_high_first k n) ≡ k
 length-bytes_high_first zero n = refl
 length-bytes_high_first (suc k) n = ap suc (length-bytes_high_first k n)
 

@@ -16,4 +16,5 @@ mod network;
 mod numbers;
 mod options;
 pub mod private;
+mod special;
 mod texts;
