@@ -9,10 +9,10 @@ use Rattle.pg_base.specs.SpecialLaws.{infinity_width, minus_infinity_width, infi
 use Rattle.pg_read.specs.Reading.{ReadsSingle}
 
 module _ {A : Type 0} (w : Width) (same : A → A → Type 0) (reads : Cell → Outcome A → Type 0) (single : ReadsSingle same reads) (b : List ℕ) where
-  Forms : Special A → Type 0
+  abbrev Forms : Special A → Type 0
   Forms = FormSpecial w (λ v. reads (Some b) (Ok v)) b
 
-  Refused : Refusal → Type 0
+  abbrev Refused : Refusal → Type 0
   Refused = RefusedSpecial w (λ f. reads (Some b) (Err f)) b
 
   one_form : (s t : Special A) → Forms s → Forms t → SameSpecial same s t

@@ -1,4 +1,5 @@
 //! Reading dates and moments with infinities.
+ghost use Rattle.std.specs.Prelude.{Some};
 ghost use Rattle.std.specs.Int.{w32, w64};
 ghost use Rattle.pg_base.specs.Options.{NoneOr};
 ghost use Rattle.pg_base.specs.Special.{ReadsSpecial, SameSpecial, accepted_date, accepted_timestamp, date_seen, timestamp_seen};
@@ -29,6 +30,7 @@ impl<'a, T: FromSql<'a>> FromSql<'a> for Date<T> {
 
     ghost single = { λ ty ok. special_single w32 date_seen T.same (T.reads ty) (T.single ty (inside_accepted _ _ ok)) };
 
+    #[tactic(auto, using(pg_base::proofs::SpecialLemmas::finite_date))]
     fn from_sql(alloc: Global, ty: &PgType, raw: &'a [u8]) -> Result<Date<T>, Fault> {
         let days = int4_from_sql(raw)?;
         if days == i32::MAX {
@@ -49,5 +51,46 @@ impl<'a, T: FromSql<'a>> FromSql<'a> for Date<T> {
 
     fn accepts(ty: &PgType) -> bool {
         is_date(ty) && T::accepts(ty)
+    }
+}
+
+/// TIMESTAMP and TIMESTAMPTZ where `T` reads them: 8 bytes, else `Size` (`timestamp_recv`,
+/// `timestamptz_recv`). The greatest number is
+/// `PosInfinity` and the least `NegInfinity`, whatever `T` says of them. Any other is `Value` of
+/// `T`'s value, or `T`'s fault. NULL is `WasNull`, whatever `T` says of it.
+impl<'a, T: FromSql<'a>> FromSql<'a> for Timestamp<T> {
+    ghost same = { λ v w. SameSpecial T.same (timestamp_seen v) (timestamp_seen w) };
+
+    ghost accepted = { accepted_timestamp T.accepted };
+
+    ghost reads = { λ ty. ReadsSpecial w64 timestamp_seen (T.reads ty) };
+
+    ghost memory_free = { NoneOr (λ b. T.memory_free (Some b)) };
+
+    ghost equivalence = { special_equivalence T.same T.equivalence timestamp_seen };
+
+    ghost single = { λ ty ok. special_single w64 timestamp_seen T.same (T.reads ty) (T.single ty (inside_accepted _ _ ok)) };
+
+    #[tactic(auto, using(pg_base::proofs::SpecialLemmas::finite_timestamp))]
+    fn from_sql(alloc: Global, ty: &PgType, raw: &'a [u8]) -> Result<Timestamp<T>, Fault> {
+        let micros = timestamp_from_sql(raw)?;
+        if micros == i64::MAX {
+            return Ok(Timestamp::PosInfinity);
+        }
+        if micros == i64::MIN {
+            return Ok(Timestamp::NegInfinity);
+        }
+        match T::from_sql(alloc, ty, raw) {
+            Ok(value) => Ok(Timestamp::Value(value)),
+            Err(fault) => Err(fault),
+        }
+    }
+
+    fn from_sql_null(_alloc: Global, _ty: &PgType) -> Result<Timestamp<T>, Fault> {
+        Err(Fault::WasNull)
+    }
+
+    fn accepts(ty: &PgType) -> bool {
+        is_moment(ty) && T::accepts(ty)
     }
 }

@@ -15,5 +15,6 @@ mod network;
 mod numbers;
 mod options;
 mod references;
+mod special;
 mod texts;
 pub mod to_sql;
