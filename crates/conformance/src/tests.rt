@@ -1,5 +1,6 @@
 mod bits;
 mod bytes;
+mod days;
 mod faults;
 mod framed;
 mod hstore;
@@ -9,13 +10,14 @@ mod moments;
 mod names;
 mod network;
 mod numbers;
+mod special;
 mod texts;
 mod types;
 mod user;
 mod writing;
 
 use postgres_types::private::BytesMut;
-use postgres_types::{Fault, FromSql, IsNull, ToSql, Type, from_sql_nullable};
+use postgres_types::{Fault, FromSql, IsNull, ToSql, Type, from_sql_nullable, rewrite};
 use std::alloc::Global;
 use std::fmt::Debug;
 use std::process::Abort;
@@ -59,6 +61,20 @@ fn reads<'a, T: FromSql<'a> + PartialEq + Debug>(
 ) -> Result<(), Fail> {
     let found: T = read(alloc, ty, Some(cell))?;
     assert!(rt; found == value);
+    Ok(())
+}
+
+/// The cell is read as a `T` and written as that other cell.
+fn rewrites<'a, T: FromSql<'a> + ToSql>(
+    rt: &impl Abort,
+    alloc: Global,
+    ty: &Type,
+    cell: &'a [u8],
+    written: &[u8],
+) -> Result<(), Fail> {
+    let mut out = BytesMut::new(alloc);
+    assert_eq!(rt; rewrite::<T>(alloc, ty, Some(cell), &mut out)?, IsNull::No);
+    assert_eq!(rt; out.as_slice(), written);
     Ok(())
 }
 

@@ -1,5 +1,7 @@
 //! Dates and moments with PostgreSQL's infinities.
 
+pub mod laws;
+
 /// A date, or PostgreSQL's `infinity` or `-infinity` in a cell of DATE.
 #[derive(Debug, Clone, Copy, PartialEq, Eq, Drop)]
 pub enum Date<T> {

@@ -1,9 +1,9 @@
-use super::{reads, refusal, writes};
+use super::{reads, refusal, rewrites, writes};
 use postgres_types::private::BytesMut;
 use postgres_types::protocol::{
     inet_from_sql, inet_to_sql, macaddr_from_sql, macaddr_to_sql, uuid_from_sql, uuid_to_sql,
 };
-use postgres_types::{Fault, FromSql, IpCidr, IpInet, IsNull, MacAddress, ToSql, Type, rewrite};
+use postgres_types::{Fault, IpCidr, IpInet, MacAddress, ToSql, Type};
 use std::alloc::Global;
 use std::net::{IpAddr, Ipv4Addr, Ipv6Addr};
 use std::process::Abort;
@@ -20,20 +20,6 @@ fn v6_cell(netmask: u8, n: u8) -> [u8; 20] {
     [
         3, netmask, 0, 16, 0x20, 0x01, 0x0d, 0xb8, 0, 0, 0, 0, 0, 0, 0, 0, 0, 0, 0, n,
     ]
-}
-
-/// The cell is read as a `T` and written as that other cell.
-fn rewrites<'a, T: FromSql<'a> + ToSql>(
-    rt: &impl Abort,
-    alloc: Global,
-    ty: &Type,
-    cell: &'a [u8],
-    written: &[u8],
-) -> Result<(), Fail> {
-    let mut out = BytesMut::new(alloc);
-    assert_eq!(rt; rewrite::<T>(alloc, ty, Some(cell), &mut out)?, IsNull::No);
-    assert_eq!(rt; out.as_slice(), written);
-    Ok(())
 }
 
 /// The number of the fault of what was made; 0 where there is none.
