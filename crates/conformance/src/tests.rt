@@ -1,6 +1,7 @@
 mod bits;
 mod bytes;
 mod civil;
+mod days;
 mod debug;
 mod faults;
 mod framed;
@@ -11,6 +12,7 @@ mod moments;
 mod names;
 mod network;
 mod numbers;
+mod special;
 mod texts;
 mod types;
 mod user;

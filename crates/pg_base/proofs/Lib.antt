@@ -9,4 +9,5 @@ pub mod HstoreSteps
 pub mod LsnLemmas
 pub mod Octets
 pub mod PadLemmas
+pub mod SpecialLemmas
 pub mod TextLemmas

@@ -35,7 +35,7 @@ pub check_failed : (xs ys : Checks) (s : Refusal) → first_fault_of xs ≡ Some
 check_failed [] ys s e = let no : ⊥ = cc in absurd no
 check_failed (x ∷ xs) ys s e = failed_by x.0 x.1 s xs ys (check_failed xs ys s) e
 
-length-bytes_high_first : (k n : ℕ) → length (bytes_high_first k n) ≡ k
+pub length-bytes_high_first : (k n : ℕ) → length (bytes_high_first k n) ≡ k
 length-bytes_high_first zero n = refl
 length-bytes_high_first (suc k) n = ap suc (length-bytes_high_first k n)
 

@@ -30,4 +30,6 @@ pub mod Numbers
 pub mod Options
 pub mod Sameness
 pub mod Seen
+pub mod Special
+pub mod SpecialLaws
 pub mod Texts

@@ -1,7 +1,8 @@
 //! Tests of acceptance that reading and writing share.
 ghost use Rattle.std.specs.Prelude.{◌≡◌, codes};
+ghost use Rattle.pg_base.specs.declared.types.built_in.BuiltIn.TheVariants.{Date};
 ghost use Rattle.pg_base.specs.Bits.{accepted_bits};
-ghost use Rattle.pg_base.specs.Content.{content};
+ghost use Rattle.pg_base.specs.Content.{content, is_row};
 ghost use Rattle.pg_base.specs.Moments.{accepted_moment};
 ghost use Rattle.pg_base.specs.Texts.{accepted_text, has_version, is_named};
 
@@ -53,4 +54,12 @@ pub fn is_moment(ty: &PgType) -> bool
     ensures { result ≡ accepted_moment (content ty.now) }
 {
     *ty == PgType::TIMESTAMP || *ty == PgType::TIMESTAMPTZ
+}
+
+/// Whether dates are read from cells of that type and written to them: DATE.
+#[tactic(auto, using(crate::proofs::DerivedTypes::eq_content))]
+pub fn is_date(ty: &PgType) -> bool
+    ensures { result ≡ is_row Date (content ty.now) }
+{
+    *ty == PgType::DATE
 }

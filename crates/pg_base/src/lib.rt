@@ -11,5 +11,6 @@ pub mod format;
 pub mod lsn;
 pub mod network;
 pub mod protocol;
+pub mod special;
 pub mod types;
 pub mod unix_time;

@@ -2,3 +2,4 @@
 pub mod Framed
 pub mod OptionReading
 pub mod Reading
+pub mod SpecialReading

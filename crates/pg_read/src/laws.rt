@@ -8,6 +8,7 @@ use jiff::civil::{Date, DateTime, Time};
 use pg_base::bits::BitVec;
 use pg_base::lsn::PgLsn;
 use pg_base::network::{IpCidr, IpInet, MacAddress};
+use pg_base::special::{Date, Timestamp};
 use pg_base::unix_time::UnixTime;
 use std::borrow::CowStr;
 use std::boxed::BoxedStr;
@@ -48,6 +49,8 @@ pub fn types_read_without_memory() {
     never_answers_memory::<MacAddress>();
     never_answers_memory::<Uuid>();
     never_answers_memory::<Option<i32>>();
+    never_answers_memory::<Date<UnixTime>>();
+    never_answers_memory::<Timestamp<UnixTime>>();
 }
 
 /// The types whose NULL is read without memory, although their values may take some.
@@ -58,4 +61,6 @@ pub fn types_whose_null_is_read_without_memory() {
     never_answers_memory_at_null::<HashMap<String, Option<String>>>();
     never_answers_memory_at_null::<BitVec>();
     never_answers_memory_at_null::<Option<String>>();
+    never_answers_memory_at_null::<Date<String>>();
+    never_answers_memory_at_null::<Timestamp<String>>();
 }

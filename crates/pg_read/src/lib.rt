@@ -17,4 +17,5 @@ mod network;
 mod numbers;
 mod options;
 pub mod private;
+mod special;
 mod texts;

@@ -7,6 +7,7 @@ use jiff::civil::{Date, DateTime, Time};
 use pg_base::bits::BitVec;
 use pg_base::lsn::PgLsn;
 use pg_base::network::{IpCidr, IpInet, MacAddress};
+use pg_base::special::{Date, Timestamp};
 use pg_base::unix_time::UnixTime;
 use std::borrow::{CowSlice, CowStr};
 use std::boxed::BoxedStr;
@@ -56,6 +57,8 @@ pub fn types_that_keep_the_room_rule() {
     keeps_room_rule::<Uuid>();
     keeps_room_rule::<&i32>();
     keeps_room_rule::<Option<i32>>();
+    keeps_room_rule::<Date<UnixTime>>();
+    keeps_room_rule::<Timestamp<UnixTime>>();
 }
 
 /// The types whose refusal takes no memory, although their writing does.

@@ -16,5 +16,6 @@ mod network;
 mod numbers;
 mod options;
 mod references;
+mod special;
 mod texts;
 pub mod to_sql;

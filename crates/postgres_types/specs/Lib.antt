@@ -30,9 +30,12 @@ pub use Rattle.pg_base.specs.Numbers
 pub use Rattle.pg_base.specs.Options
 pub use Rattle.pg_base.specs.Sameness
 pub use Rattle.pg_base.specs.Seen
+pub use Rattle.pg_base.specs.Special
+pub use Rattle.pg_base.specs.SpecialLaws
 pub use Rattle.pg_base.specs.Texts
 pub use Rattle.pg_read.specs.Framed
 pub use Rattle.pg_read.specs.OptionReading
 pub use Rattle.pg_read.specs.Reading
+pub use Rattle.pg_read.specs.SpecialReading
 pub use Rattle.pg_write.specs.OptionWriting
 pub use Rattle.pg_write.specs.Writing

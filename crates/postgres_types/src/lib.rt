@@ -13,6 +13,7 @@ pub use pg_base::format::{Format, IsNull};
 pub use pg_base::lsn::{ParseLsnError, PgLsn};
 pub use pg_base::network::{IpCidr, IpInet, MacAddress};
 pub use pg_base::protocol;
+pub use pg_base::special::{Date, Timestamp};
 pub use pg_base::types::{Field, Kind, KindRef, Oid, PgType as Type};
 pub use pg_base::unix_time::UnixTime;
 pub use pg_read::from_sql::{FromSql, from_sql_nullable};

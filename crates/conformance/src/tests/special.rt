@@ -1,0 +1,176 @@
+use super::days::{Days, NoDay};
+use super::{reads, refusal, rewrites, spells, writes};
+use pg_base::special::laws::{same_date, same_timestamp};
+use postgres_types::private::BytesMut;
+use postgres_types::{Date, Format, FromSql, IsNull, Timestamp, ToSql, Type, UnixTime};
+use std::alloc::Global;
+use std::process::Abort;
+use std::test::Fail;
+
+const LAST_DATE: [u8; 4] = [0x7f, 0xff, 0xff, 0xff];
+const FIRST_DATE: [u8; 4] = [0x80, 0, 0, 0];
+const LAST_MOMENT: [u8; 8] = [0x7f, 0xff, 0xff, 0xff, 0xff, 0xff, 0xff, 0xff];
+const FIRST_MOMENT: [u8; 8] = [0x80, 0, 0, 0, 0, 0, 0, 0];
+
+fn unix(secs: i64, nanos: u32) -> Result<UnixTime, Fail> {
+    match UnixTime::new(secs, nanos) {
+        Some(moment) => Ok(moment),
+        None => Err(Fail::from("no moment")),
+    }
+}
+
+/// The value is written as NULL, which appends nothing.
+fn writes_null<T: ToSql>(
+    rt: &impl Abort,
+    alloc: Global,
+    value: &T,
+    ty: &Type,
+) -> Result<(), Fail> {
+    let mut out = BytesMut::copy_from_slice(alloc, b"before")?;
+    assert_eq!(rt; value.to_sql_checked(alloc, ty, &mut out)?, IsNull::Yes);
+    assert_eq!(rt; out.as_slice(), b"before".as_slice());
+    Ok(())
+}
+
+/// The type is refused, under that name.
+fn refuses_type<T: ToSql>(
+    rt: &impl Abort,
+    alloc: Global,
+    value: &T,
+    ty: &Type,
+    text: &str,
+) -> Result<(), Fail> {
+    let mut out = BytesMut::new(alloc);
+    let Err(fault) = value.to_sql_checked(alloc, ty, &mut out) else {
+        return Err(Fail::from("accepted"));
+    };
+    assert_eq!(rt; fault.code(), 3);
+    assert_eq!(rt; format!(in alloc; "{fault}")?.as_str(), text);
+    assert!(rt; out.is_empty());
+    Ok(())
+}
+
+#[test]
+fn dates_have_infinities(rt: HostRuntime) -> Result<(), Fail> {
+    let alloc = rt.alloc();
+    let rows: [(Date<Days>, &[u8]); 5] = [
+        (Date::PosInfinity, &LAST_DATE),
+        (Date::NegInfinity, &FIRST_DATE),
+        (Date::Value(Days(3)), &[0, 0, 0, 3]),
+        (Date::Value(Days(i32::MAX - 1)), &[0x7f, 0xff, 0xff, 0xfe]),
+        (Date::Value(Days(i32::MIN + 1)), &[0x80, 0, 0, 1]),
+    ];
+    spells(&rt, alloc, &Type::DATE, &rows)?;
+    for (_, cell) in &rows {
+        rewrites::<Date<Days>>(&rt, alloc, &Type::DATE, *cell, *cell)?;
+    }
+    for cell in [&LAST_DATE[1..], &[0; 5]] {
+        assert_eq!(rt; refusal::<Date<Days>>(alloc, &Type::DATE, Some(cell)), 4);
+    }
+    assert_eq!(rt; refusal::<Date<Days>>(alloc, &Type::DATE, None), 2);
+    assert_eq!(rt; refusal::<Date<Option<Days>>>(alloc, &Type::DATE, None), 2);
+    writes_null(&rt, alloc, &Date::Value(None::<Days>), &Type::DATE)?;
+    assert_eq!(rt;
+        Date::Value(Days(3)).encode_format(&Type::DATE),
+        Format::Binary
+    );
+    Ok(())
+}
+
+#[test]
+fn infinities_are_tested_before_the_value(rt: HostRuntime) -> Result<(), Fail> {
+    let alloc = rt.alloc();
+    for (cell, code) in [(LAST_DATE, 0), (FIRST_DATE, 0), ([0, 0, 0, 3], 11)] {
+        assert_eq!(rt; refusal::<Date<NoDay>>(alloc, &Type::DATE, Some(&cell)), code);
+        assert_eq!(rt; refusal::<NoDay>(alloc, &Type::DATE, Some(&cell)), 11);
+    }
+    assert_eq!(rt; refusal::<Date<NoDay>>(alloc, &Type::DATE, Some(&[0; 5])), 4);
+    let greatest = Date::Value(Days(i32::MAX));
+    writes(&rt, alloc, &greatest, &Type::DATE, &LAST_DATE)?;
+    let inner: Date<Date<Days>> = Date::Value(Date::PosInfinity);
+    writes(&rt, alloc, &inner, &Type::DATE, &LAST_DATE)?;
+    let outer: Date<Date<Days>> = Date::PosInfinity;
+    reads(&rt, alloc, &Type::DATE, &LAST_DATE, outer)?;
+    let last = Timestamp::Value(unix(9_224_318_721_654, 775_807_000)?);
+    writes(&rt, alloc, &last, &Type::TIMESTAMP, &LAST_MOMENT)?;
+    let infinity: Timestamp<UnixTime> = Timestamp::PosInfinity;
+    reads(&rt, alloc, &Type::TIMESTAMP, &LAST_MOMENT, infinity)
+}
+
+#[test]
+fn moments_have_infinities(rt: HostRuntime) -> Result<(), Fail> {
+    let alloc = rt.alloc();
+    let rows: [(Timestamp<UnixTime>, &[u8]); 4] = [
+        (Timestamp::PosInfinity, &LAST_MOMENT),
+        (Timestamp::NegInfinity, &FIRST_MOMENT),
+        (Timestamp::Value(unix(946_684_800, 0)?), &[0; 8]),
+        (Timestamp::Value(unix(946_684_799, 999_999_000)?), &[0xff; 8]),
+    ];
+    for ty in [Type::TIMESTAMP, Type::TIMESTAMPTZ] {
+        spells(&rt, alloc, &ty, &rows)?;
+        for (_, cell) in &rows {
+            rewrites::<Timestamp<UnixTime>>(&rt, alloc, &ty, *cell, *cell)?;
+        }
+        for cell in [LAST_DATE.as_slice(), &LAST_MOMENT[1..], &[0; 9]] {
+            assert_eq!(rt; refusal::<Timestamp<UnixTime>>(alloc, &ty, Some(cell)), 4);
+        }
+        assert_eq!(rt; refusal::<Timestamp<UnixTime>>(alloc, &ty, None), 2);
+        assert_eq!(rt; refusal::<Timestamp<Option<UnixTime>>>(alloc, &ty, None), 2);
+        writes_null(&rt, alloc, &Timestamp::Value(None::<UnixTime>), &ty)?;
+        assert_eq!(rt; rows[2].0.encode_format(&ty), Format::Binary);
+    }
+    let far = Timestamp::Value(unix(9_224_318_721_654, 775_808_000)?);
+    let mut out = BytesMut::new(alloc);
+    let refused = far.to_sql(alloc, &Type::TIMESTAMP, &mut out);
+    assert_eq!(rt; refused.err().map(|fault| fault.code()), Some(12));
+    assert!(rt; out.is_empty());
+    Ok(())
+}
+
+#[test]
+fn infinities_accept_what_the_value_does(rt: HostRuntime) -> Result<(), Fail> {
+    let alloc = rt.alloc();
+    assert!(rt; <Date<Days> as FromSql>::accepts(&Type::DATE));
+    assert!(rt; !<Date<UnixTime> as FromSql>::accepts(&Type::DATE));
+    assert!(rt; !<Date<UnixTime> as FromSql>::accepts(&Type::TIMESTAMP));
+    assert!(rt; !<Timestamp<Days> as FromSql>::accepts(&Type::TIMESTAMP));
+    assert!(rt; !<Timestamp<Days> as FromSql>::accepts(&Type::DATE));
+    let value = Date::Value(unix(0, 0)?);
+    refuses_type(
+        &rt,
+        alloc,
+        &value,
+        &Type::DATE,
+        "cannot convert between the Rust type `Date` and the Postgres type `date`",
+    )?;
+    refuses_type(
+        &rt,
+        alloc,
+        &Timestamp::Value(Days(0)),
+        &Type::TIMESTAMP,
+        "cannot convert between the Rust type `Timestamp` and the Postgres type `timestamp`",
+    )
+}
+
+#[test]
+fn infinities_are_compared_and_shown(rt: HostRuntime) -> Result<(), Fail> {
+    let alloc = rt.alloc();
+    let (day, end): (Date<Days>, Date<Days>) = (Date::Value(Days(3)), Date::PosInfinity);
+    assert!(rt; day == day.clone()?);
+    assert!(rt; same_date(&day, &Date::Value(Days(3))));
+    assert!(rt; !same_date(&day, &Date::Value(Days(4))));
+    assert!(rt; !same_date(&end, &Date::NegInfinity));
+    assert_eq!(rt; format!(in alloc; "{day:?}")?.as_str(), "Value(Days(3))");
+    assert_eq!(rt; format!(in alloc; "{end:?}")?.as_str(), "PosInfinity");
+    let moment = Timestamp::Value(unix(1, 0)?);
+    let start: Timestamp<UnixTime> = Timestamp::NegInfinity;
+    assert!(rt; moment == moment.clone()?);
+    assert!(rt; same_timestamp(&start, &start.clone()?));
+    assert!(rt; !same_timestamp(&start, &moment));
+    assert_eq!(rt; format!(in alloc; "{start:?}")?.as_str(), "NegInfinity");
+    assert_eq!(rt;
+        format!(in alloc; "{moment:?}")?.as_str(),
+        "Value(UnixTime { secs: 1, nanos: 0 })"
+    );
+    Ok(())
+}

@@ -1,0 +1,91 @@
+-- A value or an infinity: DATE in 4 bytes (date_send, date_recv), TIMESTAMP and TIMESTAMPTZ in 8 (timestamp_send,
+-- timestamp_recv, timestamptz_send, timestamptz_recv), of which the greatest number and the least are the infinities.
+use Rattle.std.specs.Prelude.{◌≡◌, ◌≢◌, ◌⊎◌, ◌-◌, ◌^◌, ℕ, pos, negsuc, List, length, Some, None, Ok, Err, Bool, ◌&&◌}
+use Rattle.std.specs.Int.{Width, byte_len}
+use mir.Val.{bits}
+use Rattle.pg_base.specs.declared.special.Date.{Date}
+use Rattle.pg_base.specs.declared.special.Date.TheVariants.{PosInfinity as AfterDates, NegInfinity as BeforeDates, Value as OneDate}
+use Rattle.pg_base.specs.declared.special.Timestamp.{Timestamp}
+use Rattle.pg_base.specs.declared.special.Timestamp.TheVariants.{PosInfinity as AfterMoments, NegInfinity as BeforeMoments, Value as OneMoment}
+use Rattle.pg_base.specs.declared.types.built_in.BuiltIn.TheVariants.{Date as DateRow}
+use Rattle.pg_base.specs.Appending.{Wire}
+use Rattle.pg_base.specs.Cells.{Cell, be}
+use Rattle.pg_base.specs.Content.{Content, is_row}
+use Rattle.pg_base.specs.Faults.{Refusal, Outcome, was_null, size}
+use Rattle.pg_base.specs.Moments.{accepted_moment}
+
+-- a value, or what comes after all values or before them
+pub data Special (A : Type 0) : Type 0 where
+  pos_infinity : Special A
+  neg_infinity : Special A
+  value : A → Special A
+
+-- what a date with infinities is
+abbrev pub date_seen : {A : Type 0} → Date A → Special A
+date_seen AfterDates = pos_infinity
+date_seen BeforeDates = neg_infinity
+date_seen (OneDate v) = value v
+
+-- what a moment with infinities is
+abbrev pub timestamp_seen : {A : Type 0} → Timestamp A → Special A
+timestamp_seen AfterMoments = pos_infinity
+timestamp_seen BeforeMoments = neg_infinity
+timestamp_seen (OneMoment v) = value v
+
+-- dates with infinities accept DATE where their values do
+abbrev pub accepted_date : (Content → Bool) → Content → Bool
+accepted_date inside ty = is_row DateRow ty && inside ty
+
+-- moments with infinities accept TIMESTAMP and TIMESTAMPTZ where their values do
+abbrev pub accepted_timestamp : (Content → Bool) → Content → Bool
+accepted_timestamp inside ty = accepted_moment ty && inside ty
+
+-- the bytes of infinity: those of the greatest number of the width
+abbrev pub infinity : Width → List ℕ
+infinity w = be w (pos (2 ^ (bits w - 1) - 1))
+
+-- the bytes of -infinity: those of the least
+abbrev pub minus_infinity : Width → List ℕ
+minus_infinity w = be w (negsuc (2 ^ (bits w - 1) - 1))
+
+-- the bytes have the width, and are no infinity
+pub record IsFiniteCell (w : Width) (b : List ℕ) : Type 0 where
+  pub width : length b ≡ byte_len w
+  pub not_infinity : b ≢ infinity w
+  pub not_minus_infinity : b ≢ minus_infinity w
+
+-- the bytes spell an infinity, or they are finite and a value's
+abbrev pub FormSpecial : {A : Type 0} → Width → (A → Type 0) → List ℕ → Special A → Type 0
+FormSpecial w form b pos_infinity = b ≡ infinity w
+FormSpecial w form b neg_infinity = b ≡ minus_infinity w
+FormSpecial w form b (value v) = IsFiniteCell w b × form v
+
+-- the bytes are refused: as Size where they have another width, and otherwise, if they are finite, as a value's are
+abbrev pub RefusedSpecial : Width → (Refusal → Type 0) → List ℕ → Refusal → Type 0
+RefusedSpecial w refused b r = ((length b ≢ byte_len w) × (r ≡ size)) ⊎ (IsFiniteCell w b × refused r)
+
+-- NULL is WasNull; an infinity is itself, before the value's reading is asked; all else is a value or its fault
+abbrev pub ReadsSpecial : {A B : Type 0} → Width → (B → Special A) → (Cell → Outcome A → Type 0) → Cell → Outcome B → Type 0
+ReadsSpecial w seen reads None (Ok s) = ⊥
+ReadsSpecial w seen reads None (Err r) = r ≡ was_null
+ReadsSpecial w seen reads (Some b) (Ok s) = FormSpecial w (λ v. reads (Some b) (Ok v)) b (seen s)
+ReadsSpecial w seen reads (Some b) (Err r) = RefusedSpecial w (λ f. reads (Some b) (Err f)) b r
+
+-- an infinity is written as its bytes, and a value as the value inside
+abbrev pub wire_special : {A : Type 0} → Width → (A → Wire) → Special A → Wire
+wire_special w wire pos_infinity = Ok (Some (infinity w))
+wire_special w wire neg_infinity = Ok (Some (minus_infinity w))
+wire_special w wire (value v) = wire v
+
+-- an infinity, or a value of which P holds
+abbrev pub InfinityOr : {A : Type 0} → (A → Type 0) → Special A → Type 0
+InfinityOr P pos_infinity = Unit {0}
+InfinityOr P neg_infinity = Unit {0}
+InfinityOr P (value v) = P v
+
+-- the same infinity, or the same value
+abbrev pub SameSpecial : {A : Type 0} → (A → A → Type 0) → Special A → Special A → Type 0
+SameSpecial same pos_infinity pos_infinity = Unit {0}
+SameSpecial same neg_infinity neg_infinity = Unit {0}
+SameSpecial same (value v) (value u) = same v u
+SameSpecial same _ _ = ⊥

@@ -1,0 +1,4 @@
+//! Reading dates and moments with infinities.
+
+mod date;
+mod timestamp;

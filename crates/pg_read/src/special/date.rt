@@ -1,0 +1,55 @@
+//! Reading dates with infinities.
+ghost use Rattle.std.specs.Prelude.{Some};
+ghost use Rattle.std.specs.Int.{w32};
+ghost use Rattle.pg_base.specs.Options.{NoneOr};
+ghost use Rattle.pg_base.specs.Special.{ReadsSpecial, SameSpecial, accepted_date, date_seen};
+ghost use Rattle.pg_base.specs.SpecialLaws.{special_equivalence, inside_accepted};
+ghost use Rattle.pg_read.specs.SpecialReading.{special_single};
+
+use crate::from_sql::FromSql;
+use pg_base::acceptance::is_date;
+use pg_base::fault::Fault;
+use pg_base::protocol::int4_from_sql;
+use pg_base::special::Date;
+use pg_base::types::PgType;
+use std::alloc::Global;
+
+/// DATE where `T` reads it: 4 bytes, else `Size` (`date_recv`). The greatest number is
+/// `PosInfinity` and the least `NegInfinity`, whatever `T` says of them. Any other is `Value` of
+/// `T`'s value, or `T`'s fault. NULL is `WasNull`, whatever `T` says of it.
+impl<'a, T: FromSql<'a>> FromSql<'a> for Date<T> {
+    ghost same = { λ v w. SameSpecial T.same (date_seen v) (date_seen w) };
+
+    ghost accepted = { accepted_date T.accepted };
+
+    ghost reads = { λ ty. ReadsSpecial w32 date_seen (T.reads ty) };
+
+    ghost memory_free = { NoneOr (λ b. T.memory_free (Some b)) };
+
+    ghost equivalence = { special_equivalence T.same T.equivalence date_seen };
+
+    ghost single = { λ ty ok. special_single w32 date_seen T.same (T.reads ty) (T.single ty (inside_accepted _ _ ok)) };
+
+    #[tactic(auto, using(pg_base::proofs::SpecialLemmas::finite_date))]
+    fn from_sql(alloc: Global, ty: &PgType, raw: &'a [u8]) -> Result<Date<T>, Fault> {
+        let days = int4_from_sql(raw)?;
+        if days == i32::MAX {
+            return Ok(Date::PosInfinity);
+        }
+        if days == i32::MIN {
+            return Ok(Date::NegInfinity);
+        }
+        match T::from_sql(alloc, ty, raw) {
+            Ok(value) => Ok(Date::Value(value)),
+            Err(fault) => Err(fault),
+        }
+    }
+
+    fn from_sql_null(_alloc: Global, _ty: &PgType) -> Result<Date<T>, Fault> {
+        Err(Fault::WasNull)
+    }
+
+    fn accepts(ty: &PgType) -> bool {
+        is_date(ty) && T::accepts(ty)
+    }
+}

@@ -1,0 +1,56 @@
+//! Reading moments with infinities.
+ghost use Rattle.std.specs.Prelude.{Some};
+ghost use Rattle.std.specs.Int.{w64};
+ghost use Rattle.pg_base.specs.Options.{NoneOr};
+ghost use Rattle.pg_base.specs.Special.{ReadsSpecial, SameSpecial, accepted_timestamp, timestamp_seen};
+ghost use Rattle.pg_base.specs.SpecialLaws.{special_equivalence, inside_accepted};
+ghost use Rattle.pg_read.specs.SpecialReading.{special_single};
+
+use crate::from_sql::FromSql;
+use pg_base::acceptance::is_moment;
+use pg_base::fault::Fault;
+use pg_base::protocol::timestamp_from_sql;
+use pg_base::special::Timestamp;
+use pg_base::types::PgType;
+use std::alloc::Global;
+
+/// TIMESTAMP and TIMESTAMPTZ where `T` reads them: 8 bytes, else `Size` (`timestamp_recv`,
+/// `timestamptz_recv`). The greatest number is `PosInfinity` and the least `NegInfinity`, whatever
+/// `T` says of them. Any other is `Value` of `T`'s value, or `T`'s fault. NULL is `WasNull`,
+/// whatever `T` says of it.
+impl<'a, T: FromSql<'a>> FromSql<'a> for Timestamp<T> {
+    ghost same = { λ v w. SameSpecial T.same (timestamp_seen v) (timestamp_seen w) };
+
+    ghost accepted = { accepted_timestamp T.accepted };
+
+    ghost reads = { λ ty. ReadsSpecial w64 timestamp_seen (T.reads ty) };
+
+    ghost memory_free = { NoneOr (λ b. T.memory_free (Some b)) };
+
+    ghost equivalence = { special_equivalence T.same T.equivalence timestamp_seen };
+
+    ghost single = { λ ty ok. special_single w64 timestamp_seen T.same (T.reads ty) (T.single ty (inside_accepted _ _ ok)) };
+
+    #[tactic(auto, using(pg_base::proofs::SpecialLemmas::finite_timestamp))]
+    fn from_sql(alloc: Global, ty: &PgType, raw: &'a [u8]) -> Result<Timestamp<T>, Fault> {
+        let micros = timestamp_from_sql(raw)?;
+        if micros == i64::MAX {
+            return Ok(Timestamp::PosInfinity);
+        }
+        if micros == i64::MIN {
+            return Ok(Timestamp::NegInfinity);
+        }
+        match T::from_sql(alloc, ty, raw) {
+            Ok(value) => Ok(Timestamp::Value(value)),
+            Err(fault) => Err(fault),
+        }
+    }
+
+    fn from_sql_null(_alloc: Global, _ty: &PgType) -> Result<Timestamp<T>, Fault> {
+        Err(Fault::WasNull)
+    }
+
+    fn accepts(ty: &PgType) -> bool {
+        is_moment(ty) && T::accepts(ty)
+    }
+}

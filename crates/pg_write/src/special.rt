@@ -1,0 +1,4 @@
+//! Writing dates and moments with infinities.
+
+mod date;
+mod timestamp;

@@ -1,0 +1,67 @@
+//! Writing dates with infinities.
+ghost use Rattle.std.specs.Prelude.{true, codes, refl};
+ghost use Rattle.std.specs.Int.{w32};
+ghost use Rattle.pg_base.specs.declared.format.Format.TheVariants.{Binary};
+ghost use Rattle.pg_base.specs.Special.{InfinityOr, accepted_date, date_seen, wire_special};
+ghost use Rattle.pg_write.specs.Writing.{checked_by};
+
+use crate::to_sql::{ToSql, wrong_type};
+use bytes::BytesMut;
+use pg_base::acceptance::is_date;
+use pg_base::fault::Fault;
+use pg_base::format::{Format, IsNull};
+use pg_base::protocol::int4_to_sql;
+use pg_base::special::Date;
+use pg_base::types::PgType;
+use std::alloc::Global;
+
+/// DATE where `T` writes it: `PosInfinity` is the greatest number of 4 bytes and `NegInfinity` the
+/// least (`date_send`). `Value` is written as `T` writes the value inside, NULL included.
+impl<T: ToSql> ToSql for Date<T> {
+    ghost accepted = { accepted_date T.accepted };
+
+    ghost name = { codes "Date" };
+
+    ghost wire = { λ ty v. wire_special w32 (T.wire ty) (date_seen v) };
+
+    ghost checked = { λ ty v. checked_by (accepted_date T.accepted ty) ty (codes "Date") (wire_special w32 (T.wire ty) (date_seen v)) };
+
+    ghost format = { λ _ _. Binary };
+
+    ghost by_room = { λ v. InfinityOr T.by_room (date_seen v) };
+
+    ghost refuses_memory_free = { true };
+
+    fn to_sql(&self, alloc: Global, ty: &PgType, out: &mut BytesMut) -> Result<IsNull, Fault> {
+        let days = match self {
+            Date::PosInfinity => i32::MAX,
+            Date::NegInfinity => i32::MIN,
+            Date::Value(value) => return value.to_sql(alloc, ty, out),
+        };
+        int4_to_sql(alloc, days, out)?;
+        Ok(IsNull::No)
+    }
+
+    fn accepts(ty: &PgType) -> bool {
+        is_date(ty) && T::accepts(ty)
+    }
+
+    fn to_sql_checked(
+        &self,
+        alloc: Global,
+        ty: &PgType,
+        out: &mut BytesMut,
+    ) -> Result<IsNull, Fault> {
+        if Self::accepts(ty) {
+            self.to_sql(alloc, ty, out)
+        } else {
+            Err(wrong_type(ty, "Date"))
+        }
+    }
+
+    fn encode_format(&self, _ty: &PgType) -> Format {
+        Format::Binary
+    }
+
+    ghost checks = { λ _ _. refl };
+}

@@ -1,0 +1,68 @@
+//! Writing moments with infinities.
+ghost use Rattle.std.specs.Prelude.{true, codes, refl};
+ghost use Rattle.std.specs.Int.{w64};
+ghost use Rattle.pg_base.specs.declared.format.Format.TheVariants.{Binary};
+ghost use Rattle.pg_base.specs.Special.{InfinityOr, accepted_timestamp, timestamp_seen, wire_special};
+ghost use Rattle.pg_write.specs.Writing.{checked_by};
+
+use crate::to_sql::{ToSql, wrong_type};
+use bytes::BytesMut;
+use pg_base::acceptance::is_moment;
+use pg_base::fault::Fault;
+use pg_base::format::{Format, IsNull};
+use pg_base::protocol::timestamp_to_sql;
+use pg_base::special::Timestamp;
+use pg_base::types::PgType;
+use std::alloc::Global;
+
+/// TIMESTAMP and TIMESTAMPTZ where `T` writes them: `PosInfinity` is the greatest number of 8 bytes
+/// and `NegInfinity` the least (`timestamp_send`, `timestamptz_send`). `Value` is written as `T`
+/// writes the value inside, NULL included.
+impl<T: ToSql> ToSql for Timestamp<T> {
+    ghost accepted = { accepted_timestamp T.accepted };
+
+    ghost name = { codes "Timestamp" };
+
+    ghost wire = { λ ty v. wire_special w64 (T.wire ty) (timestamp_seen v) };
+
+    ghost checked = { λ ty v. checked_by (accepted_timestamp T.accepted ty) ty (codes "Timestamp") (wire_special w64 (T.wire ty) (timestamp_seen v)) };
+
+    ghost format = { λ _ _. Binary };
+
+    ghost by_room = { λ v. InfinityOr T.by_room (timestamp_seen v) };
+
+    ghost refuses_memory_free = { true };
+
+    fn to_sql(&self, alloc: Global, ty: &PgType, out: &mut BytesMut) -> Result<IsNull, Fault> {
+        let micros = match self {
+            Timestamp::PosInfinity => i64::MAX,
+            Timestamp::NegInfinity => i64::MIN,
+            Timestamp::Value(value) => return value.to_sql(alloc, ty, out),
+        };
+        timestamp_to_sql(alloc, micros, out)?;
+        Ok(IsNull::No)
+    }
+
+    fn accepts(ty: &PgType) -> bool {
+        is_moment(ty) && T::accepts(ty)
+    }
+
+    fn to_sql_checked(
+        &self,
+        alloc: Global,
+        ty: &PgType,
+        out: &mut BytesMut,
+    ) -> Result<IsNull, Fault> {
+        if Self::accepts(ty) {
+            self.to_sql(alloc, ty, out)
+        } else {
+            Err(wrong_type(ty, "Timestamp"))
+        }
+    }
+
+    fn encode_format(&self, _ty: &PgType) -> Format {
+        Format::Binary
+    }
+
+    ghost checks = { λ _ _. refl };
+}
