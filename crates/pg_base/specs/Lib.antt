@@ -15,6 +15,8 @@ pub mod FrameLaws
 pub mod Hstore
 pub mod HstoreLaws
 pub mod Identifiers
+pub mod Json
+pub mod JsonLaws
 pub mod Lsn
 pub mod LsnLaws
 pub mod Moments
