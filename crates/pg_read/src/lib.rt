@@ -9,6 +9,7 @@ mod bytea;
 pub mod from_sql;
 mod hstore;
 mod identifiers;
+mod json;
 pub mod laws;
 mod lsn;
 mod moments;
