@@ -8,6 +8,7 @@ mod bits;
 mod bytea;
 mod hstore;
 mod identifiers;
+mod json;
 pub mod laws;
 mod lsn;
 mod moments;
