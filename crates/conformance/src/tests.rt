@@ -3,6 +3,7 @@ mod bytes;
 mod faults;
 mod framed;
 mod hstore;
+mod json;
 mod lsn;
 mod memory;
 mod moments;
