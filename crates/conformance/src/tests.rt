@@ -6,6 +6,7 @@ mod debug;
 mod faults;
 mod framed;
 mod hstore;
+mod json;
 mod lsn;
 mod memory;
 mod moments;

@@ -6,6 +6,7 @@ pub mod Fields
 pub mod HostBits
 pub mod HstoreLengths
 pub mod HstoreSteps
+pub mod JsonLemmas
 pub mod LsnLemmas
 pub mod Octets
 pub mod PadLemmas

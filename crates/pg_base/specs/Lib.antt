@@ -20,6 +20,8 @@ pub mod Hstore
 pub mod HstoreLaws
 pub mod Identifiers
 pub mod IdentifiersLaws
+pub mod Json
+pub mod JsonLaws
 pub mod Lsn
 pub mod LsnLaws
 pub mod Moments

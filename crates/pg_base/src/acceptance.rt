@@ -1,8 +1,9 @@
 //! Tests of acceptance that reading and writing share.
 ghost use Rattle.std.specs.Prelude.{◌≡◌, codes};
-ghost use Rattle.pg_base.specs.declared.types.built_in.BuiltIn.TheVariants.{Date};
+ghost use Rattle.pg_base.specs.declared.types.built_in.BuiltIn.TheVariants.{Date, Jsonb};
 ghost use Rattle.pg_base.specs.Bits.{accepted_bits};
 ghost use Rattle.pg_base.specs.Content.{content, is_row};
+ghost use Rattle.pg_base.specs.Json.{accepted_json};
 ghost use Rattle.pg_base.specs.Moments.{accepted_moment};
 ghost use Rattle.pg_base.specs.Texts.{accepted_text, has_version, is_named};
 
@@ -62,4 +63,20 @@ pub fn is_date(ty: &PgType) -> bool
     ensures { result ≡ is_row Date (content ty.now) }
 {
     *ty == PgType::DATE
+}
+
+/// Whether documents are read from cells of that type and written to them: JSON and JSONB.
+#[tactic(auto, using(crate::proofs::DerivedTypes::eq_content))]
+pub fn is_json(ty: &PgType) -> bool
+    ensures { result ≡ accepted_json (content ty.now) }
+{
+    *ty == PgType::JSON || is_jsonb(ty)
+}
+
+/// Whether a document's cell begins with a version: the type is JSONB.
+#[tactic(auto, using(crate::proofs::DerivedTypes::eq_content))]
+pub fn is_jsonb(ty: &PgType) -> bool
+    ensures { result ≡ is_row Jsonb (content ty.now) }
+{
+    *ty == PgType::JSONB
 }

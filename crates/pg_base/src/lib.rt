@@ -8,6 +8,7 @@ pub mod acceptance;
 pub mod bits;
 pub mod fault;
 pub mod format;
+pub mod json;
 pub mod lsn;
 pub mod network;
 pub mod protocol;

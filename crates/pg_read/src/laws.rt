@@ -10,6 +10,7 @@ use pg_base::lsn::PgLsn;
 use pg_base::network::{IpCidr, IpInet, MacAddress};
 use pg_base::special::{Date, Timestamp};
 use pg_base::unix_time::UnixTime;
+use serde_json::Value;
 use std::borrow::CowStr;
 use std::boxed::BoxedStr;
 use std::collections::HashMap;
@@ -60,6 +61,7 @@ pub fn types_whose_null_is_read_without_memory() {
     never_answers_memory_at_null::<Vec<u8>>();
     never_answers_memory_at_null::<HashMap<String, Option<String>>>();
     never_answers_memory_at_null::<BitVec>();
+    never_answers_memory_at_null::<Value>();
     never_answers_memory_at_null::<Option<String>>();
     never_answers_memory_at_null::<Date<String>>();
     never_answers_memory_at_null::<Timestamp<String>>();

@@ -10,6 +10,7 @@ mod civil;
 pub mod from_sql;
 mod hstore;
 mod identifiers;
+mod json;
 pub mod laws;
 mod lsn;
 mod moments;

@@ -9,6 +9,7 @@ use pg_base::lsn::PgLsn;
 use pg_base::network::{IpCidr, IpInet, MacAddress};
 use pg_base::special::{Date, Timestamp};
 use pg_base::unix_time::UnixTime;
+use serde_json::Value;
 use std::borrow::{CowSlice, CowStr};
 use std::boxed::BoxedStr;
 use std::collections::HashMap;
@@ -64,4 +65,5 @@ pub fn types_that_keep_the_room_rule() {
 /// The types whose refusal takes no memory, although their writing does.
 pub fn types_refused_without_memory() {
     refuses_without_memory::<HashMap<String, Option<String>>>();
+    refuses_without_memory::<Value>();
 }

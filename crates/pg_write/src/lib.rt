@@ -9,6 +9,7 @@ mod bytea;
 mod civil;
 mod hstore;
 mod identifiers;
+mod json;
 pub mod laws;
 mod lsn;
 mod moments;

@@ -5,6 +5,7 @@ use jiff::Timestamp;
 use jiff::civil::{Date, DateTime, Time};
 use postgres_types::private::BytesMut;
 use postgres_types::{BitVec, IpCidr, IpInet, MacAddress, PgLsn, ToSql, Type, UnixTime};
+use serde_json::Value;
 use std::alloc::Global;
 use std::borrow::{CowSlice, CowStr};
 use std::collections::HashMap;
@@ -82,7 +83,8 @@ fn small_types_are_named(rt: HostRuntime) -> Result<(), Fail> {
     refuses_odd(&rt, alloc, &Uuid::from_bytes([0; 16]), "Uuid")?;
     refuses_odd(&rt, alloc, &PgLsn::from(7u64), "PgLsn")?;
     let moment = UnixTime::new(0, 0).ok_or("no moment")?;
-    refuses_odd(&rt, alloc, &moment, "UnixTime")
+    refuses_odd(&rt, alloc, &moment, "UnixTime")?;
+    refuses_odd(&rt, alloc, &Value::Null, "serde_json::Value")
 }
 
 #[test]

@@ -1,0 +1,81 @@
+//! Reading documents.
+ghost use Rattle.std.specs.Prelude.{◌≡◌, Some, true, false};
+ghost use Rattle.serde_json.specs.View.{view};
+ghost use Rattle.pg_base.specs.declared.types.built_in.BuiltIn.TheVariants.{Jsonb};
+ghost use Rattle.pg_base.specs.Content.{content, is_row};
+ghost use Rattle.pg_base.specs.Faults.{Answers};
+ghost use Rattle.pg_base.specs.Json.{FormJson, ReadsJson, accepted_json, first_fault_json};
+ghost use Rattle.pg_base.specs.JsonLaws.{json_grammar};
+ghost use Rattle.pg_base.specs.Sameness.{content_equivalence};
+ghost use Rattle.pg_read.specs.Reading.{NullAlone, plain_single};
+
+use crate::from_sql::FromSql;
+use pg_base::acceptance::{is_json, is_jsonb};
+use pg_base::fault::Fault;
+use pg_base::json::{JSONB_VERSION, has_other_number};
+use pg_base::types::PgType;
+use serde_json::Value;
+use std::alloc::Global;
+
+/// JSON: the document's text (`json_recv`). JSONB: the version 1 and the text (`jsonb_recv`); no
+/// bytes are `Size`, and another first byte is `JsonVersion`. A text from which `serde_json` reads no
+/// document is `JsonText`: it is no JSON or no UTF-8, it nests more than 127 deep, or a number passes
+/// the greatest `f64`. A document that holds, at any depth, a number that is kept as neither `i64`
+/// nor `u64` is `JsonNumber`: a fraction, an exponent, `-0`, or a whole number outside both. NULL is
+/// `WasNull`.
+impl<'a> FromSql<'a> for Value {
+    ghost same = { λ v w. view v ≡ view w };
+
+    ghost accepted = { accepted_json };
+
+    ghost reads = { λ ty. ReadsJson view (is_row Jsonb ty) };
+
+    ghost memory_free = { NullAlone };
+
+    ghost equivalence = { content_equivalence view };
+
+    ghost single = { λ ty _. plain_single (λ v w. view v ≡ view w) (FormJson view (is_row Jsonb ty)) (first_fault_json (is_row Jsonb ty)) (json_grammar view (is_row Jsonb ty)) };
+
+    fn from_sql(alloc: Global, ty: &PgType, raw: &'a [u8]) -> Result<Value, Fault> {
+        if is_jsonb(ty) {
+            jsonb_document(alloc, raw)
+        } else {
+            document(alloc, raw)
+        }
+    }
+
+    fn from_sql_null(_alloc: Global, _ty: &PgType) -> Result<Value, Fault> {
+        Err(Fault::WasNull)
+    }
+
+    fn accepts(ty: &PgType) -> bool {
+        is_json(ty)
+    }
+}
+
+/// The document behind the version.
+fn jsonb_document(alloc: Global, raw: &[u8]) -> Result<Value, Fault>
+    ensures { Answers (ReadsJson view true (Some raw.now)) result }
+{
+    match raw {
+        [] => Err(Fault::Size),
+        [JSONB_VERSION, text @ ..] => document(alloc, text),
+        _ => Err(Fault::JsonVersion),
+    }
+}
+
+/// The document of a text.
+#[tactic(auto, using(pg_base::proofs::JsonLemmas::no_document, pg_base::proofs::JsonLemmas::other_number))]
+fn document(alloc: Global, text: &[u8]) -> Result<Value, Fault>
+    ensures { Answers (ReadsJson view false (Some text.now)) result }
+{
+    let value = match Value::from_slice(alloc, text) {
+        Ok(value) => value,
+        Err(error) if error.is_memory() => return Err(Fault::Memory),
+        Err(_) => return Err(Fault::JsonText),
+    };
+    if has_other_number(&value) {
+        return Err(Fault::JsonNumber);
+    }
+    Ok(value)
+}

@@ -1,0 +1,74 @@
+//! Writing documents.
+ghost use Rattle.std.specs.Prelude.{true, codes, refl};
+ghost use Rattle.serde_json.specs.View.{view};
+ghost use Rattle.pg_base.specs.declared.format.Format.TheVariants.{Binary};
+ghost use Rattle.pg_base.specs.declared.types.built_in.BuiltIn.TheVariants.{Jsonb};
+ghost use Rattle.pg_base.specs.Content.{is_row};
+ghost use Rattle.pg_base.specs.Json.{accepted_json, wire_json};
+ghost use Rattle.pg_write.specs.Writing.{checked_by};
+
+use crate::to_sql::{ToSql, wrong_type};
+use bytes::BytesMut;
+use pg_base::acceptance::{is_json, is_jsonb};
+use pg_base::fault::Fault;
+use pg_base::format::{Format, IsNull};
+use pg_base::json::{JSONB_VERSION, has_other_number};
+use pg_base::types::PgType;
+use serde_json::Value;
+use std::alloc::Global;
+
+/// JSON: the document's compact text, the members of an object in the order of their keys
+/// (`json_send`). JSONB: the version 1 and that text (`jsonb_send`). A document that holds, at any
+/// depth, a number that is kept as neither `i64` nor `u64` is `JsonNumber`. The text is made in
+/// memory of its own, which may be refused.
+impl ToSql for Value {
+    ghost accepted = { accepted_json };
+
+    ghost name = { codes "serde_json::Value" };
+
+    ghost wire = { λ ty v. wire_json (is_row Jsonb ty) (view v) };
+
+    ghost checked = { λ ty v. checked_by (accepted_json ty) ty (codes "serde_json::Value") (wire_json (is_row Jsonb ty) (view v)) };
+
+    ghost format = { λ _ _. Binary };
+
+    ghost refuses_memory_free = { true };
+
+    fn to_sql(&self, alloc: Global, ty: &PgType, out: &mut BytesMut) -> Result<IsNull, Fault> {
+        if has_other_number(self) {
+            return Err(Fault::JsonNumber);
+        }
+        let text = self.to_vec(alloc)?;
+        if is_jsonb(ty) {
+            out.reserve(1 + text.len())?;
+            out.extend_reserved(&[JSONB_VERSION]);
+            out.extend_reserved(text.as_slice());
+        } else {
+            out.extend_from_slice(text.as_slice())?;
+        }
+        Ok(IsNull::No)
+    }
+
+    fn accepts(ty: &PgType) -> bool {
+        is_json(ty)
+    }
+
+    fn to_sql_checked(
+        &self,
+        alloc: Global,
+        ty: &PgType,
+        out: &mut BytesMut,
+    ) -> Result<IsNull, Fault> {
+        if <Value as ToSql>::accepts(ty) {
+            self.to_sql(alloc, ty, out)
+        } else {
+            Err(wrong_type(ty, "serde_json::Value"))
+        }
+    }
+
+    fn encode_format(&self, _ty: &PgType) -> Format {
+        Format::Binary
+    }
+
+    ghost checks = { λ _ _. refl };
+}
