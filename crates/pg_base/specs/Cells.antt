@@ -5,7 +5,7 @@
 use Rattle.std.specs.Prelude.{◌≡◌, ℕ, ◌<◌, ◌≤◌, ◌^◌, ℤ, pos, negsuc, List, [], ◌∷◌, ◌++◌, length, Option, Some, None, ◌⊎◌, FitsSigned, if◌then◌else◌, nat_le}
 use mir.Val.{bits}
 use Rattle.std.specs.Borrow.{Bor}
-use Rattle.std.specs.Int.{Width, w32, to_be_bytes, cast_unsigned}
+use Rattle.std.specs.Int.{Width, w32, to_be_bytes, from_be_bytes, cast_signed, cast_unsigned}
 
 -- a cell: NULL, or a list of bytes
 abbrev pub Cell : Type 0
@@ -24,6 +24,10 @@ be w z = to_be_bytes w (cast_unsigned w z)
 -- b is the bytes of z, a number that the width holds
 abbrev pub IsBe : Width → List ℕ → ℤ → Type 0
 IsBe w b z = FitsSigned w z × (b ≡ be w z)
+
+-- the number that bytes spell in the width
+abbrev pub signed_in : Width → List ℕ → ℤ
+signed_in w b = cast_signed w (from_be_bytes w b)
 
 -- b is the bytes of n, a number without a sign that the width holds
 abbrev pub IsBeUnsigned : Width → List ℕ → ℕ → Type 0

@@ -1,19 +1,15 @@
 -- Dates and times: DATE (date_send, date_recv), TIME (time_send, time_recv), and moments that have a least and a greatest
 -- count. Which date a day number is, and which moment stands at a nanosecond, are the words of `jiff`.
 use Rattle.std.specs.Prelude.{◌≡◌, ℕ, ◌/◌, ◌==◌, ℤ, pos, neg_ℤ, ◌+ℤ◌, ◌-ℤ◌, ◌*ℤ◌, int_le, List, [], ◌∷◌, length, Option, Bool, ◌&&◌, Ok, Err}
-use Rattle.std.specs.Int.{Width, w32, w64, byte_len, cast_signed, from_be_bytes}
+use Rattle.std.specs.Int.{Width, w32, w64, byte_len}
 use Rattle.jiff.specs.Types.{Date, Time, DateTime, Timestamp}
 use Rattle.jiff.specs.Words.{epoch_day, time_nanos, civil_nanos, IsBetween}
-use Rattle.pg_base.specs.Cells.{Cell, IsBe}
+use Rattle.pg_base.specs.Cells.{Cell, IsBe, signed_in}
 use Rattle.pg_base.specs.Faults.{Refusal, Outcome, size, decode}
 use Rattle.pg_base.specs.Formats.{first_fault_of, ReadsPlain}
 use Rattle.pg_base.specs.Moments.{IsAfterBase, wire_timestamp}
 use Rattle.pg_base.specs.Numbers.{wire_signed}
 use Rattle.pg_base.specs.Appending.{Wire}
-
--- the number that bytes spell in the width, highest first, in two's complement
-abbrev pub signed_in : Width → List ℕ → ℤ
-signed_in w b = cast_signed w (from_be_bytes w b)
 
 -- whether z lies from low to high, both included
 abbrev pub is_between : ℤ → ℤ → ℤ → Bool

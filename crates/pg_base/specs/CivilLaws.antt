@@ -1,5 +1,5 @@
 -- Laws of dates and times.
-use Rattle.std.specs.Prelude.{◌≡◌, ℕ, ◌<◌, ◌+◌, ◌*◌, ◌/◌, ◌^◌, ◌==◌, ℤ, pos, negsuc, neg_ℤ, ◌+ℤ◌, ◌-ℤ◌, ◌*ℤ◌, int_div, ◌↔◌, ◌≤ℤ◌, int_le, List, [], ◌∷◌, length, Some, None, Bool, true, false, Result, Ok, Err, IfSome, refl}
+use Rattle.std.specs.Prelude.{◌≡◌, ℕ, ◌<◌, ◌+◌, ◌*◌, ◌/◌, ◌^◌, ◌==◌, ℤ, pos, negsuc, neg_ℤ, ◌+ℤ◌, ◌-ℤ◌, ◌*ℤ◌, int_div, ◌↔◌, ◌≤ℤ◌, int_le, List, [], ◌∷◌, length, Some, None, true, false, Result, Ok, Err, IfSome, refl}
 use Rattle.std.proofs.Common.{sym, ◌∙◌, ap, arith}
 use Rattle.std.proofs.lemmas.Bool.{and_from, and_parts, false_from_ne_true, true_from_ne_false, eq-eqb}
 use Rattle.std.proofs.lemmas.Option.{IfSome_then}
@@ -11,11 +11,11 @@ use borrow.Author.Differences.{le-true, le-false}
 use mir.Val.{bits}
 use Rattle.jiff.specs.Types.{Date, Time, DateTime, Timestamp}
 use Rattle.jiff.specs.Words.{epoch_day, time_nanos, civil_nanos, IsBetween, IsTimestampNanos}
-use Rattle.pg_base.specs.Cells.{IsBe}
-use Rattle.pg_base.specs.Civil.{signed_in, is_between, first_fault_count, FormCount, CountGives, base_day, first_day, last_day, IsDayOf, last_micros, IsAfterMidnight, first_civil, last_civil, first_instant, last_instant, instant_nanos}
-use Rattle.pg_base.specs.Faults.{Refusal, Outcome, Answers, refusal_of, size, decode}
-use Rattle.pg_base.specs.FormatLaws.{be-back, be-length, be-single}
-use Rattle.pg_base.specs.Formats.{IsGrammar, Decodes, first_fault_of}
+use Rattle.pg_base.specs.Cells.{IsBe, signed_in}
+use Rattle.pg_base.specs.Civil.{is_between, first_fault_count, FormCount, CountGives, base_day, first_day, last_day, IsDayOf, last_micros, IsAfterMidnight, first_civil, last_civil, first_instant, last_instant, instant_nanos}
+use Rattle.pg_base.specs.Faults.{Outcome, Answers, refusal_of, size, decode}
+use Rattle.pg_base.specs.FormatLaws.{be-back, be-length, be-single, check_failed}
+use Rattle.pg_base.specs.Formats.{IsGrammar, Decodes}
 use Rattle.pg_base.specs.Moments.{base_nanos, cut_micros, IsAfterBase}
 use Rattle.pg_base.specs.Numbers.{FormSigned, first_fault_number}
 use Rattle.pg_base.specs.declared.fault.Fault.{Fault}
@@ -35,11 +35,6 @@ test_between low high z h = and_from _ _ (test_le low z h.0) (test_le z high h.1
 
 test_outside : (low high z : ℤ) → (IsBetween low high z → ⊥) → is_between low high z ≡ false
 test_outside low high z h = false_from_ne_true _ (λ t. let both = and_parts _ _ t in h (test_le_back low z both.0, test_le_back z high both.1))
-
--- a refused length stays refused with a check behind it
-size_stays : (t : Bool) (more : List (Bool × Refusal)) (r : Refusal) → first_fault_of ((t, size) ∷ []) ≡ Some r → first_fault_of ((t, size) ∷ more) ≡ Some r
-size_stays true more r h = cc
-size_stays false more r h = h
 
 -- over a width whose bytes give the number back, and bounds
 module _ (w : Width) (back : (n : ℕ) → n < 2 ^ bits w → from_be_bytes w (to_be_bytes w n) ≡ n) (low high : ℤ) where
@@ -71,7 +66,7 @@ module _ (w : Width) (back : (n : ℕ) → n < 2 ^ bits w → from_be_bytes w (t
 
   -- and of a fault with which the length was refused
   pub length_answered : (b : List ℕ) (f : Fault) → IfSome (refusal_of f) (λ r. first_fault_number (byte_len w) b ≡ Some r) → IfSome (refusal_of f) (λ r. first_fault_count w low high b ≡ Some r)
-  length_answered b f k = IfSome_then (refusal_of f) k (λ r g. size_stays (length b == byte_len w) ((is_between low high (signed_in w b), decode) ∷ []) r g)
+  length_answered b f k = IfSome_then (refusal_of f) k (λ r g. check_failed ((length b == byte_len w, size) ∷ []) ((is_between low high (signed_in w b), decode) ∷ []) r g)
 
 -- DATE, TIME, TIMESTAMP and TIMESTAMPTZ are grammars: a count names one value
 pub date_grammar : IsGrammar (λ v u. epoch_day v ≡ epoch_day u) (FormCount w32 first_day last_day IsDayOf) (first_fault_count w32 first_day last_day)

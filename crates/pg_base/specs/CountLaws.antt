@@ -4,8 +4,8 @@ use Rattle.std.proofs.Common.{sym, ◌∙◌, ap, subst, arith}
 use Rattle.std.proofs.lemmas.Bool.Decides.{nat_tests}
 use Rattle.std.proofs.lemmas.List.{length-append}
 use Rattle.std.proofs.lemmas.Nat.{from_be_bytes-to_be_bytes_4}
-use Rattle.std.specs.Int.{w32, cast_signed, from_be_bytes}
-use Rattle.pg_base.specs.Cells.{be, IsBe}
+use Rattle.std.specs.Int.{w32}
+use Rattle.pg_base.specs.Cells.{be, IsBe, signed_in}
 use Rattle.pg_base.specs.Counts.{has_number, number_in}
 use Rattle.pg_base.specs.FormatLaws.{be-back}
 
@@ -18,7 +18,7 @@ pub record IsNumberThen (s : List ℕ) (n : ℤ) (u : List ℕ) : Type 0 where
 has_four : (s : List ℕ) → 4 ≤ length s → has_number s ≡ true
 has_four s h = grind (arith, nat_tests)
 
-be_then : (n : ℤ) (u : List ℕ) → cast_signed w32 (from_be_bytes w32 (be w32 n)) ≡ n → IsNumberThen (be w32 n ++ u) n u
+be_then : (n : ℤ) (u : List ℕ) → signed_in w32 (be w32 n) ≡ n → IsNumberThen (be w32 n ++ u) n u
 be_then n u back = record { has = has_four (be w32 n ++ u) (omega (arith, length-append (be w32 n) u)); number = back; rest = refl }
 
 pub number_then : (b h u : List ℕ) (n : ℤ) → b ≡ h ++ u → IsBe w32 h n → IsNumberThen b n u

@@ -1,8 +1,8 @@
 -- A number of four bytes in front of others: a count or a length (pq_getmsgint).
 use Rattle.std.specs.Prelude.{◌≡◌, ℕ, ℤ, pos, negsuc, List, [], ◌∷◌, ◌++◌, length, take, Bool, true, false, nat_le}
 use Rattle.std.specs.Borrow.{Bor}
-use Rattle.std.specs.Int.{w32, cast_signed, from_be_bytes}
-use Rattle.pg_base.specs.Cells.{IsBe}
+use Rattle.std.specs.Int.{w32}
+use Rattle.pg_base.specs.Cells.{IsBe, signed_in}
 use Rattle.pg_base.specs.Faults.{size, count}
 use Rattle.pg_base.specs.Formats.{Checks}
 
@@ -11,7 +11,7 @@ abbrev pub has_number : List ℕ → Bool
 has_number s = nat_le 4 (length s)
 
 abbrev pub number_in : List ℕ → ℤ
-number_in s = cast_signed w32 (from_be_bytes w32 (take 4 s))
+number_in s = signed_in w32 (take 4 s)
 
 -- how many a number states: a negative one states none
 abbrev pub stated : ℤ → ℕ

@@ -9,7 +9,7 @@ use Rattle.std.proofs.lemmas.Str.{is_utf8-from_IsUtf8}
 use Rattle.std.specs.Int.{Width, w8, w16, w32, w64, byte_len, bytes_high_first, cast_unsigned, cast_signed, to_be_bytes, from_be_bytes}
 use mir.Val.{bits}
 use Rattle.pg_base.specs.Bytes.{FormBytes, first_fault_bytes}
-use Rattle.pg_base.specs.Cells.{be, IsBe, IsBeUnsigned}
+use Rattle.pg_base.specs.Cells.{be, signed_in, IsBe, IsBeUnsigned}
 use Rattle.pg_base.specs.Faults.{Refusal}
 use Rattle.pg_base.specs.Formats.{Checks, IsGrammar, first_fault_of}
 use Rattle.pg_base.specs.Numbers.{FormSigned, FormUnsigned, FormBool, first_fault_number}
@@ -52,12 +52,12 @@ module _ (w : Width) (back : (n : ℕ) → n < 2 ^ bits w → from_be_bytes w (t
   be_unsigned-single : (b : List ℕ) (m n : ℕ) → IsBeUnsigned w b m → IsBeUnsigned w b n → m ≡ n
   be_unsigned-single b m n h k = sym (back m h.0) ∙ ap (from_be_bytes w) (sym h.1 ∙ k.1) ∙ back n k.0
 
-  pub be-back : (z : ℤ) → FitsSigned w z → cast_signed w (from_be_bytes w (be w z)) ≡ z
+  pub be-back : (z : ℤ) → FitsSigned w z → signed_in w (be w z) ≡ z
   be-back z h = ap (cast_signed w) (back (cast_unsigned w z) (Fits-of_z h).fits) ∙ to_z-of_z w z h
 
   -- bytes are those of one number
   pub be-single : (b : List ℕ) (v u : ℤ) → IsBe w b v → IsBe w b u → v ≡ u
-  be-single b v u h k = sym (be-back v h.0) ∙ ap (λ s. cast_signed w (from_be_bytes w s)) (sym h.1 ∙ k.1) ∙ be-back u k.0
+  be-single b v u h k = sym (be-back v h.0) ∙ ap (signed_in w) (sym h.1 ∙ k.1) ∙ be-back u k.0
 
   signed_grammar : IsGrammar (λ v u. v ≡ u) (FormSigned w) (first_fault_number (byte_len w))
   signed_grammar = record {

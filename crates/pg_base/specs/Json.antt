@@ -10,7 +10,7 @@ use Rattle.pg_base.specs.Appending.{Wire}
 use Rattle.pg_base.specs.Cells.{Cell}
 use Rattle.pg_base.specs.Content.{Content, is_row}
 use Rattle.pg_base.specs.Faults.{Refusal, Outcome, size, json_version, json_text, json_number}
-use Rattle.pg_base.specs.Formats.{first_fault_of, ReadsPlain}
+use Rattle.pg_base.specs.Formats.{Checks, first_fault_of, ReadsPlain}
 
 -- documents accept JSON and JSONB
 abbrev pub accepted_json : Content → Bool
@@ -30,7 +30,7 @@ abbrev pub document_of : List ℕ → Option Data
 document_of text = if is_utf8 text then read text else None
 
 -- what is checked of a text: it is a document, and holds no other number
-abbrev pub document_checks : List ℕ → List (Bool × Refusal)
+abbrev pub document_checks : List ℕ → Checks
 document_checks text =
     (is_some (document_of text), json_text) ∷ (not (unwrap_or (option_map has_float (document_of text)) false), json_number) ∷ []
 

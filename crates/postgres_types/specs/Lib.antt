@@ -7,6 +7,8 @@ pub use Rattle.pg_base.specs.BitsLaws
 pub use Rattle.pg_base.specs.BuiltInRows
 pub use Rattle.pg_base.specs.Bytes
 pub use Rattle.pg_base.specs.Cells
+pub use Rattle.pg_base.specs.Civil
+pub use Rattle.pg_base.specs.CivilLaws
 pub use Rattle.pg_base.specs.Content
 pub use Rattle.pg_base.specs.CountLaws
 pub use Rattle.pg_base.specs.Counts
@@ -20,6 +22,8 @@ pub use Rattle.pg_base.specs.Hstore
 pub use Rattle.pg_base.specs.HstoreLaws
 pub use Rattle.pg_base.specs.Identifiers
 pub use Rattle.pg_base.specs.IdentifiersLaws
+pub use Rattle.pg_base.specs.Json
+pub use Rattle.pg_base.specs.JsonLaws
 pub use Rattle.pg_base.specs.Lsn
 pub use Rattle.pg_base.specs.LsnLaws
 pub use Rattle.pg_base.specs.Moments
