@@ -1,23 +1,24 @@
 -- Laws of dates and times.
-use Rattle.std.specs.Prelude.{◌≡◌, ℕ, ◌<◌, ◌+◌, ◌*◌, ◌/◌, ◌^◌, ◌==◌, ℤ, pos, negsuc, neg_ℤ, ◌+ℤ◌, ◌-ℤ◌, ◌*ℤ◌, int_div, ◌↔◌, ◌≤ℤ◌, int_le, List, [], ◌∷◌, length, Some, None, true, false, Result, Ok, Err, IfSome, refl}
+use Rattle.std.specs.Prelude.{◌≡◌, ℕ, ◌<◌, ◌+◌, ◌-◌, ◌*◌, ◌/◌, ◌^◌, ℤ, pos, negsuc, neg_ℤ, ◌+ℤ◌, ◌-ℤ◌, ◌*ℤ◌, int_div, ◌↔◌, ◌≤ℤ◌, int_le, List, Some, None, true, false, Result, Ok, Err, IsOkAnd, FitsSigned, refl}
 use Rattle.std.proofs.Common.{sym, ◌∙◌, ap, arith}
-use Rattle.std.proofs.lemmas.Bool.{and_from, and_parts, false_from_ne_true, true_from_ne_false, eq-eqb}
+use Rattle.std.proofs.lemmas.Bool.{and_from, and_parts, false_from_ne_true, true_from_ne_false, eq-eqb, lt-ltb}
 use Rattle.std.proofs.lemmas.Option.{IfSome_then}
 use Rattle.std.proofs.lemmas.Nat.{from_be_bytes-to_be_bytes_4, from_be_bytes-to_be_bytes_8}
-use Rattle.std.specs.Int.{Width, w32, w64, byte_len, from_be_bytes, to_be_bytes}
+use Rattle.std.specs.Int.{Width, w8, w16, w32, w64, w128, from_be_bytes, to_be_bytes}
 use Rattle.jiff.proofs.Family.{epoch_day_range, time_nanos_bound, civil_nanos_range}
 use Rattle.jiff.proofs.SpanFacts.{signed_arith}
 use borrow.Author.Differences.{le-true, le-false}
-use mir.Val.{bits}
+use mir.Val.{bits, hbits}
 use Rattle.jiff.specs.Types.{Date, Time, DateTime, Timestamp}
 use Rattle.jiff.specs.Words.{epoch_day, time_nanos, civil_nanos, IsBetween, IsTimestampNanos}
-use Rattle.pg_base.specs.Cells.{IsBe, signed_in}
-use Rattle.pg_base.specs.Civil.{is_between, first_fault_count, FormCount, CountGives, base_day, first_day, last_day, IsDayOf, last_micros, IsAfterMidnight, first_civil, last_civil, first_instant, last_instant, instant_nanos}
-use Rattle.pg_base.specs.Faults.{Outcome, Answers, refusal_of, size, decode}
-use Rattle.pg_base.specs.FormatLaws.{be-back, be-length, be-single, check_failed}
+use Rattle.pg_base.specs.Cells.{be, IsBe, signed_in}
+use Rattle.pg_base.specs.Civil.{is_between, first_fault_count, FormCount, CountGives, base_day, first_day, last_day, IsDayOf, last_micros, IsAfterMidnight, first_civil, last_civil, first_instant, last_instant, instant_nanos, wire_date, wire_time, wire_datetime, wire_instant, ReadsDate, ReadsTime, ReadsDateTime, ReadsInstant}
+use Rattle.pg_base.specs.Faults.{Outcome, Answers, refusal_of, decode}
+use Rattle.pg_base.specs.FormatLaws.{be-back, be-length, be-single}
 use Rattle.pg_base.specs.Formats.{IsGrammar, Decodes}
 use Rattle.pg_base.specs.Moments.{base_nanos, cut_micros, IsAfterBase}
-use Rattle.pg_base.specs.Numbers.{FormSigned, first_fault_number}
+use Rattle.pg_base.specs.Numbers.{FormSigned, fits_signed, wire_signed}
+use Rattle.pg_base.specs.Appending.{Wire}
 use Rattle.pg_base.specs.declared.fault.Fault.{Fault}
 
 -- the counts of the first and the last instant are those of the range that `jiff` has
@@ -60,13 +61,14 @@ module _ (w : Width) (back : (n : ℕ) → n < 2 ^ bits w → from_be_bytes w (t
   count_decodes names b z h (Err r) k = outside_is_decode b z h k.0 ∙ ap Some (sym k.1)
 
   -- the same of what a call answered
-  pub count_answered : {A : Type 0} (names : ℤ → A → Type 0) (b : List ℕ) (z : ℤ) → IsBe w b z → (r : Result A Fault) → Answers (CountGives low high names z) r → Answers (Decodes (FormCount w low high names) (first_fault_count w low high) b) r
+  count_answered : {A : Type 0} (names : ℤ → A → Type 0) (b : List ℕ) (z : ℤ) → IsBe w b z → (r : Result A Fault) → Answers (CountGives low high names z) r → Answers (Decodes (FormCount w low high names) (first_fault_count w low high) b) r
   count_answered names b z h (Ok v) k = count_decodes names b z h (Ok v) k
   count_answered names b z h (Err f) k = IfSome_then (refusal_of f) k (λ r g. count_decodes names b z h (Err r) g)
 
-  -- and of a fault with which the length was refused
-  pub length_answered : (b : List ℕ) (f : Fault) → IfSome (refusal_of f) (λ r. first_fault_number (byte_len w) b ≡ Some r) → IfSome (refusal_of f) (λ r. first_fault_count w low high b ≡ Some r)
-  length_answered b f k = IfSome_then (refusal_of f) k (λ r g. check_failed ((length b == byte_len w, size) ∷ []) ((is_between low high (signed_in w b), decode) ∷ []) r g)
+  -- the bytes of a count within the bounds are read as what it names
+  count_back : {A : Type 0} (names : ℤ → A → Type 0) (b : List ℕ) (z : ℤ) → IsBe w b z → IsBetween low high z → (o : Outcome A) → Decodes (FormCount w low high names) (first_fault_count w low high) b o → IsOkAnd o (names z)
+  count_back names b z h k (Ok v) d = rw (be-single w back b z d.0 h d.1) d.3
+  count_back names b z h k (Err r) d = let bad : None ≡ Some r = sym (within_passes b z h k) ∙ d in cc
 
 -- DATE, TIME, TIMESTAMP and TIMESTAMPTZ are grammars: a count names one value
 pub date_grammar : IsGrammar (λ v u. epoch_day v ≡ epoch_day u) (FormCount w32 first_day last_day IsDayOf) (first_fault_count w32 first_day last_day)
@@ -88,19 +90,80 @@ answered_4 low high names = count_answered w32 from_be_bytes-to_be_bytes_4 low h
 pub answered_8 : {A : Type 0} (low high : ℤ) (names : ℤ → A → Type 0) (b : List ℕ) (z : ℤ) → FormSigned w64 b z → (r : Result A Fault) → Answers (CountGives low high names z) r → Answers (Decodes (FormCount w64 low high names) (first_fault_count w64 low high) b) r
 answered_8 low high names = count_answered w64 from_be_bytes-to_be_bytes_8 low high names
 
--- the count of every date, time, moment on a clock and instant lies within the bounds
-pub date_within : (v : Date) → IsBetween first_day last_day (epoch_day v -ℤ base_day)
-date_within v = omega (arith, signed_arith, epoch_day_range v)
+-- the written form is the bytes of a count within the bounds, and no refusal
+abbrev pub IsWrittenCount : Width → ℤ → ℤ → ℤ → Wire → Type 0
+IsWrittenCount w low high z wire = (wire ≡ Ok (Some (be w z))) × FitsSigned w z × IsBetween low high z
 
-pub time_within : (v : Time) → IsBetween (pos 0) last_micros (pos (time_nanos v / 1000))
-time_within v = omega (arith, signed_arith, time_nanos_bound v)
+half_width : (w : Width) → bits w - 1 ≡ hbits w
+half_width w8 = refl
+half_width w16 = refl
+half_width w32 = refl
+half_width w64 = refl
+half_width w128 = refl
+
+fits : (w : Width) (z : ℤ) → FitsSigned w z → fits_signed w z ≡ true
+fits w (pos n) h = rw (half_width w) (lt-ltb n _ h.sfits)
+fits w (negsuc n) h = rw (half_width w) (lt-ltb n _ h.sfits)
+
+written : (w : Width) (low high z : ℤ) → FitsSigned w z → IsBetween low high z → IsWrittenCount w low high z (wire_signed w z)
+written w low high z h k = (rw (fits w z h) refl, h, k)
+
+day_within : (v : Date) → IsBetween first_day last_day (epoch_day v -ℤ base_day)
+day_within v = omega (arith, signed_arith, epoch_day_range v)
+
+-- no date is refused, and none is written as the least or the greatest number of 4 bytes
+pub date_written : (v : Date) → IsWrittenCount w32 first_day last_day (epoch_day v -ℤ base_day) (wire_date v)
+date_written v = let k = day_within v in written w32 first_day last_day _ (omega (arith, signed_arith, k)) k
+
+micros_within : (v : Time) → IsBetween (pos 0) last_micros (pos (time_nanos v / 1000))
+micros_within v = omega (arith, signed_arith, time_nanos_bound v)
+
+-- no time is refused
+pub time_written : (v : Time) → IsWrittenCount w64 (pos 0) last_micros (pos (time_nanos v / 1000)) (wire_time v)
+time_written v = let k = micros_within v in written w64 (pos 0) last_micros _ (omega (arith, signed_arith, k)) k
 
 thousandth_within : (z : ℤ) (m n : ℕ) → IsBetween (neg_ℤ (pos (m * 1000))) (pos (n * 1000 + 999)) z → IsBetween (neg_ℤ (pos m)) (pos n) (int_div z (pos 1000))
 thousandth_within (pos k) m n h = omega (arith, signed_arith, h)
 thousandth_within (negsuc k) m n h = omega (arith, signed_arith, h)
 
-pub datetime_within : (v : DateTime) → IsBetween first_civil last_civil (cut_micros (civil_nanos v))
-datetime_within v = thousandth_within (civil_nanos v -ℤ base_nanos) 378_651_801_600_000_000 252_455_615_999_999_999 (omega (arith, signed_arith, civil_nanos_range v))
+civil_within : (v : DateTime) → IsBetween first_civil last_civil (cut_micros (civil_nanos v))
+civil_within v = thousandth_within (civil_nanos v -ℤ base_nanos) 378_651_801_600_000_000 252_455_615_999_999_999 (omega (arith, signed_arith, civil_nanos_range v))
 
-pub instant_within : (v : Timestamp) → IsBetween first_instant last_instant (cut_micros (instant_nanos v))
+-- no moment on a clock is refused, and none is written as the least or the greatest number of 8 bytes
+pub datetime_written : (v : DateTime) → IsWrittenCount w64 first_civil last_civil (cut_micros (civil_nanos v)) (wire_datetime v)
+datetime_written v = let k = civil_within v in written w64 first_civil last_civil _ (omega (arith, signed_arith, k)) k
+
+instant_within : (v : Timestamp) → IsBetween first_instant last_instant (cut_micros (instant_nanos v))
 instant_within v = thousandth_within (instant_nanos v -ℤ base_nanos) 378_651_708_001_000_000 252_455_522_400_999_999 (omega (arith, signed_arith, v.in_range))
+
+-- the same of instants
+pub instant_written : (v : Timestamp) → IsWrittenCount w64 first_instant last_instant (cut_micros (instant_nanos v)) (wire_instant v)
+instant_written v = let k = instant_within v in written w64 first_instant last_instant _ (omega (arith, signed_arith, k)) k
+
+-- what a value is read back as: it stands where its count says
+module _ {A : Type 0} (w : Width) (back : (n : ℕ) → n < 2 ^ bits w → from_be_bytes w (to_be_bytes w n) ≡ n) (low high : ℤ) (names : ℤ → A → Type 0) where
+  written_back : (z : ℤ) (wire : Wire) → IsWrittenCount w low high z wire → (b : List ℕ) → wire ≡ Ok (Some b) → (o : Outcome A) → Decodes (FormCount w low high names) (first_fault_count w low high) b o → IsOkAnd o (names z)
+  written_back z wire k b e o d = let same : Ok (Some (be w z)) ≡ Ok (Some b) = sym k.0 ∙ e in let is : b ≡ be w z = cc in count_back w back low high names b z (k.1, is) k.2 o d
+
+back_date : (v : Date) (o : Outcome Date) → IsOkAnd o (IsDayOf (epoch_day v -ℤ base_day)) → IsOkAnd o (λ u. epoch_day u ≡ epoch_day v)
+back_date v (Ok u) h = omega (arith, signed_arith, h)
+back_date v (Err r) h = h
+
+back_time : (v : Time) (o : Outcome Time) → IsOkAnd o (IsAfterMidnight (pos (time_nanos v / 1000))) → IsOkAnd o (λ u. time_nanos u ≡ time_nanos v / 1000 * 1000)
+back_time v (Ok u) h = omega (arith, signed_arith, h)
+back_time v (Err r) h = h
+
+-- a date is read back as itself
+pub date_back : (v : Date) (b : List ℕ) → wire_date v ≡ Ok (Some b) → (o : Outcome Date) → ReadsDate (Some b) o → IsOkAnd o (λ u. epoch_day u ≡ epoch_day v)
+date_back v b e o d = back_date v o (written_back w32 from_be_bytes-to_be_bytes_4 first_day last_day IsDayOf _ (wire_date v) (date_written v) b e o d)
+
+-- a time is read back as itself, cut to microseconds
+pub time_back : (v : Time) (b : List ℕ) → wire_time v ≡ Ok (Some b) → (o : Outcome Time) → ReadsTime (Some b) o → IsOkAnd o (λ u. time_nanos u ≡ time_nanos v / 1000 * 1000)
+time_back v b e o d = back_time v o (written_back w64 from_be_bytes-to_be_bytes_8 (pos 0) last_micros IsAfterMidnight _ (wire_time v) (time_written v) b e o d)
+
+-- a moment on a clock, and an instant, is read back as itself, cut to microseconds toward 2000-01-01 00:00:00
+pub datetime_back : (v : DateTime) (b : List ℕ) → wire_datetime v ≡ Ok (Some b) → (o : Outcome DateTime) → ReadsDateTime (Some b) o → IsOkAnd o (IsAfterBase civil_nanos (cut_micros (civil_nanos v)))
+datetime_back v b e o d = written_back w64 from_be_bytes-to_be_bytes_8 first_civil last_civil (IsAfterBase civil_nanos) _ (wire_datetime v) (datetime_written v) b e o d
+
+pub instant_back : (v : Timestamp) (b : List ℕ) → wire_instant v ≡ Ok (Some b) → (o : Outcome Timestamp) → ReadsInstant (Some b) o → IsOkAnd o (IsAfterBase instant_nanos (cut_micros (instant_nanos v)))
+instant_back v b e o d = written_back w64 from_be_bytes-to_be_bytes_8 first_instant last_instant (IsAfterBase instant_nanos) _ (wire_instant v) (instant_written v) b e o d

@@ -3,8 +3,7 @@ ghost use Rattle.std.specs.Prelude.{None};
 ghost use Rattle.pg_base.specs.Cells.{Cell};
 
 use crate::from_sql::FromSql;
-use jiff::Timestamp;
-use jiff::civil::{Date, DateTime, Time};
+use jiff::civil;
 use pg_base::bits::BitVec;
 use pg_base::lsn::PgLsn;
 use pg_base::network::{IpCidr, IpInet, MacAddress};
@@ -40,17 +39,17 @@ pub fn types_read_without_memory() {
     never_answers_memory::<&[u8]>();
     never_answers_memory::<PgLsn>();
     never_answers_memory::<UnixTime>();
-    never_answers_memory::<Date>();
-    never_answers_memory::<Time>();
-    never_answers_memory::<DateTime>();
-    never_answers_memory::<Timestamp>();
+    never_answers_memory::<civil::Date>();
+    never_answers_memory::<civil::Time>();
+    never_answers_memory::<civil::DateTime>();
+    never_answers_memory::<jiff::Timestamp>();
     never_answers_memory::<IpAddr>();
     never_answers_memory::<IpInet>();
     never_answers_memory::<IpCidr>();
     never_answers_memory::<MacAddress>();
     never_answers_memory::<Uuid>();
     never_answers_memory::<Option<i32>>();
-    never_answers_memory::<Date<UnixTime>>();
+    never_answers_memory::<Date<civil::Date>>();
     never_answers_memory::<Timestamp<UnixTime>>();
 }
 

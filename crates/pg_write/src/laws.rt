@@ -2,8 +2,7 @@
 ghost use Rattle.std.specs.Prelude.{IsTrue};
 
 use crate::to_sql::ToSql;
-use jiff::Timestamp;
-use jiff::civil::{Date, DateTime, Time};
+use jiff::civil;
 use pg_base::bits::BitVec;
 use pg_base::lsn::PgLsn;
 use pg_base::network::{IpCidr, IpInet, MacAddress};
@@ -46,10 +45,10 @@ pub fn types_that_keep_the_room_rule() {
     keeps_room_rule::<CowSlice<u8>>();
     keeps_room_rule::<PgLsn>();
     keeps_room_rule::<UnixTime>();
-    keeps_room_rule::<Date>();
-    keeps_room_rule::<Time>();
-    keeps_room_rule::<DateTime>();
-    keeps_room_rule::<Timestamp>();
+    keeps_room_rule::<civil::Date>();
+    keeps_room_rule::<civil::Time>();
+    keeps_room_rule::<civil::DateTime>();
+    keeps_room_rule::<jiff::Timestamp>();
     keeps_room_rule::<BitVec>();
     keeps_room_rule::<IpAddr>();
     keeps_room_rule::<IpInet>();
@@ -58,7 +57,7 @@ pub fn types_that_keep_the_room_rule() {
     keeps_room_rule::<Uuid>();
     keeps_room_rule::<&i32>();
     keeps_room_rule::<Option<i32>>();
-    keeps_room_rule::<Date<UnixTime>>();
+    keeps_room_rule::<Date<civil::Date>>();
     keeps_room_rule::<Timestamp<UnixTime>>();
 }
 
