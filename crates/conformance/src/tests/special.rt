@@ -8,8 +8,11 @@ use std::process::Abort;
 use std::test::Fail;
 
 const LAST_DATE: [u8; 4] = [0x7f, 0xff, 0xff, 0xff];
+
 const FIRST_DATE: [u8; 4] = [0x80, 0, 0, 0];
+
 const LAST_MOMENT: [u8; 8] = [0x7f, 0xff, 0xff, 0xff, 0xff, 0xff, 0xff, 0xff];
+
 const FIRST_MOMENT: [u8; 8] = [0x80, 0, 0, 0, 0, 0, 0, 0];
 
 fn unix(secs: i64, nanos: u32) -> Result<UnixTime, Fail> {
@@ -20,12 +23,7 @@ fn unix(secs: i64, nanos: u32) -> Result<UnixTime, Fail> {
 }
 
 /// The value is written as NULL, which appends nothing.
-fn writes_null<T: ToSql>(
-    rt: &impl Abort,
-    alloc: Global,
-    value: &T,
-    ty: &Type,
-) -> Result<(), Fail> {
+fn writes_null<T: ToSql>(rt: &impl Abort, alloc: Global, value: &T, ty: &Type) -> Result<(), Fail> {
     let mut out = BytesMut::copy_from_slice(alloc, b"before")?;
     assert_eq!(rt; value.to_sql_checked(alloc, ty, &mut out)?, IsNull::Yes);
     assert_eq!(rt; out.as_slice(), b"before".as_slice());
@@ -81,10 +79,16 @@ fn dates_have_infinities(rt: HostRuntime) -> Result<(), Fail> {
 fn infinities_are_tested_before_the_value(rt: HostRuntime) -> Result<(), Fail> {
     let alloc = rt.alloc();
     for (cell, code) in [(LAST_DATE, 0), (FIRST_DATE, 0), ([0, 0, 0, 3], 11)] {
-        assert_eq!(rt; refusal::<Date<NoDay>>(alloc, &Type::DATE, Some(&cell)), code);
+        assert_eq!(rt;
+            refusal::<Date<NoDay>>(alloc, &Type::DATE, Some(&cell)),
+            code
+        );
         assert_eq!(rt; refusal::<NoDay>(alloc, &Type::DATE, Some(&cell)), 11);
     }
-    assert_eq!(rt; refusal::<Date<NoDay>>(alloc, &Type::DATE, Some(&[0; 5])), 4);
+    assert_eq!(rt;
+        refusal::<Date<NoDay>>(alloc, &Type::DATE, Some(&[0; 5])),
+        4
+    );
     let greatest = Date::Value(Days(i32::MAX));
     writes(&rt, alloc, &greatest, &Type::DATE, &LAST_DATE)?;
     let inner: Date<Date<Days>> = Date::Value(Date::PosInfinity);
@@ -104,7 +108,10 @@ fn moments_have_infinities(rt: HostRuntime) -> Result<(), Fail> {
         (Timestamp::PosInfinity, &LAST_MOMENT),
         (Timestamp::NegInfinity, &FIRST_MOMENT),
         (Timestamp::Value(unix(946_684_800, 0)?), &[0; 8]),
-        (Timestamp::Value(unix(946_684_799, 999_999_000)?), &[0xff; 8]),
+        (
+            Timestamp::Value(unix(946_684_799, 999_999_000)?),
+            &[0xff; 8],
+        ),
     ];
     for ty in [Type::TIMESTAMP, Type::TIMESTAMPTZ] {
         spells(&rt, alloc, &ty, &rows)?;
@@ -156,6 +163,8 @@ fn infinities_accept_what_the_value_does(rt: HostRuntime) -> Result<(), Fail> {
 fn infinities_are_compared_and_shown(rt: HostRuntime) -> Result<(), Fail> {
     let alloc = rt.alloc();
     let (day, end): (Date<Days>, Date<Days>) = (Date::Value(Days(3)), Date::PosInfinity);
+    let copied = day;
+    assert!(rt; day == copied);
     assert!(rt; day == day.clone()?);
     assert!(rt; same_date(&day, &Date::Value(Days(3))));
     assert!(rt; !same_date(&day, &Date::Value(Days(4))));
@@ -164,6 +173,8 @@ fn infinities_are_compared_and_shown(rt: HostRuntime) -> Result<(), Fail> {
     assert_eq!(rt; format!(in alloc; "{end:?}")?.as_str(), "PosInfinity");
     let moment = Timestamp::Value(unix(1, 0)?);
     let start: Timestamp<UnixTime> = Timestamp::NegInfinity;
+    let copied = moment;
+    assert!(rt; moment == copied);
     assert!(rt; moment == moment.clone()?);
     assert!(rt; same_timestamp(&start, &start.clone()?));
     assert!(rt; !same_timestamp(&start, &moment));
