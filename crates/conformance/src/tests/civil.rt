@@ -115,7 +115,10 @@ fn instants_are_microseconds_from_2000(rt: HostRuntime) -> Result<(), Fail> {
     let first = (-378_651_708_001_000_000i64).to_be_bytes();
     let last = 252_455_522_400_999_999i64.to_be_bytes();
     let base = Timestamp::from_second(946_684_800)?;
-    assert_eq!(rt; format!(in alloc; "{base}")?.as_str(), "2000-01-01T00:00:00Z");
+    assert_eq!(rt;
+        format!(in alloc; "{base}")?.as_str(),
+        "2000-01-01T00:00:00Z"
+    );
     let rows = [
         (base, [0u8; 8].as_slice()),
         (Timestamp::MIN, first.as_slice()),
