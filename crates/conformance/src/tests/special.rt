@@ -1,5 +1,6 @@
 use super::days::{Days, NoDay};
 use super::{reads, refusal, rewrites, spells, writes};
+use jiff::civil;
 use pg_base::special::laws::{same_date, same_timestamp};
 use postgres_types::private::BytesMut;
 use postgres_types::{Date, Format, FromSql, IsNull, Timestamp, ToSql, Type, UnixTime};
@@ -183,5 +184,36 @@ fn infinities_are_compared_and_shown(rt: HostRuntime) -> Result<(), Fail> {
         format!(in alloc; "{moment:?}")?.as_str(),
         "Value(UnixTime { secs: 1, nanos: 0 })"
     );
+    Ok(())
+}
+
+#[test]
+fn values_of_jiff_have_infinities(rt: HostRuntime) -> Result<(), Fail> {
+    let alloc = rt.alloc();
+    let day = civil::Date::new(2002, 9, 27)?;
+    let dates: [(Date<civil::Date>, &[u8]); 3] = [
+        (Date::PosInfinity, &LAST_DATE),
+        (Date::NegInfinity, &FIRST_DATE),
+        (Date::Value(day), &[0, 0, 3, 0xe8]),
+    ];
+    spells(&rt, alloc, &Type::DATE, &dates)?;
+    let far = [0x7fu8, 0xff, 0xff, 0xfe];
+    assert_eq!(rt;
+        refusal::<Date<civil::Date>>(alloc, &Type::DATE, Some(&far)),
+        11
+    );
+    let inner: Date<Date<civil::Date>> = Date::Value(Date::PosInfinity);
+    writes(&rt, alloc, &inner, &Type::DATE, &LAST_DATE)?;
+    let outer: Date<Date<civil::Date>> = Date::PosInfinity;
+    reads(&rt, alloc, &Type::DATE, &LAST_DATE, outer)?;
+
+    let midnight = civil::Date::new(2000, 1, 1)?.to_datetime(civil::Time::midnight());
+    let moments: [(Timestamp<civil::DateTime>, &[u8]); 2] = [
+        (Timestamp::PosInfinity, &LAST_MOMENT),
+        (Timestamp::Value(midnight), &[0; 8]),
+    ];
+    spells(&rt, alloc, &Type::TIMESTAMP, &moments)?;
+    let cut = refusal::<Timestamp<civil::DateTime>>(alloc, &Type::TIMESTAMP, Some(&LAST_DATE));
+    assert_eq!(rt; cut, 4);
     Ok(())
 }
