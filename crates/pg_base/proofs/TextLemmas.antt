@@ -4,7 +4,8 @@ use Rattle.std.specs.Prelude.{IsUtf8}
 use Rattle.std.specs.Str.{is_utf8}
 use Rattle.std.proofs.lemmas.Str.{is_utf8-from_IsUtf8, IsUtf8-from_is_utf8}
 use Rattle.pg_base.specs.Faults.{utf8, transmit}
-use Rattle.pg_base.specs.Texts.{first_fault_text, text_cell, wire_text}
+use Rattle.pg_base.specs.Cells.{versioned_cell}
+use Rattle.pg_base.specs.Texts.{first_fault_text, wire_text}
 
 not_utf8 : (b : List ℕ) (t : Bool) → is_utf8 b ≡ t → (IsUtf8 b → ⊥) → is_utf8 b ≡ false
 not_utf8 b true e h = absurd (h (IsUtf8-from_is_utf8 b e))
@@ -15,5 +16,5 @@ pub text_refused : (b : List ℕ) → (IsUtf8 b → ⊥) → first_fault_text fa
 text_refused b h = ap (λ t. cond t None (Some utf8)) (not_utf8 b (is_utf8 b) refl h)
 
 -- a text is written as its cell
-pub wire_utf8 : (versioned : Bool) (s : List ℕ) → IsUtf8 s → wire_text versioned s ≡ Ok (Some (text_cell versioned s))
-wire_utf8 versioned s h = ap (λ t. cond t (Ok (Some (text_cell versioned s))) (Err transmit)) (is_utf8-from_IsUtf8 s h)
+pub wire_utf8 : (versioned : Bool) (s : List ℕ) → IsUtf8 s → wire_text versioned s ≡ Ok (Some (versioned_cell versioned s))
+wire_utf8 versioned s h = ap (λ t. cond t (Ok (Some (versioned_cell versioned s))) (Err transmit)) (is_utf8-from_IsUtf8 s h)

@@ -2,7 +2,7 @@
 -- PostgreSQL frames values so in DataRow and Bind (documentation, "Message Formats"), and in array_send, record_send and
 -- hstore_send: a length of four bytes, -1 for NULL, and that many bytes. That every negative length is NULL in reading is
 -- the upstream crate's rule; the server itself writes -1 alone.
-use Rattle.std.specs.Prelude.{◌≡◌, ℕ, ◌<◌, ◌≤◌, ◌^◌, ℤ, pos, negsuc, List, [], ◌∷◌, ◌++◌, length, Option, Some, None, ◌⊎◌, FitsSigned, if◌then◌else◌, nat_le}
+use Rattle.std.specs.Prelude.{Bool, true, false, ◌≡◌, ℕ, ◌<◌, ◌≤◌, ◌^◌, ℤ, pos, negsuc, List, [], ◌∷◌, ◌++◌, length, Option, Some, None, ◌⊎◌, FitsSigned, if◌then◌else◌, nat_le}
 use mir.Val.{bits}
 use Rattle.std.specs.Borrow.{Bor}
 use Rattle.std.specs.Int.{Width, w32, to_be_bytes, from_be_bytes, cast_signed, cast_unsigned}
@@ -10,6 +10,11 @@ use Rattle.std.specs.Int.{Width, w32, to_be_bytes, from_be_bytes, cast_signed, c
 -- a cell: NULL, or a list of bytes
 abbrev pub Cell : Type 0
 Cell = Option (List ℕ)
+
+-- the bytes of a text's cell: the text, behind the version 1 where cells of the type have one
+abbrev pub versioned_cell : Bool → List ℕ → List ℕ
+versioned_cell false text = text
+versioned_cell true text = 1 ∷ text
 
 -- the cell that a call is handed
 abbrev pub cell_of : Option (Bor (List ℕ)) → Cell

@@ -76,7 +76,7 @@ first_civil = neg_ℤ (pos 378_651_801_600_000_000)
 abbrev pub last_civil : ℤ
 last_civil = pos 252_455_615_999_999_999
 
--- TIMESTAMP: the moment on a clock that stands that many microseconds after 2000-01-01 00:00:00
+-- TIMESTAMP: the civil datetime that stands that many microseconds after 2000-01-01 00:00:00
 abbrev pub ReadsDateTime : Cell → Outcome DateTime → Type 0
 ReadsDateTime = ReadsCount w64 first_civil last_civil (IsAfterBase civil_nanos)
 

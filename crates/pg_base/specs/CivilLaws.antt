@@ -129,7 +129,7 @@ thousandth_within (negsuc k) m n h = omega (arith, signed_arith, h)
 civil_within : (v : DateTime) → IsBetween first_civil last_civil (cut_micros (civil_nanos v))
 civil_within v = thousandth_within (civil_nanos v -ℤ base_nanos) 378_651_801_600_000_000 252_455_615_999_999_999 (omega (arith, signed_arith, civil_nanos_range v))
 
--- no moment on a clock is refused, and none is written as the least or the greatest number of 8 bytes
+-- no civil datetime is refused, and none is written as the least or the greatest number of 8 bytes
 pub datetime_written : (v : DateTime) → IsWrittenCount w64 first_civil last_civil (cut_micros (civil_nanos v)) (wire_datetime v)
 datetime_written v = let k = civil_within v in written w64 first_civil last_civil _ (omega (arith, signed_arith, k)) k
 
@@ -161,7 +161,7 @@ date_back v b e o d = back_date v o (written_back w32 from_be_bytes-to_be_bytes_
 pub time_back : (v : Time) (b : List ℕ) → wire_time v ≡ Ok (Some b) → (o : Outcome Time) → ReadsTime (Some b) o → IsOkAnd o (λ u. time_nanos u ≡ time_nanos v / 1000 * 1000)
 time_back v b e o d = back_time v o (written_back w64 from_be_bytes-to_be_bytes_8 (pos 0) last_micros IsAfterMidnight _ (wire_time v) (time_written v) b e o d)
 
--- a moment on a clock, and an instant, is read back as itself, cut to microseconds toward 2000-01-01 00:00:00
+-- a civil datetime, and an instant, is read back as itself, cut to microseconds toward 2000-01-01 00:00:00
 pub datetime_back : (v : DateTime) (b : List ℕ) → wire_datetime v ≡ Ok (Some b) → (o : Outcome DateTime) → ReadsDateTime (Some b) o → IsOkAnd o (IsAfterBase civil_nanos (cut_micros (civil_nanos v)))
 datetime_back v b e o d = written_back w64 from_be_bytes-to_be_bytes_8 first_civil last_civil (IsAfterBase civil_nanos) _ (wire_datetime v) (datetime_written v) b e o d
 

@@ -7,7 +7,7 @@ use Rattle.serde_json.specs.Read.{read}
 use Rattle.serde_json.specs.Written.{has_float, compact_text}
 use Rattle.pg_base.specs.declared.types.built_in.BuiltIn.TheVariants.{Json, Jsonb}
 use Rattle.pg_base.specs.Appending.{Wire}
-use Rattle.pg_base.specs.Cells.{Cell}
+use Rattle.pg_base.specs.Cells.{Cell, versioned_cell}
 use Rattle.pg_base.specs.Content.{Content, is_row}
 use Rattle.pg_base.specs.Faults.{Refusal, Outcome, size, json_version, json_text, json_number}
 use Rattle.pg_base.specs.Formats.{Checks, first_fault_of, ReadsPlain}
@@ -16,14 +16,9 @@ use Rattle.pg_base.specs.Formats.{Checks, first_fault_of, ReadsPlain}
 abbrev pub accepted_json : Content → Bool
 accepted_json ty = is_row Json ty || is_row Jsonb ty
 
--- the bytes of a document's cell: the text, after the version 1 in JSONB, which the first argument tells
-abbrev pub json_cell : Bool → List ℕ → List ℕ
-json_cell false text = text
-json_cell true text = 1 ∷ text
-
--- the bytes are the cell of a text that reads as v, whose numbers are all kept as i64 or u64
+-- the bytes are the cell of a text, behind a version in JSONB, that reads as v, whose numbers are all kept as i64 or u64
 abbrev pub FormJson : {A : Type 0} → (A → Data) → Bool → List ℕ → A → Type 0
-FormJson view_of versioned b v = (text : List ℕ) × (b ≡ json_cell versioned text) × IsUtf8 text × (read text ≡ Some (view_of v)) × (has_float (view_of v) ≡ false)
+FormJson view_of versioned b v = (text : List ℕ) × (b ≡ versioned_cell versioned text) × IsUtf8 text × (read text ≡ Some (view_of v)) × (has_float (view_of v) ≡ false)
 
 -- the document that bytes are, if they are one
 abbrev pub document_of : List ℕ → Option Data
@@ -46,4 +41,4 @@ ReadsJson view_of versioned = ReadsPlain (FormJson view_of versioned) (first_fau
 
 -- what a document is written as: the cell of its compact text, or JsonNumber where it holds another number
 abbrev pub wire_json : Bool → Data → Wire
-wire_json versioned d = if has_float d then Err json_number else Ok (Some (json_cell versioned (compact_text d)))
+wire_json versioned d = if has_float d then Err json_number else Ok (Some (versioned_cell versioned (compact_text d)))

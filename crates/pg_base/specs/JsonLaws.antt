@@ -4,19 +4,20 @@ use Rattle.std.proofs.Common.{sym, ◌∙◌, ap, arith, drop}
 use Rattle.std.proofs.lemmas.Bool.Decides.{nat_tests}
 use Rattle.std.proofs.lemmas.Str.{is_utf8-from_IsUtf8}
 use Rattle.serde_json.specs.Data.{Data}
+use Rattle.pg_base.specs.Cells.{versioned_cell}
 use Rattle.pg_base.specs.Formats.{IsGrammar}
-use Rattle.pg_base.specs.Json.{FormJson, first_fault_json, json_cell}
+use Rattle.pg_base.specs.Json.{FormJson, first_fault_json}
 
 -- the text of a cell
 abbrev text_in : Bool → List ℕ → List ℕ
 text_in false b = b
 text_in true b = drop 1 b
 
-text_back : (versioned : Bool) (text : List ℕ) → text_in versioned (json_cell versioned text) ≡ text
+text_back : (versioned : Bool) (text : List ℕ) → text_in versioned (versioned_cell versioned text) ≡ text
 text_back false text = refl
 text_back true text = refl
 
-not_empty : (text : List ℕ) → nat_lt 0 (length (json_cell true text)) ≡ true
+not_empty : (text : List ℕ) → nat_lt 0 (length (versioned_cell true text)) ≡ true
 not_empty text = grind (arith, nat_tests)
 
 json_passes : {A : Type 0} (view_of : A → Data) (versioned : Bool) (b : List ℕ) (v : A) → FormJson view_of versioned b v → first_fault_json versioned b ≡ None

@@ -71,6 +71,11 @@ ReadsSpecial w seen reads None (Err r) = r ≡ was_null
 ReadsSpecial w seen reads (Some b) (Ok s) = FormSpecial w (λ v. reads (Some b) (Ok v)) b (seen s)
 ReadsSpecial w seen reads (Some b) (Err r) = RefusedSpecial w (λ f. reads (Some b) (Err f)) b r
 
+-- NULL, an infinity and a cell of another width are read without memory, and a value where its own reading is
+abbrev pub FreeSpecial : Width → (List ℕ → Type 0) → Cell → Type 0
+FreeSpecial w free None = Unit {0}
+FreeSpecial w free (Some b) = IsFiniteCell w b → free b
+
 -- an infinity is written as its bytes, and a value as the value inside
 abbrev pub wire_special : {A : Type 0} → Width → (A → Wire) → Special A → Wire
 wire_special w wire pos_infinity = Ok (Some (infinity w))

@@ -4,7 +4,7 @@ use Rattle.std.specs.Prelude.{◌≡◌, ℕ, ◌==◌, ◌||◌, List, [], ◌�
 use Rattle.std.specs.Cmp.Lexicographic.{pointwise}
 use Rattle.std.specs.Str.{is_utf8}
 use Rattle.pg_base.specs.declared.types.built_in.BuiltIn.TheVariants.{Varchar, Text, Bpchar, Name, Unknown}
-use Rattle.pg_base.specs.Cells.{Cell}
+use Rattle.pg_base.specs.Cells.{Cell, versioned_cell}
 use Rattle.pg_base.specs.Content.{Content, is_row, name_of}
 use Rattle.pg_base.specs.Faults.{Refusal, Outcome, utf8, text_version, transmit}
 use Rattle.pg_base.specs.Formats.{first_fault_of, ReadsPlain}
@@ -23,14 +23,9 @@ abbrev pub accepted_text : Content → Bool
 accepted_text ty =
     is_row Varchar ty || (is_row Text ty || (is_row Bpchar ty || (is_row Name ty || (is_row Unknown ty || (is_named (codes "citext") ty || has_version ty)))))
 
--- the bytes of a text's cell: the text, after the version 1 where cells have one
-abbrev pub text_cell : Bool → List ℕ → List ℕ
-text_cell false s = s
-text_cell true s = 1 ∷ s
-
 -- the bytes are the cell of this text, which is UTF-8; the first argument tells a text's bytes
 abbrev pub FormText : {A : Type 0} → (A → List ℕ) → Bool → List ℕ → A → Type 0
-FormText bytes_of versioned b text = IsUtf8 (bytes_of text) × (b ≡ text_cell versioned (bytes_of text))
+FormText bytes_of versioned b text = IsUtf8 (bytes_of text) × (b ≡ versioned_cell versioned (bytes_of text))
 
 -- another first byte than the version, or none, is TextVersion; what is no UTF-8 is Utf8
 abbrev pub first_fault_text : Bool → List ℕ → Option Refusal
@@ -43,4 +38,4 @@ ReadsText bytes_of versioned = ReadsPlain (FormText bytes_of versioned) (first_f
 
 -- what a text is written as: its cell
 abbrev pub wire_text : Bool → List ℕ → Wire
-wire_text versioned s = if is_utf8 s then Ok (Some (text_cell versioned s)) else Err transmit
+wire_text versioned s = if is_utf8 s then Ok (Some (versioned_cell versioned s)) else Err transmit

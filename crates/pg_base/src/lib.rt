@@ -6,6 +6,7 @@
 
 pub mod acceptance;
 pub mod bits;
+pub mod epoch;
 pub mod fault;
 pub mod format;
 pub mod json;

@@ -4,6 +4,8 @@ ghost use Rattle.std.specs.Int.{w64};
 
 pub mod laws;
 
+use crate::epoch::POSTGRES_EPOCH_SECS;
+
 /// A moment: seconds from 1970-01-01 00:00:00 UTC, negative before it, and the nanoseconds after
 /// that second.
 ///
@@ -14,9 +16,6 @@ pub struct UnixTime {
     nanos: u32,
     ghost within_second: { nanos < 1_000_000_000 },
 }
-
-/// 2000-01-01 00:00:00 UTC, from which PostgreSQL counts, in seconds.
-const POSTGRES_EPOCH: i64 = 946_684_800;
 
 impl UnixTime {
     ghost use Rattle.pg_base.specs.Moments.{IsAfterBase, nanos_of, cut_micros};
@@ -53,7 +52,7 @@ impl UnixTime {
         ensures { IsAfterBase nanos_of micros result }
     {
         UnixTime {
-            secs: POSTGRES_EPOCH + micros.div_euclid(1_000_000),
+            secs: POSTGRES_EPOCH_SECS + micros.div_euclid(1_000_000),
             nanos: micros.rem_euclid(1_000_000) as u32 * 1_000,
         }
     }
@@ -64,7 +63,7 @@ impl UnixTime {
         ensures { MatchOption result (fits_signed w64 (cut_micros (nanos_of self.now)) ≡ false)
             (λ micros. micros ≡ cut_micros (nanos_of self.now)) }
     {
-        let secs = i128::from(self.secs) - i128::from(POSTGRES_EPOCH);
+        let secs = i128::from(self.secs) - i128::from(POSTGRES_EPOCH_SECS);
         let nanos = secs * 1_000_000_000 + i128::from(self.nanos);
         i64::try_from(nanos / 1_000).ok()
     }

@@ -14,16 +14,11 @@ ghost use Rattle.pg_read.specs.Reading.{EveryCell, plain_single};
 use crate::from_sql::FromSql;
 use jiff::civil::{Date, DateTime, Time};
 use jiff::{SignedDuration, Timestamp};
+use pg_base::epoch::{POSTGRES_EPOCH_DAY, POSTGRES_EPOCH_NANOS};
 use pg_base::fault::Fault;
 use pg_base::protocol::{date_from_sql, time_from_sql, timestamp_from_sql};
 use pg_base::types::PgType;
 use std::alloc::Global;
-
-/// 2000-01-01, from which PostgreSQL counts, in days from 1970-01-01.
-const BASE_DAY: i64 = 10_957;
-
-/// 2000-01-01 00:00:00, from which PostgreSQL counts, in nanoseconds from 1970-01-01 00:00:00.
-const BASE_NANOS: i128 = 946_684_800_000_000_000;
 
 /// The date that many days after 2000-01-01.
 fn date_of(days: i32) -> Result<Date, Fault>
@@ -32,7 +27,7 @@ fn date_of(days: i32) -> Result<Date, Fault>
 {
     let base = Date::ZERO;
     let base_day = i64::from(base.to_plain().to_unix_epoch_day());
-    let distance = i64::from(days) + BASE_DAY - base_day;
+    let distance = i64::from(days) + i64::from(POSTGRES_EPOCH_DAY) - base_day;
     match base.checked_add(SignedDuration::from_secs(distance * 86_400)) {
         Ok(date) => Ok(date),
         Err(_) => Err(Fault::Decode),
@@ -50,13 +45,13 @@ fn time_of(micros: i64) -> Result<Time, Fault>
     }
 }
 
-/// The moment on a clock that many microseconds after 2000-01-01 00:00:00.
+/// The civil datetime that many microseconds after 2000-01-01 00:00:00.
 fn datetime_of(micros: i64) -> Result<DateTime, Fault>
     ensures gives { Answers (CountGives first_civil last_civil (IsAfterBase civil_nanos) micros) result }
     ensures never_memory { NeverMemory result }
 {
     let base = DateTime::ZERO;
-    let distance = BASE_NANOS + i128::from(micros) * 1_000 - base.to_plain().to_nanosecond();
+    let distance = POSTGRES_EPOCH_NANOS + i128::from(micros) * 1_000 - base.to_plain().to_nanosecond();
     match base.checked_add(SignedDuration::from_nanos_i128(distance)) {
         Ok(datetime) => Ok(datetime),
         Err(_) => Err(Fault::Decode),
@@ -68,7 +63,7 @@ fn instant_of(micros: i64) -> Result<Timestamp, Fault>
     ensures gives { Answers (CountGives first_instant last_instant (IsAfterBase instant_nanos) micros) result }
     ensures never_memory { NeverMemory result }
 {
-    match Timestamp::from_nanosecond(BASE_NANOS + i128::from(micros) * 1_000) {
+    match Timestamp::from_nanosecond(POSTGRES_EPOCH_NANOS + i128::from(micros) * 1_000) {
         Ok(instant) => Ok(instant),
         Err(_) => Err(Fault::Decode),
     }
@@ -138,7 +133,7 @@ impl<'a> FromSql<'a> for Time {
 
 /// TIMESTAMP: 8 bytes, highest first, in two's complement, the microseconds from 2000-01-01 00:00:00
 /// (`timestamp_recv`). Any other length is `Size`, a moment before -9999-01-01 00:00:00 or after
-/// 9999-12-31 is `Decode`, the two counts that PostgreSQL takes for infinities included, and NULL is
+/// 9999-12-31 23:59:59.999999 is `Decode`, the two counts that PostgreSQL takes for infinities included, and NULL is
 /// `WasNull`.
 impl<'a> FromSql<'a> for DateTime {
     ghost same = { λ v w. civil_nanos v ≡ civil_nanos w };

@@ -15,8 +15,8 @@ use pg_base::unix_time::UnixTime;
 use std::alloc::Global;
 
 /// TIMESTAMP, TIMESTAMPTZ: 8 bytes, highest first, in two's complement, the microseconds from
-/// 2000-01-01 00:00:00 UTC. Every count is a moment. Any other length is `Size`, and NULL is
-/// `WasNull`.
+/// 2000-01-01 00:00:00 UTC (`timestamp_recv`, `timestamptz_recv`). Every count is a moment. Any
+/// other length is `Size`, and NULL is `WasNull`.
 impl<'a> FromSql<'a> for UnixTime {
     ghost same = { λ v w. nanos_of v ≡ nanos_of w };
 

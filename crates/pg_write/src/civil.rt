@@ -12,23 +12,18 @@ use crate::to_sql::{ToSql, wrong_type};
 use bytes::BytesMut;
 use jiff::Timestamp;
 use jiff::civil::{Date, DateTime, Time};
+use pg_base::epoch::{POSTGRES_EPOCH_DAY, POSTGRES_EPOCH_NANOS};
 use pg_base::fault::Fault;
 use pg_base::format::{Format, IsNull};
 use pg_base::protocol::{date_to_sql, time_to_sql, timestamp_to_sql};
 use pg_base::types::PgType;
 use std::alloc::Global;
 
-/// 2000-01-01, from which PostgreSQL counts, in days from 1970-01-01.
-const BASE_DAY: i32 = 10_957;
-
-/// 2000-01-01 00:00:00, from which PostgreSQL counts, in nanoseconds from 1970-01-01 00:00:00.
-const BASE_NANOS: i128 = 946_684_800_000_000_000;
-
 /// The days from 2000-01-01 to a date.
 fn days_of(date: Date) -> i32
     ensures { result ≡ epoch_day date -ℤ base_day }
 {
-    date.to_plain().to_unix_epoch_day() - BASE_DAY
+    date.to_plain().to_unix_epoch_day() - POSTGRES_EPOCH_DAY
 }
 
 /// The microseconds from midnight to a time, cut.
@@ -38,18 +33,18 @@ fn micros_of_time(time: Time) -> i64
     (time.to_plain().to_nanosecond() / 1_000) as i64
 }
 
-/// The microseconds from 2000-01-01 00:00:00 to a moment on a clock, cut toward it.
+/// The microseconds from 2000-01-01 00:00:00 to a civil datetime, cut toward it.
 fn micros_of_datetime(datetime: DateTime) -> i64
     ensures { result ≡ cut_micros (civil_nanos datetime) }
 {
-    ((datetime.to_plain().to_nanosecond() - BASE_NANOS) / 1_000) as i64
+    ((datetime.to_plain().to_nanosecond() - POSTGRES_EPOCH_NANOS) / 1_000) as i64
 }
 
 /// The microseconds from 2000-01-01 00:00:00 UTC to an instant, cut toward it.
 fn micros_of_instant(instant: Timestamp) -> i64
     ensures { result ≡ cut_micros (instant_nanos instant) }
 {
-    ((instant.as_nanosecond() - BASE_NANOS) / 1_000) as i64
+    ((instant.as_nanosecond() - POSTGRES_EPOCH_NANOS) / 1_000) as i64
 }
 
 /// DATE: 4 bytes, highest first, in two's complement, the days from 2000-01-01 (`date_send`). No date

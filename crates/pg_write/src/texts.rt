@@ -5,7 +5,8 @@ ghost use Rattle.std.specs.Cow.{cow_str_bytes};
 ghost use Rattle.pg_base.specs.declared.format.Format.TheVariants.{Binary};
 ghost use Rattle.pg_base.specs.Appending.{Appends};
 ghost use Rattle.pg_base.specs.Content.{content};
-ghost use Rattle.pg_base.specs.Texts.{accepted_text, has_version, text_cell, wire_text};
+ghost use Rattle.pg_base.specs.Cells.{versioned_cell};
+ghost use Rattle.pg_base.specs.Texts.{accepted_text, has_version, wire_text};
 ghost use Rattle.pg_write.specs.Writing.{checked_by};
 
 use crate::to_sql::{ToSql, wrong_type};
@@ -21,7 +22,7 @@ use std::boxed::BoxedStr;
 
 /// Appends the cell of a text for that type.
 fn append_text(alloc: Global, ty: &PgType, text: &str, out: &mut BytesMut) -> Result<(), Fault>
-    ensures { Appends (Some (text_cell (has_version (content ty.now)) text.now)) out.old out.new result }
+    ensures { Appends (Some (versioned_cell (has_version (content ty.now)) text.now)) out.old out.new result }
 {
     if has_version(ty) {
         ltree_to_sql(alloc, text, out)

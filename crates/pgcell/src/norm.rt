@@ -17,6 +17,9 @@ use std::collections::HashMap;
 use std::net::IpAddr;
 use uuid::Uuid;
 
+/// What an hstore is read as.
+type Map = HashMap<String, Option<String>>;
+
 /// Rewrites the cell by what the name stands for, and puts what came of it after what is pending.
 pub fn norm(
     alloc: Global,
@@ -69,9 +72,7 @@ fn norm_of(
         Base::PgLsn => norm_as::<PgLsn>(alloc, ty, optional, cell, pending),
         Base::Unix => norm_as::<UnixTime>(alloc, ty, optional, cell, pending),
         Base::Ltree => norm_as::<String>(alloc, ty, optional, cell, pending),
-        Base::Hstore => {
-            norm_as::<HashMap<String, Option<String>>>(alloc, ty, optional, cell, pending)
-        }
+        Base::Hstore => norm_as::<Map>(alloc, ty, optional, cell, pending),
     }
 }
 

@@ -1,6 +1,6 @@
 //! Dates, times of day and moments of `jiff`.
 
-use super::{read, reads, refuses, spells, writes};
+use super::{made, read, reads, refuses, spells, writes};
 use jiff::Timestamp;
 use jiff::civil::{Date, DateTime, Time};
 use postgres_types::private::BytesMut;
@@ -64,7 +64,7 @@ fn times_are_microseconds_from_midnight(rt: HostRuntime) -> Result<(), Fail> {
 }
 
 #[test]
-fn moments_on_a_clock_are_microseconds_from_2000(rt: HostRuntime) -> Result<(), Fail> {
+fn datetimes_are_microseconds_from_2000(rt: HostRuntime) -> Result<(), Fail> {
     let alloc = rt.alloc();
     let first = (-378_651_801_600_000_000i64).to_be_bytes();
     let last = 252_455_615_999_999_999i64.to_be_bytes();
@@ -93,7 +93,7 @@ fn moments_on_a_clock_are_microseconds_from_2000(rt: HostRuntime) -> Result<(), 
 }
 
 #[test]
-fn finer_moments_on_a_clock_are_cut_toward_2000(rt: HostRuntime) -> Result<(), Fail> {
+fn finer_datetimes_are_cut_toward_2000(rt: HostRuntime) -> Result<(), Fail> {
     let alloc = rt.alloc();
     let last = 252_455_615_999_999_999i64.to_be_bytes();
     let rows = [
@@ -152,6 +152,11 @@ fn each_type_has_its_own_cells(rt: HostRuntime) -> Result<(), Fail> {
     assert!(rt; !<Time as ToSql>::accepts(&Type::INT8));
     assert!(rt; !<DateTime as ToSql>::accepts(&Type::TIMESTAMPTZ));
     assert!(rt; !<Timestamp as ToSql>::accepts(&Type::TIMESTAMP));
+    let alloc = rt.alloc();
+    let date = made(alloc, "date", 1_082, "pg_catalog")?;
+    assert!(rt; !<Date as FromSql>::accepts(&date));
+    let timestamp = made(alloc, "timestamp", 1_114, "pg_catalog")?;
+    assert!(rt; !<DateTime as ToSql>::accepts(&timestamp));
     Ok(())
 }
 

@@ -1,3 +1,5 @@
+//! The forms of Debug.
+
 use super::made;
 use postgres_types::protocol::{inet_from_sql, varbit_from_sql};
 use postgres_types::{

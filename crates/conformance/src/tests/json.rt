@@ -1,8 +1,8 @@
 //! Documents, as `serde_json::Value`.
 
-use super::{read, reads, refusal, refuses, writes};
+use super::{read, reads, refusal, refuses, rewrites, writes};
 use postgres_types::private::BytesMut;
-use postgres_types::{FromSql, ToSql, Type, rewrite};
+use postgres_types::{FromSql, ToSql, Type};
 use serde::{Deserialize, Serialize};
 use serde_json::{Value, json};
 use std::alloc::Global;
@@ -88,13 +88,13 @@ fn a_document_is_written_as_its_compact_text(rt: HostRuntime) -> Result<(), Fail
         &Type::JSON,
         &[0x6e, 0x75, 0x6c, 0x6c],
     )?;
-    let mut out = BytesMut::new(alloc);
-    let cell = b"\x01 { \"b\" : 1, \"a\" : [ true, null ] } ";
-    let _ = rewrite::<Value>(alloc, &Type::JSONB, Some(cell), &mut out)?;
-    assert_eq!(rt;
-        out.as_slice(),
-        b"\x01{\"a\":[true,null],\"b\":1}".as_slice()
-    );
+    let written = b"\x01{\"a\":[true,null],\"b\":1}";
+    for cell in [
+        b"\x01{\"b\":1,\"a\":[true,null]}".as_slice(),
+        b"\x01 { \"b\" : 1, \"a\" : [ true, null ] } ",
+    ] {
+        rewrites::<Value>(&rt, alloc, &Type::JSONB, cell, written)?;
+    }
     Ok(())
 }
 

@@ -93,5 +93,9 @@ fn dates_and_times_are_named(rt: HostRuntime) -> Result<(), Fail> {
     refuses_odd(&rt, alloc, &Date::ZERO, "jiff::civil::Date")?;
     refuses_odd(&rt, alloc, &Time::MIN, "jiff::civil::Time")?;
     refuses_odd(&rt, alloc, &DateTime::ZERO, "jiff::civil::DateTime")?;
-    refuses_odd(&rt, alloc, &Timestamp::MIN, "jiff::Timestamp")
+    refuses_odd(&rt, alloc, &Timestamp::MIN, "jiff::Timestamp")?;
+    let infinite = postgres_types::Date::Value(Date::ZERO);
+    refuses_odd(&rt, alloc, &infinite, "Date")?;
+    let infinite = postgres_types::Timestamp::Value(Timestamp::MIN);
+    refuses_odd(&rt, alloc, &infinite, "Timestamp")
 }

@@ -1,3 +1,5 @@
+//! Dates and moments with infinities.
+
 use super::days::{Days, NoDay};
 use super::{reads, refusal, rewrites, spells, writes};
 use jiff::civil;
@@ -208,11 +210,18 @@ fn values_of_jiff_have_infinities(rt: HostRuntime) -> Result<(), Fail> {
     reads(&rt, alloc, &Type::DATE, &LAST_DATE, outer)?;
 
     let midnight = civil::Date::new(2000, 1, 1)?.to_datetime(civil::Time::midnight());
-    let moments: [(Timestamp<civil::DateTime>, &[u8]); 2] = [
+    let moments: [(Timestamp<civil::DateTime>, &[u8]); 3] = [
         (Timestamp::PosInfinity, &LAST_MOMENT),
+        (Timestamp::NegInfinity, &FIRST_MOMENT),
         (Timestamp::Value(midnight), &[0; 8]),
     ];
     spells(&rt, alloc, &Type::TIMESTAMP, &moments)?;
+    let base = jiff::Timestamp::from_second(946_684_800)?;
+    let instants: [(Timestamp<jiff::Timestamp>, &[u8]); 2] = [
+        (Timestamp::NegInfinity, &FIRST_MOMENT),
+        (Timestamp::Value(base), &[0; 8]),
+    ];
+    spells(&rt, alloc, &Type::TIMESTAMPTZ, &instants)?;
     let cut = refusal::<Timestamp<civil::DateTime>>(alloc, &Type::TIMESTAMP, Some(&LAST_DATE));
     assert_eq!(rt; cut, 4);
     Ok(())

@@ -1,15 +1,14 @@
 //! Reading dates with infinities.
 ghost use Rattle.std.specs.Prelude.{Some};
 ghost use Rattle.std.specs.Int.{w32};
-ghost use Rattle.pg_base.specs.Options.{NoneOr};
-ghost use Rattle.pg_base.specs.Special.{ReadsSpecial, SameSpecial, accepted_date, date_seen};
+ghost use Rattle.pg_base.specs.Special.{FreeSpecial, ReadsSpecial, SameSpecial, accepted_date, date_seen};
 ghost use Rattle.pg_base.specs.SpecialLaws.{special_equivalence, inside_accepted};
 ghost use Rattle.pg_read.specs.SpecialReading.{special_single};
 
 use crate::from_sql::FromSql;
 use pg_base::acceptance::is_date;
 use pg_base::fault::Fault;
-use pg_base::protocol::int4_from_sql;
+use pg_base::protocol::date_from_sql;
 use pg_base::special::Date;
 use pg_base::types::PgType;
 use std::alloc::Global;
@@ -24,7 +23,7 @@ impl<'a, T: FromSql<'a>> FromSql<'a> for Date<T> {
 
     ghost reads = { λ ty. ReadsSpecial w32 date_seen (T.reads ty) };
 
-    ghost memory_free = { NoneOr (λ b. T.memory_free (Some b)) };
+    ghost memory_free = { FreeSpecial w32 (λ b. T.memory_free (Some b)) };
 
     ghost equivalence = { special_equivalence T.same T.equivalence date_seen };
 
@@ -32,7 +31,7 @@ impl<'a, T: FromSql<'a>> FromSql<'a> for Date<T> {
 
     #[tactic(auto, using(pg_base::proofs::SpecialLemmas::finite_date))]
     fn from_sql(alloc: Global, ty: &PgType, raw: &'a [u8]) -> Result<Date<T>, Fault> {
-        let days = int4_from_sql(raw)?;
+        let days = date_from_sql(raw)?;
         if days == i32::MAX {
             return Ok(Date::PosInfinity);
         }

@@ -1,8 +1,7 @@
 //! Reading moments with infinities.
 ghost use Rattle.std.specs.Prelude.{Some};
 ghost use Rattle.std.specs.Int.{w64};
-ghost use Rattle.pg_base.specs.Options.{NoneOr};
-ghost use Rattle.pg_base.specs.Special.{ReadsSpecial, SameSpecial, accepted_timestamp, timestamp_seen};
+ghost use Rattle.pg_base.specs.Special.{FreeSpecial, ReadsSpecial, SameSpecial, accepted_timestamp, timestamp_seen};
 ghost use Rattle.pg_base.specs.SpecialLaws.{special_equivalence, inside_accepted};
 ghost use Rattle.pg_read.specs.SpecialReading.{special_single};
 
@@ -25,7 +24,7 @@ impl<'a, T: FromSql<'a>> FromSql<'a> for Timestamp<T> {
 
     ghost reads = { λ ty. ReadsSpecial w64 timestamp_seen (T.reads ty) };
 
-    ghost memory_free = { NoneOr (λ b. T.memory_free (Some b)) };
+    ghost memory_free = { FreeSpecial w64 (λ b. T.memory_free (Some b)) };
 
     ghost equivalence = { special_equivalence T.same T.equivalence timestamp_seen };
 

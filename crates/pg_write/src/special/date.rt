@@ -10,7 +10,7 @@ use bytes::BytesMut;
 use pg_base::acceptance::is_date;
 use pg_base::fault::Fault;
 use pg_base::format::{Format, IsNull};
-use pg_base::protocol::int4_to_sql;
+use pg_base::protocol::date_to_sql;
 use pg_base::special::Date;
 use pg_base::types::PgType;
 use std::alloc::Global;
@@ -38,7 +38,7 @@ impl<T: ToSql> ToSql for Date<T> {
             Date::NegInfinity => i32::MIN,
             Date::Value(value) => return value.to_sql(alloc, ty, out),
         };
-        int4_to_sql(alloc, days, out)?;
+        date_to_sql(alloc, days, out)?;
         Ok(IsNull::No)
     }
 
