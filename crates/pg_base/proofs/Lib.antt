@@ -1,3 +1,4 @@
+pub mod ArrayHeads
 pub mod BitLemmas
 pub mod CellLemmas
 pub mod Contents
