@@ -1,2 +1,3 @@
 mod LastEntries
+mod ListSteps
 mod Refusals
