@@ -1,14 +1,17 @@
 -- Reading the elements of an array one after another.
-use Rattle.std.proofs.Common.{◌≡◌, ◌≢◌, ℕ, zero, suc, ◌+◌, ◌<◌, ◌≤◌, ◌==◌, Bool, true, false, List, [], ◌∷◌, ◌++◌, length, Some, None, Ok, Err, refl, sym, ◌∙◌, ap, subst, arith, inl, inr, length-append}
-use Rattle.std.specs.Prelude.{◌⊎◌}
-use Rattle.pg_base.specs.Arrays.{ArrayBody, SpellsHead, checks_of_next, head_checks, next_checks}
+use Rattle.std.proofs.Common.{◌≡◌, ◌≢◌, ℕ, zero, suc, ◌+◌, ◌<◌, ◌==◌, Bool, true, false, List, [], ◌∷◌, ◌++◌, length, Some, None, Ok, Err, refl, sym, ◌∙◌, ap, subst, arith, inl, inr, length-append}
+use Rattle.std.specs.Prelude.{◌⊎◌, Option, IfSome, nat_le}
+use Rattle.std.proofs.lemmas.Bool.Decides.{nat_tests}
+use Rattle.std.proofs.lemmas.Option.{IfSome_then}
+use Rattle.pg_base.specs.Arrays.{SpellsHead, checks_of_next, next_checks}
 use Rattle.pg_base.specs.CellLaws.{no_cell}
 use Rattle.pg_base.specs.Cells.{Cell, Spells, SpellsAll, SpellsNone, CellsInRow}
+use Rattle.pg_base.specs.Content.{Content}
 use Rattle.pg_base.specs.Counts.{ToRead, has_cell, has_number, nothing}
 use Rattle.pg_base.specs.Faults.{Refusal, Outcome, size}
 use Rattle.pg_base.specs.Formats.{first_fault_of}
 use Rattle.pg_base.proofs.CellRows.{AreBytes, cells_exist, head_bytes, row_bytes}
-use Rattle.pg_read.specs.ListReading.{ReadsAll, ReadsArray, ReadsElements, ReadsList}
+use Rattle.pg_read.specs.ListReading.{ReadsAll, ReadsElements, ReadsList, ReadsMembers, end_checks}
 
 -- between the start and now these cells were taken
 pub record HaveBeenTaken (start : ToRead) (cs : List Cell) (now : ToRead) : Type 0 where
@@ -77,9 +80,26 @@ all_taken start now cs h end =
     let many : length cs ≡ start.left = omega (arith, h.so_many, ap (λ (r : ToRead). r.left) end) in
     (many, (subst (λ x. SpellsAll start.bytes cs x) (ap (λ (r : ToRead). r.bytes) end) h.spelled, omega (arith, many), inl many))
 
--- where the next step fails, these are all cells that are there, and cells are missing or bytes are left
+-- where the next step fails, these are all cells that are there, and a check behind them fails
+cells_missing : (n : ℕ) (cs : List Cell) (rest : List ℕ) → length cs < n → first_fault_of (end_checks n cs rest) ≡ Some size
+cells_missing n cs rest h =
+    let fewer : nat_le n (length cs) ≡ false = grind (arith, nat_tests) in
+    rw fewer refl
+
+bytes_left : (n : ℕ) (cs : List Cell) (rest : List ℕ) → length cs ≡ n → rest ≢ [] → first_fault_of (end_checks n cs rest) ≡ Some size
+bytes_left n cs [] h left = absurd (left refl)
+bytes_left n cs (x ∷ rest) h left =
+    let all : nat_le n (length cs) ≡ true = grind (arith, nat_tests) in
+    let some : (length (x ∷ rest) == 0) ≡ false = grind (arith, nat_tests) in
+    rw (all, some) refl
+
+none_left : (n : ℕ) (cs : List Cell) → length cs ≡ n → first_fault_of (end_checks n cs []) ≡ None
+none_left n cs h =
+    let all : nat_le n (length cs) ≡ true = grind (arith, nat_tests) in
+    rw all refl
+
 pub all_there : (start now : ToRead) (cs : List Cell) (r : Refusal) → HaveBeenTaken start cs now → first_fault_of (next_checks now) ≡ Some r
-    → CellsInRow start.bytes start.left cs now.bytes × (r ≡ size) × ((length cs < start.left) ⊎ (now.bytes ≢ []))
+    → CellsInRow start.bytes start.left cs now.bytes × (first_fault_of (end_checks start.left cs now.bytes) ≡ Some r)
 all_there start now cs r h e =
     let p = stops now.left now.bytes r e in (
       (
@@ -87,8 +107,10 @@ all_there start now cs r h e =
         omega (arith, h.so_many),
         elim p.1 [ inl z ↦ inl (omega (arith, h.so_many, z.0)) | inr z ↦ inr z.1 ],
       ),
-      p.0,
-      elim p.1 [ inl z ↦ inr z.1 | inr z ↦ inl (omega (arith, h.so_many, z.0)) ],
+      elim p.1 [
+        | inl z ↦ bytes_left start.left cs now.bytes (omega (arith, h.so_many, z.0)) z.1
+        | inr z ↦ cells_missing start.left cs now.bytes (omega (arith, h.so_many, z.0))
+      ] ∙ ap Some (sym p.0),
     )
 
 -- there are more cells behind those that were taken, or none
@@ -111,19 +133,33 @@ module _ {A X : Type 0} (items : X → List A) (reads : Cell → Outcome A → T
   pub list_ends : (x : X) → now ≡ nothing → items x ≡ vs → ReadsList items reads (Some b) (Ok x)
   list_ends x end is =
       let all = all_taken start now cs taken end in
-      (start.left, cs, [], (start.bytes, head, all.1), (subst (λ xs. ReadsAll reads cs (Ok xs)) (sym is) values, all.0, refl))
+      (start.left, cs, [], (start.bytes, head, all.1), (subst (λ xs. ReadsAll reads cs (Ok xs)) (sym is) values, none_left start.left cs all.0))
+
+  cut : (r : Refusal) → first_fault_of (next_checks now) ≡ Some r → ReadsList items reads (Some b) (Err r)
+  cut r e =
+      let all = all_there start now cs r taken e in
+      inr (start.left, cs, now.bytes, (start.bytes, head, all.0), inr (vs, values, all.1))
 
   -- it is Size where the next step fails
-  pub list_cut : (r : Refusal) → first_fault_of (next_checks now) ≡ Some r → ReadsList items reads (Some b) (Err r)
-  list_cut r e =
-      let all = all_there start now cs r taken e in
-      inr (start.left, cs, now.bytes, (start.bytes, head, all.0), inr (vs, values, all.1, all.2))
+  pub list_cut : (fault : Option Refusal) → IfSome fault (λ r. first_fault_of (next_checks now) ≡ Some r) → IfSome fault (λ r. ReadsList items reads (Some b) (Err r))
+  list_cut fault e = IfSome_then fault e cut
 
   -- and the fault of the next cell where that is refused
-  pub list_refused : (next : ToRead) (t : List ℕ) (c : Cell) (r : Refusal) → AreBytes b → next.left + 1 ≡ now.left → now.bytes ≡ t ++ next.bytes → Spells t c → reads c (Err r)
-      → ReadsList items reads (Some b) (Err r)
-  list_refused next t c r bytes n is spells refused =
-      let one = taken_next start now next cs c t taken n is spells in
-      let all = all_behind b start next (cs ++ c ∷ []) head bytes one in
-      let fault : ReadsAll reads (cs ++ c ∷ []) (Err r) = fault_more reads cs (c ∷ []) vs r values (inl refused) in
-      inr (start.left, (cs ++ c ∷ []) ++ all.0, all.1, (start.bytes, head, all.2), inl (fault_stays reads (cs ++ c ∷ []) all.0 r fault))
+  module _ (next : ToRead) (t : List ℕ) (c : Cell) (bytes : AreBytes b) (n : next.left + 1 ≡ now.left) (is : now.bytes ≡ t ++ next.bytes) (spells : Spells t c) where
+    refused : (r : Refusal) → reads c (Err r) → ReadsList items reads (Some b) (Err r)
+    refused r h =
+        let one = taken_next start now next cs c t taken n is spells in
+        let all = all_behind b start next (cs ++ c ∷ []) head bytes one in
+        let fault : ReadsAll reads (cs ++ c ∷ []) (Err r) = fault_more reads cs (c ∷ []) vs r values (inl h) in
+        inr (start.left, (cs ++ c ∷ []) ++ all.0, all.1, (start.bytes, head, all.2), inl (fault_stays reads (cs ++ c ∷ []) all.0 r fault))
+
+    pub list_refused : (fault : Option Refusal) → IfSome fault (λ r. reads c (Err r)) → IfSome fault (λ r. ReadsList items reads (Some b) (Err r))
+    list_refused fault e = IfSome_then fault e refused
+
+-- where one list is read, so is another that holds the same
+pub same_items : {A X Y : Type 0} (items : X → List A) (others : Y → List A) (reads : Content → Cell → Outcome A → Type 0) (member : Option Content) (cell : Cell) (x : X) (y : Y) → others y ≡ items x
+    → ReadsMembers (λ m. ReadsList items (reads m)) member cell (Ok x) → ReadsMembers (λ m. ReadsList others (reads m)) member cell (Ok y)
+same_items items others reads None cell x y e h = absurd h
+same_items items others reads (Some m) None x y e h = absurd h
+same_items items others reads (Some m) (Some b) x y e h =
+    (h.0, h.1, h.2, h.3, subst (λ vs. ReadsElements (reads m) h.0 h.1 h.2 (Ok vs)) (sym e) h.4)

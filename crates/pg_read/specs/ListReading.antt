@@ -1,14 +1,14 @@
 -- Reading a list from an array's cell.
-use Rattle.std.specs.Prelude.{◌≡◌, ◌≢◌, ◌⊎◌, ◌<◌, ℕ, List, [], ◌∷◌, length, Option, Some, None, Ok, Err, Bool, IsTrue}
-use Rattle.std.proofs.Common.{sym, ◌∙◌, subst, arith, inl, inr, true≢false}
+use Rattle.std.specs.Prelude.{◌≡◌, ◌⊎◌, ◌==◌, nat_le, ℕ, List, [], ◌∷◌, length, Option, Some, None, Ok, Err, Bool, IsTrue}
+use Rattle.std.proofs.Common.{sym, ◌∙◌, subst, inl, inr, true≢false}
 use Rattle.pg_base.specs.Arrays.{ArrayBody, head_checks, accepted_member, accepted_list, member_of}
 use Rattle.pg_base.specs.ArrayLaws.{body_single, head_passes}
 use Rattle.pg_base.specs.Cells.{Cell}
 use Rattle.pg_base.specs.Content.{Content}
 use Rattle.pg_base.specs.Faults.{Refusal, Outcome, was_null, size}
-use Rattle.pg_base.specs.Formats.{first_fault_of}
+use Rattle.pg_base.specs.Formats.{Checks, first_fault_of}
 use Rattle.pg_base.specs.Sameness.{SameList}
-use Rattle.pg_read.specs.Reading.{SameOutcome, ReadsSingle}
+use Rattle.pg_read.specs.Reading.{SameOutcome, ReadsSingle, no_fault}
 
 -- what cells give, in their order: the values, or the first fault
 abbrev pub ReadsAll : {A : Type 0} → (Cell → Outcome A → Type 0) → List Cell → Outcome (List A) → Type 0
@@ -19,12 +19,19 @@ ReadsAll reads (c ∷ cs) (Ok []) = ⊥
 ReadsAll reads (c ∷ cs) (Ok (v ∷ vs)) = reads c (Ok v) × ReadsAll reads cs (Ok vs)
 ReadsAll {A} reads (c ∷ cs) (Err r) = reads c (Err r) ⊎ ((v : A) × reads c (Ok v) × ReadsAll reads cs (Err r))
 
--- what n stated elements give of which the cells cs are there, and rest comes after them: the first fault of the cells;
--- then Size where cells are missing or bytes are left; otherwise the values
+-- the same with checks behind the cells: where no cell is refused, the first check that fails gives its fault
+abbrev pub ReadsChecked : {A : Type 0} → (Cell → Outcome A → Type 0) → Checks → List Cell → Outcome (List A) → Type 0
+ReadsChecked reads checks cs (Ok vs) = ReadsAll reads cs (Ok vs) × (first_fault_of checks ≡ None)
+ReadsChecked {A} reads checks cs (Err r) =
+    ReadsAll reads cs (Err r) ⊎ ((vs : List A) × ReadsAll reads cs (Ok vs) × (first_fault_of checks ≡ Some r))
+
+-- the checks behind the cells of an array that states n elements: all of them are there, and no bytes are left
+abbrev pub end_checks : ℕ → List Cell → List ℕ → Checks
+end_checks n cs rest = (nat_le n (length cs), size) ∷ (length rest == 0, size) ∷ []
+
+-- what the elements of a list give
 abbrev pub ReadsElements : {A : Type 0} → (Cell → Outcome A → Type 0) → ℕ → List Cell → List ℕ → Outcome (List A) → Type 0
-ReadsElements reads n cs rest (Ok vs) = ReadsAll reads cs (Ok vs) × (length cs ≡ n) × (rest ≡ [])
-ReadsElements {A} reads n cs rest (Err r) =
-    ReadsAll reads cs (Err r) ⊎ ((vs : List A) × ReadsAll reads cs (Ok vs) × (r ≡ size) × ((length cs < n) ⊎ (rest ≢ [])))
+ReadsElements reads n cs rest = ReadsChecked reads (end_checks n cs rest) cs
 
 -- NULL is WasNull; bytes that begin with no sound head give its first fault, and all others what their elements give
 abbrev pub ReadsArray : {A X : Type 0} → (X → List A) → (ℕ → List Cell → List ℕ → Outcome (List A) → Type 0) → Cell → Outcome X → Type 0
@@ -64,19 +71,14 @@ module _ {A : Type 0} (same : A → A → Type 0) (reads : Cell → Outcome A �
     | inr z ↦ elim k [ inl y ↦ absurd (single c (Ok z.0) (Err f) z.1 y) | inr y ↦ all_single cs (Err r) (Err f) z.2 y.2 ]
   ]
 
-  elements_single : (n : ℕ) (cs : List Cell) (rest : List ℕ) (r s : Outcome (List A)) → ReadsElements reads n cs rest r → ReadsElements reads n cs rest s → SameOutcome (SameList same) r s
-  elements_single n cs rest (Ok vs) (Ok ws) h k = all_single cs (Ok vs) (Ok ws) h.0 k.0
-  elements_single n cs rest (Ok vs) (Err f) h k = elim k [
-    | inl y ↦ all_single cs (Ok vs) (Err f) h.0 y
-    | inr y ↦ elim y.3 [ inl e ↦ absurd (omega (arith, e, h.1)) | inr e ↦ absurd (e h.2) ]
-  ]
-  elements_single n cs rest (Err r) (Ok ws) h k = elim h [
-    | inl z ↦ all_single cs (Err r) (Ok ws) z k.0
-    | inr z ↦ elim z.3 [ inl e ↦ absurd (omega (arith, e, k.1)) | inr e ↦ absurd (e k.2) ]
-  ]
-  elements_single n cs rest (Err r) (Err f) h k = elim h [
+  -- and so they do with checks behind them
+  pub checked_single : (checks : Checks) (cs : List Cell) (r s : Outcome (List A)) → ReadsChecked reads checks cs r → ReadsChecked reads checks cs s → SameOutcome (SameList same) r s
+  checked_single checks cs (Ok vs) (Ok ws) h k = all_single cs (Ok vs) (Ok ws) h.0 k.0
+  checked_single checks cs (Ok vs) (Err f) h k = elim k [ inl y ↦ all_single cs (Ok vs) (Err f) h.0 y | inr y ↦ absurd (no_fault (first_fault_of checks) f h.1 y.2) ]
+  checked_single checks cs (Err r) (Ok ws) h k = elim h [ inl z ↦ all_single cs (Err r) (Ok ws) z k.0 | inr z ↦ absurd (no_fault (first_fault_of checks) r k.1 z.2) ]
+  checked_single checks cs (Err r) (Err f) h k = elim h [
     | inl z ↦ elim k [ inl y ↦ all_single cs (Err r) (Err f) z y | inr y ↦ absurd (all_single cs (Err r) (Ok y.0) z y.1) ]
-    | inr z ↦ elim k [ inl y ↦ absurd (all_single cs (Ok z.0) (Err f) z.1 y) | inr y ↦ z.2 ∙ sym y.2 ]
+    | inr z ↦ elim k [ inl y ↦ absurd (all_single cs (Ok z.0) (Err f) z.1 y) | inr y ↦ let e : Some r ≡ Some f = sym z.2 ∙ y.2 in cc ]
   ]
 
 -- elements of which so many are stated have one outcome
@@ -92,9 +94,7 @@ module _ {A X : Type 0} (items : X → List A) (same : A → A → Type 0) (elem
       single n cs u r s h (subst (λ x. elements x cs u s) (sym e.0) (subst (λ x. elements m x u s) (sym e.1) (subst (λ x. elements m ds x s) (sym e.2) k)))
 
   no_head_fault : (b : List ℕ) (n : ℕ) (cs : List Cell) (u : List ℕ) (r : Refusal) → ArrayBody b n cs u → first_fault_of (head_checks b) ≡ Some r → ⊥
-  no_head_fault b n cs u r p e =
-      let none : None ≡ Some r = sym (head_passes b (record { left = n; bytes = p.0 }) p.1) ∙ e in
-      let no : ⊥ = cc in no
+  no_head_fault b n cs u r p e = no_fault (first_fault_of (head_checks b)) r (head_passes b (record { left = n; bytes = p.0 }) p.1) e
 
   pub array_single : ReadsSingle (λ x y. SameList same (items x) (items y)) (ReadsArray items elements)
   array_single None (Ok x) s h k = absurd h
@@ -125,4 +125,4 @@ module _ {X : Type 0} (same : X → X → Type 0) (inside : Content → Bool) (l
 
 -- a list's elements, read by what has one outcome, have one outcome
 pub list_single : {A X : Type 0} (items : X → List A) (same : A → A → Type 0) (reads : Cell → Outcome A → Type 0) → ReadsSingle same reads → ReadsSingle (λ x y. SameList same (items x) (items y)) (ReadsList items reads)
-list_single items same reads single = array_single items same (ReadsElements reads) (elements_single same reads single)
+list_single items same reads single = array_single items same (ReadsElements reads) (λ n cs rest. checked_single same reads single (end_checks n cs rest) cs)

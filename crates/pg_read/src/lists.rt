@@ -1,5 +1,6 @@
 //! Reading lists.
-ghost use Rattle.std.specs.Prelude.{Some, IsTrue};
+ghost use Rattle.std.specs.Prelude.{◌≡◌, Some, IsTrue};
+ghost use Rattle.std.specs.Box.{boxed_slice_items};
 ghost use Rattle.pg_base.specs.Arrays.{accepted_list, member_of};
 ghost use Rattle.pg_base.specs.Content.{content};
 ghost use Rattle.pg_base.specs.Faults.{Answers};
@@ -13,6 +14,7 @@ use pg_base::fault::Fault;
 use pg_base::protocol::array_from_sql;
 use pg_base::types::PgType;
 use std::alloc::Global;
+use std::boxed::BoxedSlice;
 
 /// An array of a type that `T` accepts (`array_recv`), of one dimension or none: its elements, in
 /// order. The head's checks come first: where it is cut it is `Size`, a negative number of
@@ -45,10 +47,48 @@ impl<'a, T: FromSql<'a>> FromSql<'a> for Vec<T> {
     }
 
     fn accepts(ty: &PgType) -> bool {
-        match member_type(ty) {
-            Some(member) => T::accepts(&member),
-            None => false,
+        accepts_list::<T>(ty)
+    }
+}
+
+/// As for `Vec<T>`.
+impl<'a, T: FromSql<'a>> FromSql<'a> for BoxedSlice<T> {
+    ghost same = { λ v w. SameList T.same (boxed_slice_items v) (boxed_slice_items w) };
+
+    ghost accepted = { accepted_list T.accepted };
+
+    ghost reads = { λ ty. ReadsMembers (λ member. ReadsList boxed_slice_items (T.reads member)) (member_of ty) };
+
+    ghost memory_free = { NullAlone };
+
+    ghost equivalence = { list_equivalence T.same T.equivalence boxed_slice_items };
+
+    ghost single = { λ ty ok. members_single (λ v w. SameList T.same (boxed_slice_items v) (boxed_slice_items w)) T.accepted (λ member. ReadsList boxed_slice_items (T.reads member))
+        (λ member inside. list_single boxed_slice_items T.same (T.reads member) (T.single member inside)) ty ok };
+
+    fn from_sql(alloc: Global, ty: &PgType, raw: &'a [u8]) -> Result<BoxedSlice<T>, Fault> {
+        match Vec::from_sql(alloc, ty, raw) {
+            Ok(values) => Ok(values.into_boxed_slice()),
+            Err(fault) => Err(fault),
         }
+    }
+
+    fn from_sql_null(_alloc: Global, _ty: &PgType) -> Result<BoxedSlice<T>, Fault> {
+        Err(Fault::WasNull)
+    }
+
+    fn accepts(ty: &PgType) -> bool {
+        accepts_list::<T>(ty)
+    }
+}
+
+/// Whether the type is an array of a type that `T` accepts.
+fn accepts_list<'a, T: FromSql<'a>>(ty: &PgType) -> bool
+    ensures { result ≡ accepted_list T.accepted (content ty.now) }
+{
+    match member_type(ty) {
+        Some(member) => T::accepts(&member),
+        None => false,
     }
 }
 

@@ -1,4 +1,4 @@
-use Rattle.std.proofs.Common.{◌≡◌, ℕ, List, Ok}
+use Rattle.std.proofs.Common.{List, Ok}
 use Rattle.pg_base.specs.Cells.{Cell}
 use Rattle.pg_base.specs.Content.{content}
 use Rattle.pg_read.specs.ListReading.{ReadsAll}
