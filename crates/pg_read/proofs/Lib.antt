@@ -1,3 +1,4 @@
+mod ArraySteps
 mod LastEntries
 mod ListSteps
 mod Refusals

@@ -45,13 +45,13 @@ module _ {A : Type 0} (reads : Cell → Outcome A → Type 0) where
   pub value_next : (cs : List Cell) (c : Cell) (vs : List A) (v : A) → ReadsAll reads cs (Ok vs) → reads c (Ok v) → ReadsAll reads (cs ++ c ∷ []) (Ok (vs ++ v ∷ []))
   value_next cs c vs v h k = values_more cs (c ∷ []) vs (v ∷ []) h (k, tt)
 
-  fault_more : (cs ds : List Cell) (vs : List A) (r : Refusal) → ReadsAll reads cs (Ok vs) → ReadsAll reads ds (Err r) → ReadsAll reads (cs ++ ds) (Err r)
+  pub fault_more : (cs ds : List Cell) (vs : List A) (r : Refusal) → ReadsAll reads cs (Ok vs) → ReadsAll reads ds (Err r) → ReadsAll reads (cs ++ ds) (Err r)
   fault_more [] ds [] r h k = k
   fault_more [] ds (v ∷ vs) r h k = absurd h
   fault_more (c ∷ cs) ds [] r h k = absurd h
   fault_more (c ∷ cs) ds (v ∷ vs) r h k = inr (v, h.0, fault_more cs ds vs r h.1 k)
 
-  fault_stays : (cs ds : List Cell) (r : Refusal) → ReadsAll reads cs (Err r) → ReadsAll reads (cs ++ ds) (Err r)
+  pub fault_stays : (cs ds : List Cell) (r : Refusal) → ReadsAll reads cs (Err r) → ReadsAll reads (cs ++ ds) (Err r)
   fault_stays [] ds r h = absurd h
   fault_stays (c ∷ cs) ds r h = elim h [ inl e ↦ inl e | inr p ↦ inr (p.0, p.1, fault_stays cs ds r p.2) ]
 
@@ -93,7 +93,7 @@ bytes_left n cs (x ∷ rest) h left =
     let some : (length (x ∷ rest) == 0) ≡ false = grind (arith, nat_tests) in
     rw (all, some) refl
 
-none_left : (n : ℕ) (cs : List Cell) → length cs ≡ n → first_fault_of (end_checks n cs []) ≡ None
+pub none_left : (n : ℕ) (cs : List Cell) → length cs ≡ n → first_fault_of (end_checks n cs []) ≡ None
 none_left n cs h =
     let all : nat_le n (length cs) ≡ true = grind (arith, nat_tests) in
     rw all refl

@@ -1,11 +1,11 @@
 -- Reading a list from an array's cell.
-use Rattle.std.specs.Prelude.{◌≡◌, ◌⊎◌, ◌==◌, nat_le, ℕ, List, [], ◌∷◌, length, Option, Some, None, Ok, Err, Bool, IsTrue}
+use Rattle.std.specs.Prelude.{◌≡◌, ◌⊎◌, ◌==◌, nat_le, ℕ, List, [], ◌∷◌, ◌++◌, length, take, Option, Some, None, Ok, Err, Bool, IsTrue}
 use Rattle.std.proofs.Common.{sym, ◌∙◌, subst, inl, inr, true≢false}
 use Rattle.pg_base.specs.Arrays.{ArrayBody, head_checks, accepted_member, accepted_list, member_of}
 use Rattle.pg_base.specs.ArrayLaws.{body_single, head_passes}
 use Rattle.pg_base.specs.Cells.{Cell}
 use Rattle.pg_base.specs.Content.{Content}
-use Rattle.pg_base.specs.Faults.{Refusal, Outcome, was_null, size}
+use Rattle.pg_base.specs.Faults.{Refusal, Outcome, was_null, size, too_few, excess}
 use Rattle.pg_base.specs.Formats.{Checks, first_fault_of}
 use Rattle.pg_base.specs.Sameness.{SameList}
 use Rattle.pg_read.specs.Reading.{SameOutcome, ReadsSingle, no_fault}
@@ -32,6 +32,15 @@ end_checks n cs rest = (nat_le n (length cs), size) ∷ (length rest == 0, size)
 -- what the elements of a list give
 abbrev pub ReadsElements : {A : Type 0} → (Cell → Outcome A → Type 0) → ℕ → List Cell → List ℕ → Outcome (List A) → Type 0
 ReadsElements reads n cs rest = ReadsChecked reads (end_checks n cs rest) cs
+
+-- the checks behind the cells of an array that states n elements, of which `expected` are wanted: no more are there, all
+-- of them are there, no bytes are left, and no fewer are stated
+abbrev pub fixed_checks : ℕ → ℕ → List Cell → List ℕ → Checks
+fixed_checks expected n cs rest = (nat_le (length cs) expected, excess expected) ∷ end_checks n cs rest ++ (nat_le expected n, too_few expected n) ∷ []
+
+-- what the elements of so many values give: those behind them are not read
+abbrev pub ReadsFixed : {A : Type 0} → ℕ → (Cell → Outcome A → Type 0) → ℕ → List Cell → List ℕ → Outcome (List A) → Type 0
+ReadsFixed expected reads n cs rest = ReadsChecked reads (fixed_checks expected n cs rest) (take expected cs)
 
 -- NULL is WasNull; bytes that begin with no sound head give its first fault, and all others what their elements give
 abbrev pub ReadsArray : {A X : Type 0} → (X → List A) → (ℕ → List Cell → List ℕ → Outcome (List A) → Type 0) → Cell → Outcome X → Type 0
@@ -126,3 +135,8 @@ module _ {X : Type 0} (same : X → X → Type 0) (inside : Content → Bool) (l
 -- a list's elements, read by what has one outcome, have one outcome
 pub list_single : {A X : Type 0} (items : X → List A) (same : A → A → Type 0) (reads : Cell → Outcome A → Type 0) → ReadsSingle same reads → ReadsSingle (λ x y. SameList same (items x) (items y)) (ReadsList items reads)
 list_single items same reads single = array_single items same (ReadsElements reads) (λ n cs rest. checked_single same reads single (end_checks n cs rest) cs)
+
+-- and so have those of so many values
+pub fixed_single : {A X : Type 0} (items : X → List A) (expected : ℕ) (same : A → A → Type 0) (reads : Cell → Outcome A → Type 0) → ReadsSingle same reads → ReadsSingle (λ x y. SameList same (items x) (items y)) (ReadsArray items (ReadsFixed expected reads))
+fixed_single items expected same reads single =
+    array_single items same (ReadsFixed expected reads) (λ n cs rest. checked_single same reads single (fixed_checks expected n cs rest) (take expected cs))

@@ -4,6 +4,7 @@
 //! cell.
 #![tactic(auto)]
 
+mod arrays;
 mod bits;
 mod bytea;
 mod civil;

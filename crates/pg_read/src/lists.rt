@@ -83,7 +83,7 @@ impl<'a, T: FromSql<'a>> FromSql<'a> for BoxedSlice<T> {
 }
 
 /// Whether the type is an array of a type that `T` accepts.
-fn accepts_list<'a, T: FromSql<'a>>(ty: &PgType) -> bool
+pub(crate) fn accepts_list<'a, T: FromSql<'a>>(ty: &PgType) -> bool
     ensures { result ≡ accepted_list T.accepted (content ty.now) }
 {
     match member_type(ty) {
