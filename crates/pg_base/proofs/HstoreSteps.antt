@@ -1,8 +1,9 @@
 -- Steps of reading an hstore.
 use Rattle.std.proofs.Common.{◌≡◌, ℕ, zero, suc, List, Some, sym, ◌∙◌, ap, refl}
+use Rattle.pg_base.specs.Counts.{ToRead}
 use Rattle.pg_base.specs.Faults.{Refusal}
 use Rattle.pg_base.specs.Formats.{first_fault_of}
-use Rattle.pg_base.specs.Hstore.{ToRead, next_checks, checks_of_next, entry_checks}
+use Rattle.pg_base.specs.Hstore.{next_checks, checks_of_next, entry_checks}
 
 fault_of_next : (n : ℕ) (s : List ℕ) (x : Refusal) → (n ≡ 0 → ⊥) → first_fault_of (entry_checks s) ≡ Some x → first_fault_of (checks_of_next n s) ≡ Some x
 fault_of_next zero s x h e = absurd (h refl)

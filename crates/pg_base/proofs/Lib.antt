@@ -1,5 +1,7 @@
+pub mod ArrayHeads
 pub mod BitLemmas
 pub mod CellLemmas
+pub mod CellRows
 pub mod Contents
 pub mod DerivedTypes
 pub mod Fields

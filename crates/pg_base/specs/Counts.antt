@@ -1,5 +1,5 @@
 -- A number of four bytes in front of others: a count or a length (pq_getmsgint).
-use Rattle.std.specs.Prelude.{◌≡◌, ℕ, ℤ, pos, negsuc, List, [], ◌∷◌, ◌++◌, length, take, Bool, true, false, nat_le}
+use Rattle.std.specs.Prelude.{◌≡◌, ℕ, ℤ, pos, negsuc, List, [], ◌∷◌, ◌++◌, length, take, drop, Bool, true, false, nat_le}
 use Rattle.std.specs.Borrow.{Bor}
 use Rattle.std.specs.Int.{w32}
 use Rattle.pg_base.specs.Cells.{IsBe, signed_in}
@@ -33,3 +33,26 @@ count_checks s = (has_number s, size) ∷ (not_negative (number_in s), count) �
 -- s begins with what spells a value, and rest comes after it
 abbrev pub InFront : {A : Type 0} → (List ℕ → A → Type 0) → List ℕ → A × Bor (List ℕ) → Type 0
 InFront spells s p = (t : List ℕ) × (s ≡ t ++ p.1.now) × spells t p.0
+
+-- what is to be read: the entries that are stated still, and the bytes that are left
+pub record ToRead : Type 0 where
+  pub left : ℕ
+  pub bytes : List ℕ
+
+-- nothing is to be read
+abbrev pub nothing : ToRead
+nothing = record { left = 0; bytes = [] }
+
+-- the bytes whose length stands in front, where all of them are there, and what follows them
+abbrev pub has_cell : List ℕ → Bool
+has_cell s = nat_le (stated (number_in s)) (length (drop 4 s))
+
+abbrev pub bytes_in : List ℕ → List ℕ
+bytes_in s = take (stated (number_in s)) (drop 4 s)
+
+abbrev pub behind_cell : List ℕ → List ℕ
+behind_cell s = drop (stated (number_in s)) (drop 4 s)
+
+-- the checks of a cell in front: where its length or a part of its bytes is cut, it is Size
+abbrev pub cell_checks : List ℕ → Checks
+cell_checks s = (has_number s, size) ∷ (has_cell s, size) ∷ []

@@ -1,5 +1,5 @@
 -- Hstore (hstore_send, hstore_recv): a count, and for each entry its key and its value, which may be NULL.
-use Rattle.std.specs.Prelude.{◌≡◌, ℕ, ◌+◌, ◌==◌, zero, suc, pos, List, [], ◌∷◌, ◌++◌, length, take, drop, Option, Some, None, option_map, Bool, nat_le, if◌then◌else◌, Result, Ok, Err, IfSome, IsSome, IsUtf8, String, string_bytes}
+use Rattle.std.specs.Prelude.{◌≡◌, ℕ, ◌+◌, ◌==◌, zero, suc, pos, List, [], ◌∷◌, ◌++◌, length, drop, Option, Some, None, option_map, nat_le, if◌then◌else◌, Result, Ok, Err, IfSome, IsSome, IsUtf8, String, string_bytes}
 use Rattle.std.specs.Borrow.{Bor}
 use Rattle.std.specs.Cmp.Lexicographic.{slice_cmp}
 use Rattle.std.specs.Global.{Global}
@@ -12,7 +12,7 @@ use Rattle.std.specs.Str.{bytes_eq, is_utf8}
 use Rattle.pg_base.specs.declared.fault.Fault.{Fault}
 use Rattle.pg_base.specs.Appending.{Wire, wire_of}
 use Rattle.pg_base.specs.Cells.{Cell, cell_of, be, frame, Spells}
-use Rattle.pg_base.specs.Counts.{IsCount, count_checks, has_number, not_negative, number_in, stated}
+use Rattle.pg_base.specs.Counts.{IsCount, ToRead, behind_cell, bytes_in, count_checks, has_cell, has_number, not_negative, nothing, number_in, stated}
 use Rattle.pg_base.specs.Faults.{Refusal, Outcome, refusal_of, size, utf8, key_length}
 use Rattle.pg_base.specs.Formats.{Checks, first_fault_of, ReadsPlain}
 use Rattle.pg_base.specs.Options.{NoneOr}
@@ -34,11 +34,6 @@ abbrev pub SpellsEntries : List ℕ → List Entry → List ℕ → Type 0
 SpellsEntries s [] rest = s ≡ rest
 SpellsEntries s (e ∷ es) rest = (t u : List ℕ) × (s ≡ t ++ u) × SpellsEntry t e × SpellsEntries u es rest
 
--- what is to be read: the entries that are stated still, and the bytes that are left
-pub record ToRead : Type 0 where
-  pub left : ℕ
-  pub bytes : List ℕ
-
 -- b is the bytes of a count, and then what is to be read
 abbrev pub SpellsCount : List ℕ → ToRead → Type 0
 SpellsCount b r = (h : List ℕ) × (b ≡ h ++ r.bytes) × IsCount h r.left
@@ -59,26 +54,16 @@ abbrev pub FormHstore : {A : Type 0} → (A → List ℕ → Option Cell) → Li
 FormHstore value_at b m =
     (es : List Entry) × (s : List ℕ) × SpellsCount b (record { left = length es; bytes = s }) × SpellsEntries s es [] × ((q : List ℕ) → value_at m q ≡ last_value q es)
 
--- the text whose length stands in front, where all of it is there, and what follows it
-abbrev pub has_text : List ℕ → Bool
-has_text s = nat_le (stated (number_in s)) (length (drop 4 s))
-
-abbrev pub text_in : List ℕ → List ℕ
-text_in s = take (stated (number_in s)) (drop 4 s)
-
-abbrev pub behind_text : List ℕ → List ℕ
-behind_text s = drop (stated (number_in s)) (drop 4 s)
-
 -- the checks of an entry in front of s, in the order of its bytes. A value of negative length is NULL, and has no text
 abbrev pub key_checks : List ℕ → Checks
 key_checks s =
-    (has_number s, size) ∷ (not_negative (number_in s), key_length) ∷ (has_text s, size) ∷ (is_utf8 (text_in s), utf8) ∷ []
+    (has_number s, size) ∷ (not_negative (number_in s), key_length) ∷ (has_cell s, size) ∷ (is_utf8 (bytes_in s), utf8) ∷ []
 
 abbrev pub value_checks : List ℕ → Checks
-value_checks s = (has_number s, size) ∷ (has_text s, size) ∷ (is_utf8 (text_in s), utf8) ∷ []
+value_checks s = (has_number s, size) ∷ (has_cell s, size) ∷ (is_utf8 (bytes_in s), utf8) ∷ []
 
 abbrev pub entry_checks : List ℕ → Checks
-entry_checks s = key_checks s ++ value_checks (behind_text s)
+entry_checks s = key_checks s ++ value_checks (behind_cell s)
 
 -- the checks of what comes next: an entry, or after the last that no bytes are left
 abbrev pub checks_of_next : ℕ → List ℕ → Checks
@@ -91,7 +76,7 @@ next_checks r = checks_of_next r.left r.bytes
 -- the checks of n entries, one after another, and of the end
 abbrev pub entries_checks : ℕ → List ℕ → Checks
 entries_checks zero s = (length s == 0, size) ∷ []
-entries_checks (suc n) s = entry_checks s ++ entries_checks n (behind_text (behind_text s))
+entries_checks (suc n) s = entry_checks s ++ entries_checks n (behind_cell (behind_cell s))
 
 -- the checks of the count come first, and then those of as many entries
 abbrev pub first_fault_hstore : List ℕ → Option Refusal
@@ -100,10 +85,6 @@ first_fault_hstore b = first_fault_of (count_checks b ++ entries_checks (stated 
 -- an entry of lent texts
 abbrev pub lent_entry : Bor (List ℕ) × Option (Bor (List ℕ)) → Entry
 lent_entry e = (e.0.now, cell_of e.1)
-
--- nothing is to be read
-abbrev pub nothing : ToRead
-nothing = record { left = 0; bytes = [] }
 
 -- a step of reading: the next entry was taken from the front; or its first check that fails was answered, or that of
 -- the end, and then nothing is to be read; or nothing was to be read

@@ -2,92 +2,39 @@
 use Rattle.std.specs.Prelude.{◌≡◌, ℕ, zero, suc, ℤ, pos, negsuc, List, [], ◌∷◌, ◌++◌, ◌+◌, length, take, drop, Option, Some, None, Bool, true, false, nat_le, IsUtf8, refl}
 use Rattle.std.proofs.Common.{sym, ◌∙◌, ap, ap₂, subst, arith, append_assoc}
 use Rattle.std.proofs.Math.Dec.{leb-zero}
-use Rattle.std.proofs.Math.Seq.{take-append_seam, drop-append_seam}
-use Rattle.std.proofs.lemmas.Bool.Decides.{nat_tests}
 use Rattle.std.proofs.lemmas.List.{length-append}
 use Rattle.std.proofs.lemmas.Str.{is_utf8-from_IsUtf8, IsUtf8-nil}
 use Rattle.std.specs.Int.{w32}
 use Rattle.std.specs.Str.{is_utf8}
-use Rattle.pg_base.specs.Cells.{Cell, IsBe, Spells}
+use Rattle.pg_base.specs.Cells.{Cell, IsBe}
 use Rattle.pg_base.specs.Faults.{Refusal, size, utf8, key_length}
-use Rattle.pg_base.specs.CountLaws.{IsNumberThen, number_then}
-use Rattle.pg_base.specs.Counts.{count_checks, has_number, not_negative, number_in, stated}
+use Rattle.pg_base.specs.CellLaws.{IsCellThen, bytes_or_none, cell_by, cell_in, cell_then}
+use Rattle.pg_base.specs.CountLaws.{number_then}
+use Rattle.pg_base.specs.Counts.{ToRead, behind_cell, bytes_in, count_checks, has_number, not_negative, nothing, number_in, stated}
 use Rattle.pg_base.specs.FormatLaws.{check_failed, checks_met}
 use Rattle.pg_base.specs.Formats.{IsGrammar, first_fault_of}
-use Rattle.pg_base.specs.FrameLaws.{bytes-frame}
-use Rattle.pg_base.specs.Hstore.{Entry, ToRead, nothing, checks_of_next, next_checks, SpellsText, SpellsEntry, SpellsEntries, SpellsCount, FormHstore, has_text, text_in, behind_text, key_checks, value_checks, entry_checks, entries_checks, first_fault_hstore, last_value}
+use Rattle.pg_base.specs.Hstore.{Entry, checks_of_next, next_checks, SpellsText, SpellsEntry, SpellsEntries, SpellsCount, FormHstore, key_checks, value_checks, entry_checks, entries_checks, first_fault_hstore, last_value}
 use Rattle.pg_base.specs.Options.{NoneOr}
 use Rattle.pg_base.specs.Sameness.{IsEquivalence}
 
--- the text of a value; NULL has none
-abbrev text_or_none : Cell → List ℕ
-text_or_none None = []
-text_or_none (Some x) = x
-
--- the value that s begins with
-abbrev value_by : ℤ → List ℕ → Cell
-value_by (pos n) x = Some x
-value_by (negsuc n) x = None
-
-abbrev value_in : List ℕ → Cell
-value_in s = value_by (number_in s) (text_in s)
-
 -- the entry that s begins with
 abbrev entry_in : List ℕ → Entry
-entry_in s = (text_in s, value_in (behind_text s))
+entry_in s = (bytes_in s, cell_in (behind_cell s))
 
--- what is known of bytes that begin with this text, or NULL, and go on with u
-record IsTextThen (s : List ℕ) (c : Cell) (u : List ℕ) : Type 0 where
-  pub has : has_number s ≡ true
-  pub whole : has_text s ≡ true
-  pub text : text_in s ≡ text_or_none c
-  pub value : value_in s ≡ c
-  pub rest : behind_text s ≡ u
-
-null_then : (s u : List ℕ) (n : ℕ) → IsNumberThen s (negsuc n) u → IsTextThen s None u
-null_then s u n p = record {
-  has = p.has;
-  whole = rw p.number (leb-zero (length (drop 4 s)));
-  text = rw p.number refl;
-  value = rw p.number refl;
-  rest = rw p.number p.rest;
-}
-
-long_enough : (x u : List ℕ) → nat_le (length x) (length (x ++ u)) ≡ true
-long_enough x u = grind (arith, nat_tests, length-append x u)
-
-some_then : (s x u : List ℕ) → IsNumberThen s (pos (length x)) (x ++ u) → IsTextThen s (Some x) u
-some_then s x u p =
-    let text : text_in s ≡ x = rw (p.number, p.rest) (take-append_seam x u) in
-    record {
-      has = p.has;
-      whole = rw (p.number, p.rest) (long_enough x u);
-      text = text;
-      value = rw p.number (ap Some (rw (p.rest) (take-append_seam x u)));
-      rest = rw (p.number, p.rest) (drop-append_seam x u);
-    }
-
-text_then : (t u : List ℕ) (c : Cell) → Spells t c → IsTextThen (t ++ u) c u
-text_then t u None p = null_then (t ++ u) u p.0 (number_then (t ++ u) t u (negsuc p.0) refl p.1)
-text_then t u (Some x) p =
-    let framed = bytes-frame t x p in
-    let parts : t ++ u ≡ framed.0 ++ (x ++ u) = ap (λ s. s ++ u) framed.1 ∙ append_assoc framed.0 x u in
-    some_then (t ++ u) x u (number_then (t ++ u) framed.0 (x ++ u) (pos (length x)) parts framed.2)
-
-utf8_of : (c : Cell) → NoneOr IsUtf8 c → is_utf8 (text_or_none c) ≡ true
+utf8_of : (c : Cell) → NoneOr IsUtf8 c → is_utf8 (bytes_or_none c) ≡ true
 utf8_of None h = is_utf8-from_IsUtf8 [] IsUtf8-nil
 utf8_of (Some x) h = is_utf8-from_IsUtf8 x h
 
 -- a text in front passes the checks
-value_passes : (s u : List ℕ) (c : Cell) → IsTextThen s c u → NoneOr IsUtf8 c → first_fault_of (value_checks s) ≡ None
-value_passes s u c p h = rw (p.has, p.whole, p.text, utf8_of c h) refl
+value_passes : (s u : List ℕ) (c : Cell) → IsCellThen s c u → NoneOr IsUtf8 c → first_fault_of (value_checks s) ≡ None
+value_passes s u c p h = rw (p.has, p.whole, p.bytes, utf8_of c h) refl
 
-some_not_negative : (n : ℤ) (y x : List ℕ) → value_by n y ≡ Some x → not_negative n ≡ true
+some_not_negative : (n : ℤ) (y x : List ℕ) → cell_by n y ≡ Some x → not_negative n ≡ true
 some_not_negative (pos n) y x e = refl
 some_not_negative (negsuc n) y x e = let no : ⊥ = cc in absurd no
 
-key_passes : (s x u : List ℕ) → IsTextThen s (Some x) u → IsUtf8 x → first_fault_of (key_checks s) ≡ None
-key_passes s x u p h = rw (p.has, some_not_negative (number_in s) (text_in s) x p.value, p.whole, p.text, is_utf8-from_IsUtf8 x h) refl
+key_passes : (s x u : List ℕ) → IsCellThen s (Some x) u → IsUtf8 x → first_fault_of (key_checks s) ≡ None
+key_passes s x u p h = rw (p.has, some_not_negative (number_in s) (bytes_in s) x p.cell, p.whole, p.bytes, is_utf8-from_IsUtf8 x h) refl
 
 -- the first fault of a text in front is that of a key in front
 key_fault_by : (t : Bool) (n : ℤ) (d : List ℕ) (r : Refusal)
@@ -98,32 +45,32 @@ key_fault_by true (pos n) d r e = e
 key_fault_by true (negsuc n) d r e = let none : None ≡ Some r = sym (rw (leb-zero (length d), is_utf8-from_IsUtf8 [] IsUtf8-nil) refl) ∙ e in let no : ⊥ = cc in absurd no
 
 pub key_fault : (s : List ℕ) (r : Refusal) → first_fault_of (value_checks s) ≡ Some r → first_fault_of (entry_checks s) ≡ Some r
-key_fault s r e = check_failed (key_checks s) (value_checks (behind_text s)) r (key_fault_by (has_number s) (number_in s) (drop 4 s) r e)
+key_fault s r e = check_failed (key_checks s) (value_checks (behind_cell s)) r (key_fault_by (has_number s) (number_in s) (drop 4 s) r e)
 
 -- behind a sound key the first fault is the value's
 pub value_fault : (t u x : List ℕ) (r : Refusal) → SpellsText t (Some x) → first_fault_of (value_checks u) ≡ Some r → first_fault_of (entry_checks (t ++ u)) ≡ Some r
 value_fault t u x r p e =
-    let after = text_then t u (Some x) p.0 in
-    checks_met (key_checks (t ++ u)) (value_checks (behind_text (t ++ u))) (key_passes (t ++ u) x u after p.1)
+    let after = cell_then t u (Some x) p.0 in
+    checks_met (key_checks (t ++ u)) (value_checks (behind_cell (t ++ u))) (key_passes (t ++ u) x u after p.1)
     ∙ ap (λ s. first_fault_of (value_checks s)) after.rest ∙ e
 
 -- what is known of bytes that begin with this entry and go on with u
 record IsEntryThen (s : List ℕ) (e : Entry) (u : List ℕ) : Type 0 where
   pub passes : first_fault_of (entry_checks s) ≡ None
   pub entry : entry_in s ≡ e
-  pub rest : behind_text (behind_text s) ≡ u
+  pub rest : behind_cell (behind_cell s) ≡ u
 
 entry_then : (t u : List ℕ) (e : Entry) → SpellsEntry t e → IsEntryThen (t ++ u) e u
 entry_then t u e p =
     let s : List ℕ = p.0 ++ (p.1 ++ u) in
     let parts : t ++ u ≡ s = ap (λ x. x ++ u) p.2 ∙ append_assoc p.0 p.1 u in
-    let key = text_then p.0 (p.1 ++ u) (Some e.0) p.3.0 in
-    let value = text_then p.1 u e.1 p.4.0 in
+    let key = cell_then p.0 (p.1 ++ u) (Some e.0) p.3.0 in
+    let value = cell_then p.1 u e.1 p.4.0 in
     rw parts (record {
-      passes = checks_met (key_checks s) (value_checks (behind_text s)) (key_passes s e.0 (p.1 ++ u) key p.3.1)
+      passes = checks_met (key_checks s) (value_checks (behind_cell s)) (key_passes s e.0 (p.1 ++ u) key p.3.1)
           ∙ ap (λ x. first_fault_of (value_checks x)) key.rest ∙ value_passes (p.1 ++ u) u e.1 value p.4.1;
-      entry = ap₂ (λ (x : List ℕ) (c : Cell). let e : Entry = (x, c) in e) key.text (ap value_in key.rest ∙ value.value);
-      rest = ap behind_text key.rest ∙ value.rest;
+      entry = ap₂ (λ (x : List ℕ) (c : Cell). let e : Entry = (x, c) in e) key.bytes (ap cell_in key.rest ∙ value.cell);
+      rest = ap behind_cell key.rest ∙ value.rest;
     })
 
 -- so many entries, and n more
@@ -141,7 +88,7 @@ unfolding and_more
 passed s rest [] n p = ap (λ x. first_fault_of (entries_checks n x)) p
 passed s rest (e ∷ es) n p =
     let first = entry_then p.0 p.1 e p.3 in
-    rw p.2 (checks_met (entry_checks (p.0 ++ p.1)) (entries_checks (and_more es n) (behind_text (behind_text (p.0 ++ p.1)))) first.passes
+    rw p.2 (checks_met (entry_checks (p.0 ++ p.1)) (entries_checks (and_more es n) (behind_cell (behind_cell (p.0 ++ p.1)))) first.passes
     ∙ ap (λ x. first_fault_of (entries_checks (and_more es n) x)) first.rest ∙ passed p.1 rest es n p.4)
 
 -- what is checked behind sound entries is what is checked of the rest
@@ -152,7 +99,7 @@ entries_pass s rest es n m p e =
 -- the first n entries of s
 entries_in : ℕ → List ℕ → List Entry
 entries_in zero s = []
-entries_in (suc n) s = entry_in s ∷ entries_in n (behind_text (behind_text s))
+entries_in (suc n) s = entry_in s ∷ entries_in n (behind_cell (behind_cell s))
 
 entries_are : (s rest : List ℕ) (es : List Entry) → SpellsEntries s es rest → entries_in (length es) s ≡ es
 unfolding entries_in
@@ -191,7 +138,7 @@ count_fault b r e = check_failed (count_checks b) (entries_checks (stated (numbe
 
 next_fault : (n : ℕ) (s : List ℕ) (r : Refusal) → first_fault_of (checks_of_next n s) ≡ Some r → first_fault_of (entries_checks n s) ≡ Some r
 next_fault zero s r e = e
-next_fault (suc n) s r e = check_failed (entry_checks s) (entries_checks n (behind_text (behind_text s))) r e
+next_fault (suc n) s r e = check_failed (entry_checks s) (entries_checks n (behind_cell (behind_cell s))) r e
 
 -- between the start and now these entries were read
 pub record HaveBeenRead (start : ToRead) (es : List Entry) (now : ToRead) : Type 0 where

@@ -1,9 +1,12 @@
 -- The words of types, faults, cells and formats.
 pub mod Appending
+pub mod ArrayLaws
+pub mod Arrays
 pub mod Bits
 pub mod BitsLaws
 pub mod BuiltInRows
 pub mod Bytes
+pub mod CellLaws
 pub mod Cells
 pub mod Civil
 pub mod CivilLaws

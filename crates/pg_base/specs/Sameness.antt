@@ -1,5 +1,5 @@
 -- When two values are the same: by their content, wherever it lies.
-use Rattle.std.specs.Prelude.{◌≡◌, Option, Some, None, refl}
+use Rattle.std.specs.Prelude.{◌≡◌, List, [], ◌∷◌, Option, Some, None, refl}
 use Rattle.std.proofs.Common.{sym, ◌∙◌}
 
 pub record IsEquivalence {A : Type 0} (same : A → A → Type 0) : Type 0 where
@@ -43,3 +43,36 @@ module _ {A : Type 0} (same : A → A → Type 0) (law : IsEquivalence same) whe
   -- sameness of options is an equivalence where that of the values inside is
   pub option_equivalence : IsEquivalence (SameOption same)
   option_equivalence = record { reflexive = option_reflexive; symmetric = option_symmetric; transitive = option_transitive }
+
+-- lists are the same where their values are, one after another
+abbrev pub SameList : {A : Type 0} → (A → A → Type 0) → List A → List A → Type 0
+SameList same [] [] = Unit {0}
+SameList same [] (w ∷ ws) = ⊥
+SameList same (v ∷ vs) [] = ⊥
+SameList same (v ∷ vs) (w ∷ ws) = same v w × SameList same vs ws
+
+module _ {A : Type 0} (same : A → A → Type 0) (law : IsEquivalence same) where
+  list_reflexive : (vs : List A) → SameList same vs vs
+  list_reflexive [] = tt
+  list_reflexive (v ∷ vs) = (law.reflexive v, list_reflexive vs)
+
+  list_symmetric : (vs ws : List A) → SameList same vs ws → SameList same ws vs
+  list_symmetric [] [] h = tt
+  list_symmetric [] (w ∷ ws) h = absurd h
+  list_symmetric (v ∷ vs) [] h = absurd h
+  list_symmetric (v ∷ vs) (w ∷ ws) h = (law.symmetric v w h.0, list_symmetric vs ws h.1)
+
+  list_transitive : (us vs ws : List A) → SameList same us vs → SameList same vs ws → SameList same us ws
+  list_transitive [] [] ws h k = k
+  list_transitive [] (v ∷ vs) ws h k = absurd h
+  list_transitive (u ∷ us) [] ws h k = absurd h
+  list_transitive (u ∷ us) (v ∷ vs) [] h k = absurd k
+  list_transitive (u ∷ us) (v ∷ vs) (w ∷ ws) h k = (law.transitive u v w h.0 k.0, list_transitive us vs ws h.1 k.1)
+
+  -- sameness of what holds lists is an equivalence where that of the values is
+  pub list_equivalence : {X : Type 0} (items : X → List A) → IsEquivalence (λ x y. SameList same (items x) (items y))
+  list_equivalence items = record {
+    reflexive = λ x. list_reflexive (items x);
+    symmetric = λ x y. list_symmetric (items x) (items y);
+    transitive = λ x y z. list_transitive (items x) (items y) (items z);
+  }

@@ -1,13 +1,16 @@
 //! Tests of acceptance that reading and writing share.
-ghost use Rattle.std.specs.Prelude.{◌≡◌, codes};
+ghost use Rattle.std.specs.Prelude.{◌≡◌, codes, option_map};
+ghost use Rattle.std.specs.Cow.{cow_value};
 ghost use Rattle.pg_base.specs.declared.types.built_in.BuiltIn.TheVariants.{Date, Jsonb};
+ghost use Rattle.pg_base.specs.Arrays.{member_of};
 ghost use Rattle.pg_base.specs.Bits.{accepted_bits};
 ghost use Rattle.pg_base.specs.Content.{content, is_row};
 ghost use Rattle.pg_base.specs.Json.{accepted_json};
 ghost use Rattle.pg_base.specs.Moments.{accepted_moment};
 ghost use Rattle.pg_base.specs.Texts.{accepted_text, has_version, is_named};
 
-use crate::types::PgType;
+use crate::types::{KindRef, PgType};
+use std::borrow::Cow;
 
 /// Whether texts are read from cells of that type and written to them: VARCHAR, TEXT, BPCHAR, NAME,
 /// UNKNOWN, and any type that is named citext, ltree, lquery or ltxtquery, whatever its schema and
@@ -79,4 +82,14 @@ pub fn is_jsonb(ty: &PgType) -> bool
     ensures { result ≡ is_row Jsonb (content ty.now) }
 {
     *ty == PgType::JSONB
+}
+
+/// The type of the elements, where that type is an array.
+pub fn member_type(ty: &PgType) -> Option<Cow<'_, PgType>>
+    ensures { option_map (λ member. content (cow_value member)) result ≡ member_of (content ty.now) }
+{
+    match ty.kind() {
+        KindRef::Array(member) => Some(member),
+        _ => None,
+    }
 }

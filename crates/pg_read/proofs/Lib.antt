@@ -1,2 +1,4 @@
+mod ArraySteps
 mod LastEntries
+mod ListSteps
 mod Refusals

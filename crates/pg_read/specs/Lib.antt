@@ -1,5 +1,6 @@
 -- The words of reading.
 pub mod Framed
+pub mod ListReading
 pub mod OptionReading
 pub mod Reading
 pub mod SpecialReading

@@ -26,7 +26,7 @@ NullAlone None = Unit {0}
 NullAlone (Some b) = ⊥
 
 -- a value and a fault exclude each other
-no_fault : {A : Type 0} (o : Option A) (a : A) → o ≡ None → o ≡ Some a → ⊥
+pub no_fault : {A : Type 0} (o : Option A) (a : A) → o ≡ None → o ≡ Some a → ⊥
 no_fault o a e f = let bad : None ≡ Some a = sym e ∙ f in cc
 
 -- a plain format that is a grammar gives a cell one outcome

@@ -11,7 +11,7 @@ use pg_base::special::{Date, Timestamp};
 use pg_base::unix_time::UnixTime;
 use serde_json::Value;
 use std::borrow::CowStr;
-use std::boxed::BoxedStr;
+use std::boxed::{BoxedSlice, BoxedStr};
 use std::collections::HashMap;
 use std::net::IpAddr;
 use uuid::Uuid;
@@ -64,4 +64,7 @@ pub fn types_whose_null_is_read_without_memory() {
     never_answers_memory_at_null::<Option<String>>();
     never_answers_memory_at_null::<Date<String>>();
     never_answers_memory_at_null::<Timestamp<String>>();
+    never_answers_memory_at_null::<Vec<i32>>();
+    never_answers_memory_at_null::<BoxedSlice<i32>>();
+    never_answers_memory_at_null::<[i32; 2]>();
 }

@@ -4,6 +4,7 @@
 //! cell.
 #![tactic(auto)]
 
+mod arrays;
 mod bits;
 mod bytea;
 mod civil;
@@ -12,6 +13,7 @@ mod hstore;
 mod identifiers;
 mod json;
 pub mod laws;
+mod lists;
 mod lsn;
 mod moments;
 mod network;

@@ -1,8 +1,8 @@
-//! A number of 4 bytes in front of others, as counts and lengths stand.
+//! A number of 4 bytes in front of others, as counts and lengths stand, and the cells behind lengths.
 ghost use Rattle.std.specs.Prelude.{◌∷◌, []};
 ghost use Rattle.std.specs.Int.{w32};
-ghost use Rattle.pg_base.specs.Cells.{IsBe};
-ghost use Rattle.pg_base.specs.Counts.{InFront, IsCount, count_checks, has_number};
+ghost use Rattle.pg_base.specs.Cells.{IsBe, Spells, cell_of};
+ghost use Rattle.pg_base.specs.Counts.{InFront, IsCount, cell_checks, count_checks, has_number};
 ghost use Rattle.pg_base.specs.Faults.{Answers, NeverMemory, size};
 ghost use Rattle.pg_base.specs.Formats.{Decodes, first_fault_of};
 
@@ -31,4 +31,21 @@ pub(super) fn split_count(bytes: &[u8]) -> Result<(usize, &[u8]), Fault>
         return Err(Fault::Count);
     }
     Ok((count as usize, bytes))
+}
+
+/// The framed cell in front, of which every negative length is NULL, and the bytes after it.
+pub(super) fn split_cell(bytes: &[u8]) -> Result<(Option<&[u8]>, &[u8]), Fault>
+    ensures outcome { Answers (Decodes (InFront (λ s cell. Spells s (cell_of cell))) (λ s. first_fault_of (cell_checks s)) bytes.now) result }
+    ensures never_memory { NeverMemory result }
+{
+    let (len, bytes) = split_number(bytes)?;
+    if len < 0 {
+        return Ok((None, bytes));
+    }
+    let len = len as usize;
+    if bytes.len() < len {
+        return Err(Fault::Size);
+    }
+    let (cell, bytes) = bytes.split_at(len);
+    Ok((Some(cell), bytes))
 }

@@ -4,12 +4,12 @@ ghost use Rattle.std.specs.Int.{w32};
 ghost use Rattle.pg_base.specs.declared.fault.Fault.TheVariants.{Transmit};
 ghost use Rattle.pg_base.specs.Appending.{Appends};
 ghost use Rattle.pg_base.specs.Cells.{cell_of, frame};
-ghost use Rattle.pg_base.specs.Counts.{InFront, count_checks};
+ghost use Rattle.pg_base.specs.Counts.{InFront, ToRead, count_checks};
 ghost use Rattle.pg_base.specs.Faults.{Answers, NeverMemory};
 ghost use Rattle.pg_base.specs.Formats.{Decodes, first_fault_of};
-ghost use Rattle.pg_base.specs.Hstore.{SpellsCount, SpellsEntry, SpellsText, TakesEntry, ToRead, entry_checks, hstore_bytes, lent_entry, value_checks};
+ghost use Rattle.pg_base.specs.Hstore.{SpellsCount, SpellsEntry, SpellsText, TakesEntry, entry_checks, hstore_bytes, lent_entry, value_checks};
 
-use super::counts::{split_count, split_number};
+use super::counts::{split_cell, split_count};
 use super::frames::{MAX_CELL, frame_to_sql};
 use super::numbers::int4_to_sql;
 use super::texts::text_from_sql;
@@ -93,15 +93,10 @@ fn split_text(bytes: &[u8]) -> Result<(Option<&str>, &[u8]), Fault>
     ensures outcome { Answers (Decodes (InFront (λ s text. SpellsText s (cell_of text))) (λ s. first_fault_of (value_checks s)) bytes.now) result }
     ensures never_memory { NeverMemory result }
 {
-    let (len, bytes) = split_number(bytes)?;
-    if len < 0 {
+    let (cell, bytes) = split_cell(bytes)?;
+    let Some(text) = cell else {
         return Ok((None, bytes));
-    }
-    let len = len as usize;
-    if bytes.len() < len {
-        return Err(Fault::Size);
-    }
-    let (text, bytes) = bytes.split_at(len);
+    };
     Ok((Some(text_from_sql(text)?), bytes))
 }
 

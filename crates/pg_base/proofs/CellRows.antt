@@ -1,0 +1,96 @@
+-- Bytes begin with a row of cells that is as long as it can be.
+use Rattle.std.proofs.Common.{◌≡◌, ℕ, zero, suc, ◌<◌, ◌≤◌, ℤ, pos, negsuc, List, [], ◌++◌, ◌∷◌, length, take, drop, get_or, Some, None, refl, sym, ◌∙◌, ap, arith, subst, inl, inr, take-append-drop, to_z, length-take, Fits, get_or-take}
+use Rattle.std.specs.Prelude.{◌⊎◌, ◌+◌, false, nat_le}
+use Rattle.std.specs.Int.{w32, from_be_bytes, to_be_bytes}
+use Rattle.std.proofs.lemmas.Bool.Decides.{nat_tests}
+use Rattle.std.proofs.lemmas.List.{get_or-append-add, get_or_past}
+use Rattle.std.proofs.lemmas.Nat.{be_bytes_4}
+use Rattle.std.proofs.Math.Facts.{of_z-to_z, sfits_to_z}
+use Rattle.pg_base.specs.Arrays.{SpellsDimensions, SpellsHead}
+use Rattle.pg_base.specs.CellLaws.{no_cell}
+use Rattle.pg_base.specs.Cells.{Cell, IsBe, Spells, SpellsNone, SpellsAll, CellsInRow}
+use Rattle.pg_base.specs.CountLaws.{number_then}
+use Rattle.pg_base.specs.Counts.{ToRead, has_number}
+use Rattle.pg_base.specs.Faults.{size}
+use Rattle.pg_base.specs.FrameLaws.{taken}
+
+-- every number of the list is a byte
+abbrev pub AreBytes : List ℕ → Type 0
+AreBytes s = (i : ℕ) → get_or s i 0 < 256
+
+-- a cell is in front, or none is
+abbrev Next : List ℕ → Type 0
+Next s = ((t u : List ℕ) × (c : Cell) × (s ≡ t ++ u) × Spells t c) ⊎ SpellsNone s
+
+less_or_not : (a b : ℕ) → (a < b) ⊎ (b ≤ a)
+less_or_not a b = grind arith
+
+-- any four bytes are those of a number
+four_bytes : (h : List ℕ) → AreBytes h → length h ≡ 4 → (z : ℤ) × IsBe w32 h z
+four_bytes h b l =
+    let fits : Fits w32 (from_be_bytes w32 h) = omega (arith, b 0, b 1, b 2, b 3) in
+    (to_z w32 (from_be_bytes w32 h), (sfits_to_z fits, sym (be_bytes_4 h (from_be_bytes w32 h) l b refl) ∙ ap (to_be_bytes w32) (sym (of_z-to_z fits))))
+
+-- with fewer than four bytes no cell is in front
+cut_length : (s : List ℕ) → length s < 4 → SpellsNone s
+cut_length s h =
+    let cut : has_number s ≡ false = grind (arith, nat_tests) in
+    no_cell s size (rw cut refl)
+
+-- nor with fewer than stated behind its length
+cut_cell : (s h m : List ℕ) (n : ℕ) → s ≡ h ++ m → IsBe w32 h (pos n) → length m < n → SpellsNone s
+cut_cell s h m n e p l =
+    let number = number_then s h m (pos n) e p in
+    let cut : nat_le n (length m) ≡ false = grind (arith, nat_tests) in
+    no_cell s size (rw (number.has, number.number, number.rest, cut) refl)
+
+next_at : (s h m : List ℕ) (z : ℤ) → s ≡ h ++ m → IsBe w32 h z → Next s
+next_at s h m (negsuc k) e p = inl (h, m, None, e, (k, p))
+next_at s h m (pos n) e p = elim (less_or_not (length m) n) [
+  | inl q ↦ inr (cut_cell s h m n e p q)
+  | inr q ↦
+      let l : length (take n m) ≡ n = simp length-take (omega arith) in
+      let t = taken s h m (take n m) (drop n m) (pos n) e p (ap pos (sym l)) (sym (take-append-drop n m)) in
+      inl (t.0, drop n m, Some (take n m), t.1, t.2)
+]
+
+bytes_behind : (s h m : List ℕ) → s ≡ h ++ m → AreBytes s → AreBytes m
+bytes_behind s h m e b i = subst (λ x. x < 256) (ap (λ x. get_or x (length h + i) 0) e ∙ get_or-append-add h m i 0) (b (length h + i))
+
+bytes_before : (s : List ℕ) (n : ℕ) → AreBytes s → AreBytes (take n s)
+bytes_before s n b i = elim (less_or_not i n) [
+  | inl q ↦ subst (λ x. x < 256) (sym (get_or-take n s i 0 q)) (b i)
+  | inr q ↦ subst (λ x. x < 256) (sym (get_or_past (take n s) i 0 (omega (arith, length-take n s)))) (omega arith)
+]
+
+next : (s : List ℕ) → AreBytes s → Next s
+next s b = elim (less_or_not (length s) 4) [
+  | inl q ↦ inr (cut_length s q)
+  | inr q ↦
+      let f = four_bytes (take 4 s) (bytes_before s 4 b) (simp length-take (omega arith)) in
+      next_at s (take 4 s) (drop 4 s) f.0 (sym (take-append-drop 4 s)) f.1
+]
+
+-- there are n cells, or fewer
+pub cells_exist : (s : List ℕ) (n : ℕ) → AreBytes s → (cs : List Cell) × (rest : List ℕ) × CellsInRow s n cs rest
+cells_exist s zero b = ([], s, (refl, omega arith, inl refl))
+cells_exist s (suc n) b = elim (next s b) [
+  | inl p ↦
+      let r = cells_exist p.1 n (bytes_behind s p.0 p.1 p.3 b) in
+      (p.2 ∷ r.0, r.1, ((p.0, p.1, p.3, p.4, r.2.0), omega (arith, r.2.1), elim r.2.2 [ inl e ↦ inl (ap suc e) | inr h ↦ inr h ]))
+  | inr h ↦ ([], s, (refl, omega arith, inr h))
+]
+
+-- what stands behind a head is bytes
+dimension_bytes : (d : ℕ) (s : List ℕ) (r : ToRead) → SpellsDimensions d s r → AreBytes s → AreBytes r.bytes
+dimension_bytes zero s r p b = subst AreBytes p.1 b
+dimension_bytes (suc zero) s r p b = bytes_behind (p.1 ++ r.bytes) p.1 r.bytes refl (bytes_behind s p.0 (p.1 ++ r.bytes) p.2 b)
+dimension_bytes (suc (suc d)) s r p b = absurd p
+
+pub head_bytes : (b : List ℕ) (r : ToRead) → SpellsHead b r → AreBytes b → AreBytes r.bytes
+head_bytes b r p h = dimension_bytes p.0 p.3 r p.7 (bytes_behind (p.2 ++ p.3) p.2 p.3 refl (bytes_behind b p.1 (p.2 ++ p.3) p.4 h))
+
+-- and so is what stands behind cells
+pub row_bytes : (s u : List ℕ) (cs : List Cell) → SpellsAll s cs u → AreBytes s → AreBytes u
+row_bytes s u [] e b = subst AreBytes e b
+row_bytes s u (c ∷ cs) p b = row_bytes p.1 u cs p.4 (bytes_behind s p.0 p.1 p.2 b)

@@ -1,0 +1,96 @@
+-- Laws of cells in a row.
+use Rattle.std.specs.Prelude.{◌≡◌, ℕ, zero, suc, ℤ, pos, negsuc, List, [], ◌∷◌, ◌++◌, length, drop, Some, None, true, nat_le, refl}
+use Rattle.std.proofs.Common.{sym, ◌∙◌, ap, ap₂, subst, arith, append_assoc, inl, inr}
+use Rattle.std.proofs.Math.Dec.{leb-zero}
+use Rattle.std.proofs.Math.Seq.{take-append_seam, drop-append_seam}
+use Rattle.std.proofs.lemmas.Bool.Decides.{nat_tests}
+use Rattle.std.proofs.lemmas.List.{length-append}
+use Rattle.pg_base.specs.Cells.{Cell, Spells, SpellsNone, CellsInRow}
+use Rattle.pg_base.specs.CountLaws.{IsNumberThen, number_then}
+use Rattle.pg_base.specs.Counts.{has_number, number_in, has_cell, bytes_in, behind_cell, cell_checks}
+use Rattle.pg_base.specs.Faults.{Refusal}
+use Rattle.pg_base.specs.Formats.{first_fault_of}
+use Rattle.pg_base.specs.FrameLaws.{bytes-frame}
+
+-- the bytes of a cell; NULL has none
+abbrev pub bytes_or_none : Cell → List ℕ
+bytes_or_none None = []
+bytes_or_none (Some x) = x
+
+-- the cell that s begins with
+abbrev pub cell_by : ℤ → List ℕ → Cell
+cell_by (pos n) x = Some x
+cell_by (negsuc n) x = None
+
+abbrev pub cell_in : List ℕ → Cell
+cell_in s = cell_by (number_in s) (bytes_in s)
+
+-- what is known of bytes that begin with this cell, and go on with u
+pub record IsCellThen (s : List ℕ) (c : Cell) (u : List ℕ) : Type 0 where
+  pub has : has_number s ≡ true
+  pub whole : has_cell s ≡ true
+  pub bytes : bytes_in s ≡ bytes_or_none c
+  pub cell : cell_in s ≡ c
+  pub rest : behind_cell s ≡ u
+
+null_then : (s u : List ℕ) (n : ℕ) → IsNumberThen s (negsuc n) u → IsCellThen s None u
+null_then s u n p = record {
+  has = p.has;
+  whole = rw p.number (leb-zero (length (drop 4 s)));
+  bytes = rw p.number refl;
+  cell = rw p.number refl;
+  rest = rw p.number p.rest;
+}
+
+long_enough : (x u : List ℕ) → nat_le (length x) (length (x ++ u)) ≡ true
+long_enough x u = grind (arith, nat_tests, length-append x u)
+
+some_then : (s x u : List ℕ) → IsNumberThen s (pos (length x)) (x ++ u) → IsCellThen s (Some x) u
+some_then s x u p =
+    let bytes : bytes_in s ≡ x = rw (p.number, p.rest) (take-append_seam x u) in
+    record {
+      has = p.has;
+      whole = rw (p.number, p.rest) (long_enough x u);
+      bytes = bytes;
+      cell = rw p.number (ap Some (rw (p.rest) (take-append_seam x u)));
+      rest = rw (p.number, p.rest) (drop-append_seam x u);
+    }
+
+pub cell_then : (t u : List ℕ) (c : Cell) → Spells t c → IsCellThen (t ++ u) c u
+cell_then t u None p = null_then (t ++ u) u p.0 (number_then (t ++ u) t u (negsuc p.0) refl p.1)
+cell_then t u (Some x) p =
+    let framed = bytes-frame t x p in
+    let parts : t ++ u ≡ framed.0 ++ (x ++ u) = ap (λ s. s ++ u) framed.1 ∙ append_assoc framed.0 x u in
+    some_then (t ++ u) x u (number_then (t ++ u) framed.0 (x ++ u) (pos (length x)) parts framed.2)
+
+-- a cell in front passes the checks
+pub cell_passes : (s u : List ℕ) (c : Cell) → IsCellThen s c u → first_fault_of (cell_checks s) ≡ None
+cell_passes s u c p = rw (p.has, p.whole) refl
+
+-- where a check fails, no cell is in front
+pub no_cell : (s : List ℕ) (r : Refusal) → first_fault_of (cell_checks s) ≡ Some r → SpellsNone s
+no_cell s r e t rest c is spells =
+    let none : None ≡ Some r = sym (cell_passes (t ++ rest) rest c (cell_then t rest c spells)) ∙ ap (λ x. first_fault_of (cell_checks x)) (sym is) ∙ e in
+    let no : ⊥ = cc in no
+
+-- bytes begin with one cell
+pub cell_single : (t u s w : List ℕ) (c d : Cell) → t ++ u ≡ s ++ w → Spells t c → Spells s d → (c ≡ d) × (u ≡ w)
+cell_single t u s w c d e p q =
+    let one = cell_then t u c p in
+    let two = cell_then s w d q in
+    (sym one.cell ∙ ap cell_in e ∙ two.cell, sym one.rest ∙ ap behind_cell e ∙ two.rest)
+
+-- and with one row of cells
+pub cells_single : (s : List ℕ) (n : ℕ) (cs ds : List Cell) (u w : List ℕ) → CellsInRow s n cs u → CellsInRow s n ds w → (cs ≡ ds) × (u ≡ w)
+cells_single s n [] [] u w p q = (refl, sym p.0 ∙ q.0)
+cells_single s n [] (d ∷ ds) u w p q =
+    elim p.2 [ inl z ↦ absurd (omega (arith, q.1, z)) | inr z ↦ absurd (z q.0.0 q.0.1 d (sym p.0 ∙ q.0.2) q.0.3) ]
+cells_single s n (c ∷ cs) [] u w p q =
+    elim q.2 [ inl z ↦ absurd (omega (arith, p.1, z)) | inr z ↦ absurd (z p.0.0 p.0.1 c (sym q.0 ∙ p.0.2) p.0.3) ]
+cells_single s zero (c ∷ cs) (d ∷ ds) u w p q = absurd (omega (arith, p.1))
+cells_single s (suc n) (c ∷ cs) (d ∷ ds) u w p q =
+    let first = cell_single p.0.0 p.0.1 q.0.0 q.0.1 c d (sym p.0.2 ∙ q.0.2) p.0.3 q.0.3 in
+    let h : CellsInRow p.0.1 n cs u = (p.0.4, omega (arith, p.1), elim p.2 [ inl z ↦ inl (omega (arith, z)) | inr z ↦ inr z ]) in
+    let k : CellsInRow q.0.1 n ds w = (q.0.4, omega (arith, q.1), elim q.2 [ inl z ↦ inl (omega (arith, z)) | inr z ↦ inr z ]) in
+    let later = cells_single p.0.1 n cs ds u w h (subst (λ x. CellsInRow x n ds w) (sym first.1) k) in
+    (ap₂ (λ (x : Cell) (xs : List Cell). x ∷ xs) first.0 later.0, later.1)

@@ -1,0 +1,10 @@
+use Rattle.std.proofs.Common.{◌≡◌, ◌∙◌, Some, ap, sym}
+use Rattle.pg_base.specs.Arrays.{member_of}
+use Rattle.pg_base.specs.Content.{content}
+use Rattle.pg_read.proofs.arrays.ArrayFromSql.from_sql.Goals as goal
+
+pub returns-clause-outcome : goal.returns-clause-outcome
+returns-clause-outcome g c =
+    let member : member_of (content c.args.ty.now) ≡ Some (content c.deref.result.now)
+    = sym c.in-Some.ensures ∙ ap (λ ty. Some (content ty)) (sym c.deref.ensures) in
+    rw member c.read_array.ensures

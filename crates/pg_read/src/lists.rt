@@ -1,0 +1,112 @@
+//! Reading lists.
+ghost use Rattle.std.specs.Prelude.{◌≡◌, Some, IsTrue};
+ghost use Rattle.std.specs.Box.{boxed_slice_items};
+ghost use Rattle.pg_base.specs.Arrays.{accepted_list, member_of};
+ghost use Rattle.pg_base.specs.Content.{content};
+ghost use Rattle.pg_base.specs.Faults.{Answers};
+ghost use Rattle.pg_base.specs.Sameness.{SameList, list_equivalence};
+ghost use Rattle.pg_read.specs.ListReading.{ReadsList, ReadsMembers, list_single, members_single};
+ghost use Rattle.pg_read.specs.Reading.{NullAlone};
+
+use crate::from_sql::{FromSql, from_sql_nullable};
+use pg_base::acceptance::member_type;
+use pg_base::fault::Fault;
+use pg_base::protocol::array_from_sql;
+use pg_base::types::PgType;
+use std::alloc::Global;
+use std::boxed::BoxedSlice;
+
+/// An array of a type that `T` accepts (`array_recv`), of one dimension or none: its elements, in
+/// order. The head's checks come first: where it is cut it is `Size`, a negative number of
+/// dimensions or elements is `Count`, and more than 1 dimension `Dimensions`. Then the first
+/// element that is cut is `Size`, or the first that `T` refuses gives `T`'s fault, whichever stands
+/// first. Bytes behind the last element are `Size`. NULL is `WasNull`.
+impl<'a, T: FromSql<'a>> FromSql<'a> for Vec<T> {
+    ghost same = { λ v w. SameList T.same v.items w.items };
+
+    ghost accepted = { accepted_list T.accepted };
+
+    ghost reads = { λ ty. ReadsMembers (λ member. ReadsList (λ v. v.items) (T.reads member)) (member_of ty) };
+
+    ghost memory_free = { NullAlone };
+
+    ghost equivalence = { list_equivalence T.same T.equivalence (λ v. v.items) };
+
+    ghost single = { λ ty ok. members_single (λ v w. SameList T.same v.items w.items) T.accepted (λ member. ReadsList (λ v. v.items) (T.reads member))
+        (λ member inside. list_single (λ v. v.items) T.same (T.reads member) (T.single member inside)) ty ok };
+
+    fn from_sql(alloc: Global, ty: &PgType, raw: &'a [u8]) -> Result<Vec<T>, Fault> {
+        match member_type(ty) {
+            Some(member) => read_list(alloc, &member, raw),
+            None => unreachable!(),
+        }
+    }
+
+    fn from_sql_null(_alloc: Global, _ty: &PgType) -> Result<Vec<T>, Fault> {
+        Err(Fault::WasNull)
+    }
+
+    fn accepts(ty: &PgType) -> bool {
+        accepts_list::<T>(ty)
+    }
+}
+
+/// As for `Vec<T>`.
+impl<'a, T: FromSql<'a>> FromSql<'a> for BoxedSlice<T> {
+    ghost same = { λ v w. SameList T.same (boxed_slice_items v) (boxed_slice_items w) };
+
+    ghost accepted = { accepted_list T.accepted };
+
+    ghost reads = { λ ty. ReadsMembers (λ member. ReadsList boxed_slice_items (T.reads member)) (member_of ty) };
+
+    ghost memory_free = { NullAlone };
+
+    ghost equivalence = { list_equivalence T.same T.equivalence boxed_slice_items };
+
+    ghost single = { λ ty ok. members_single (λ v w. SameList T.same (boxed_slice_items v) (boxed_slice_items w)) T.accepted (λ member. ReadsList boxed_slice_items (T.reads member))
+        (λ member inside. list_single boxed_slice_items T.same (T.reads member) (T.single member inside)) ty ok };
+
+    fn from_sql(alloc: Global, ty: &PgType, raw: &'a [u8]) -> Result<BoxedSlice<T>, Fault> {
+        match Vec::from_sql(alloc, ty, raw) {
+            Ok(values) => Ok(values.into_boxed_slice()),
+            Err(fault) => Err(fault),
+        }
+    }
+
+    fn from_sql_null(_alloc: Global, _ty: &PgType) -> Result<BoxedSlice<T>, Fault> {
+        Err(Fault::WasNull)
+    }
+
+    fn accepts(ty: &PgType) -> bool {
+        accepts_list::<T>(ty)
+    }
+}
+
+/// Whether the type is an array of a type that `T` accepts.
+pub(crate) fn accepts_list<'a, T: FromSql<'a>>(ty: &PgType) -> bool
+    ensures { result ≡ accepted_list T.accepted (content ty.now) }
+{
+    match member_type(ty) {
+        Some(member) => T::accepts(&member),
+        None => false,
+    }
+}
+
+/// Reads the elements of an array, which are of the type `member`, into a list that grows as they
+/// come: what the head states is not believed.
+fn read_list<'a, T: FromSql<'a>>(
+    alloc: Global,
+    member: &PgType,
+    raw: &'a [u8],
+) -> Result<Vec<T>, Fault>
+    requires { IsTrue (T.accepted (content member.now)) }
+    ensures { Answers (ReadsList (λ v. v.items) (T.reads (content member.now)) (Some raw.entry.now)) result }
+{
+    let mut cells = array_from_sql(alloc, raw)?;
+    let mut values = Vec::new(alloc);
+    while let Some(cell) = cells.next() {
+        let value: T = from_sql_nullable(alloc, member, cell?)?;
+        values.push(value)?;
+    }
+    Ok(values)
+}
