@@ -37,6 +37,7 @@ pub use Rattle.pg_base.specs.Seen
 pub use Rattle.pg_base.specs.Special
 pub use Rattle.pg_base.specs.SpecialLaws
 pub use Rattle.pg_base.specs.Texts
+pub use Rattle.pg_read.specs.BoxReading
 pub use Rattle.pg_read.specs.Framed
 pub use Rattle.pg_read.specs.OptionReading
 pub use Rattle.pg_read.specs.Reading
