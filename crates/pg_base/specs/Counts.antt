@@ -1,8 +1,8 @@
 -- A number of four bytes in front of others: a count or a length (pq_getmsgint).
-use Rattle.std.specs.Prelude.{◌≡◌, ℕ, ℤ, pos, negsuc, List, [], ◌∷◌, ◌++◌, length, take, Bool, true, false, nat_le}
+use Rattle.std.specs.Prelude.{◌≡◌, ℕ, ℤ, pos, negsuc, List, [], ◌∷◌, ◌++◌, length, take, Option, Some, None, Bool, true, false, nat_le, if◌then◌else◌}
 use Rattle.std.specs.Borrow.{Bor}
 use Rattle.std.specs.Int.{w32}
-use Rattle.pg_base.specs.Cells.{IsBe, signed_in}
+use Rattle.pg_base.specs.Cells.{be, IsBe, signed_in}
 use Rattle.pg_base.specs.Faults.{size, count}
 use Rattle.pg_base.specs.Formats.{Checks}
 
@@ -33,3 +33,7 @@ count_checks s = (has_number s, size) ∷ (not_negative (number_in s), count) �
 -- s begins with what spells a value, and rest comes after it
 abbrev pub InFront : {A : Type 0} → (List ℕ → A → Type 0) → List ℕ → A × Bor (List ℕ) → Type 0
 InFront spells s p = (t : List ℕ) × (s ≡ t ++ p.1.now) × spells t p.0
+
+-- the bytes of a count, which four bytes hold
+abbrev pub count_bytes : ℕ → Option (List ℕ)
+count_bytes n = if nat_le n 2147483647 then Some (be w32 (pos n)) else None

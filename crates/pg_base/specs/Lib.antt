@@ -1,5 +1,6 @@
 -- The words of types, faults, cells and formats.
 pub mod Appending
+pub mod ArrayWriting
 pub mod Bits
 pub mod BitsLaws
 pub mod BuiltInRows

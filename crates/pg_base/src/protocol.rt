@@ -5,6 +5,7 @@
 //! that only where the buffer had less spare room than these bytes; where a limit is passed it
 //! answers `Transmit`.
 
+mod array_writing;
 mod bits;
 mod bytea;
 mod civil;
@@ -18,6 +19,7 @@ mod network;
 mod numbers;
 mod texts;
 
+pub use array_writing::array_to_sql;
 pub(crate) use bits::without_pad;
 pub use bits::{Varbit, varbit_from_sql, varbit_to_sql};
 pub use bytea::{bytea_from_sql, bytea_to_sql};

@@ -2,6 +2,7 @@
 pub mod ReadingBack
 pub mod Rewriting
 pub use Rattle.pg_base.specs.Appending
+pub use Rattle.pg_base.specs.ArrayWriting
 pub use Rattle.pg_base.specs.Bits
 pub use Rattle.pg_base.specs.BitsLaws
 pub use Rattle.pg_base.specs.BuiltInRows
