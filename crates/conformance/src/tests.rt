@@ -1,4 +1,5 @@
 mod bits;
+mod boxes;
 mod bytes;
 mod civil;
 mod days;

@@ -1,44 +1,15 @@
 -- The bytes of entries, one after another.
-use Rattle.std.proofs.Common.{◌≡◌, ◌≤◌, ◌<◌, ◌+◌, ◌++◌, ℕ, List, [], ◌∷◌, length, map, take, take_all, drop, get_or, Option, Some, None, Bool, true, false, cond, nat_le, pos, Ok, Err, refl, sym, ap, ◌∙◌, subst, arith, append_assoc, append-nil, length-append}
-use Rattle.std.specs.Bool.{⊤}
+use Rattle.std.proofs.Common.{◌≡◌, ◌≤◌, ◌<◌, ◌+◌, ◌++◌, ℕ, List, [], ◌∷◌, length, map, take, take_all, drop, get_or, Option, Some, None, Bool, true, false, cond, nat_le, pos, refl, sym, ap, ◌∙◌, subst, arith, append_assoc}
 use Rattle.std.specs.Borrow.{Bor}
-use Rattle.std.proofs.lemmas.List.{take_more, map-append, take-append-drop, length-map}
-use Rattle.std.proofs.lemmas.Bool.Decides.{nat_tests}
+use Rattle.std.proofs.lemmas.List.{take_more, map-append, take-append-drop}
 use Rattle.std.specs.Int.{w32}
-use Rattle.pg_base.specs.Cells.{be, cell_of, frame}
-use Rattle.bytes.specs.Filled.{Filled}
-use Rattle.pg_base.specs.declared.fault.Fault.{Fault}
-use Rattle.pg_base.specs.Appending.{Appends}
-use Rattle.pg_base.specs.Hstore.{Entry, joined, entries_bytes, hstore_bytes, count_bytes, lent_entry}
-
-abbrev Bytes : Type 0
-Bytes = Option (List ℕ)
+use Rattle.pg_base.specs.Cells.{be, cell_of, frame, joined}
+use Rattle.pg_base.specs.Counts.{count_bytes}
+use Rattle.pg_base.specs.Hstore.{Entry, entries_bytes, hstore_bytes, lent_entry}
+use Rattle.pg_base.proofs.Joined.{Bytes, joined-assoc, joined-nil, nil-joined, none_of, parts_of, short_count, sum_len}
 
 abbrev pub Lent : Type 0
 Lent = Bor (List ℕ) × Option (Bor (List ℕ))
-
-joined-assoc : (a b c : Bytes) → joined (joined a b) c ≡ joined a (joined b c)
-joined-assoc None b c = refl
-joined-assoc (Some a) None c = refl
-joined-assoc (Some a) (Some b) None = refl
-joined-assoc (Some a) (Some b) (Some c) = ap Some (append_assoc a b c)
-
-joined-nil : (a : Bytes) → joined a (Some []) ≡ a
-joined-nil None = refl
-joined-nil (Some a) = ap Some (append-nil a)
-
-nil-joined : (a : Bytes) → joined (Some []) a ≡ a
-nil-joined None = refl
-nil-joined (Some a) = refl
-
--- both parts of joined bytes are there
-pub parts_of : (a b : Bytes) (t : List ℕ) → joined a b ≡ Some t → (x y : List ℕ) × (a ≡ Some x) × (b ≡ Some y) × (t ≡ x ++ y)
-parts_of None b t e = let no : ⊥ = cc in absurd no
-parts_of (Some x) None t e = let no : ⊥ = cc in absurd no
-parts_of (Some x) (Some y) t e = (x, y, refl, refl, cc)
-
-sum_len : (t x y : List ℕ) → t ≡ x ++ y → length t ≡ length x + length y
-sum_len t x y e = subst (λ (s : List ℕ). length s ≡ length x + length y) (sym e) (length-append x y)
 
 entries-append : (xs ys : List Entry) → entries_bytes (xs ++ ys) ≡ joined (entries_bytes xs) (entries_bytes ys)
 entries-append [] ys = sym (nil-joined (entries_bytes ys))
@@ -125,20 +96,6 @@ has_room es i d bs b start now h so_far all taken enough =
     let has = has_entry es i d bs whole.0 h so_far whole.1 in
     record { key = has.key; value = has.value; key_is = has.key_is; value_is = has.value_is; fits = omega (arith, has.fits, whole.2) }
 
--- an appender does not refuse bytes that have room
-pub no_refusal : (w : Bytes) (b : List ℕ) (old new : Filled) (fault : Fault) → w ≡ Some b → length b ≤ old.spare → Appends w old new (Err fault) → ⊥
-no_refusal None b old new fault e h a = let no : ⊥ = cc in no
-no_refusal (Some x) b old new fault e h a = let same : x ≡ b = cc in omega (arith, a.2, ap length same)
-
--- and takes no more room than they do
-pub appended : {u : ⊤} (w : Bytes) (b : List ℕ) (old new : Filled) → w ≡ Some b → Appends w old new (Ok u) → (new.items ≡ old.items ++ b) × (old.spare ≤ new.spare + length b)
-appended None b old new e a = absurd a
-appended (Some x) b old new e a = let same : x ≡ b = cc in subst (λ (s : List ℕ). (new.items ≡ old.items ++ s) × (old.spare ≤ new.spare + length s)) same a
-
-none_of : (o : Bytes) → ((t : List ℕ) → o ≡ Some t → ⊥) → o ≡ None
-none_of None h = refl
-none_of (Some t) h = absurd (h t refl)
-
 -- where an entry has no bytes, there are none of all
 pub key_none : (es : List Lent) (i : ℕ) (d : Lent) (bs : List ℕ) → i < length es → entries_bytes (map lent_entry (take i es)) ≡ Some bs
     → frame (Some (get_or es i d).0.now) ≡ None → hstore_bytes (map lent_entry es) ≡ None
@@ -154,27 +111,9 @@ value_none es i d bs h so_far none = none_of (hstore_bytes (map lent_entry es)) 
     let has = has_entry es i d bs parts.1 h so_far parts.3 in
     let no : None ≡ Some has.value = sym none ∙ has.value_is in cc)
 
-test_met : (t : Bool) (b : List ℕ) → t ≡ true → cond t (Some b) None ≡ Some b
-test_met true b e = refl
-test_met false b e = let no : ⊥ = cc in absurd no
-
--- a short text has a frame
-pub short_frame : (x : List ℕ) → length x ≤ 2147483647 → (b : List ℕ) × (frame (Some x) ≡ Some b) × (length b ≡ 4 + length x)
-short_frame x h =
-    let fits : nat_le (length x) 2147483647 ≡ true = grind (arith, nat_tests) in
-    let b : List ℕ = be w32 (pos (length x)) ++ x in
-    (b, test_met (nat_le (length x) 2147483647) b fits, omega (arith, length-append (be w32 (pos (length x))) x))
-
--- so few entries have a count
-pub short_count : (es : List Lent) → length es ≤ 2147483647 → count_bytes (length (map lent_entry es)) ≡ Some (be w32 (pos (length es)))
-short_count es h =
-    let same : length (map lent_entry es) ≡ length es = length-map es lent_entry in
-    let fits : nat_le (length es) 2147483647 ≡ true = grind (arith, nat_tests) in
-    ap count_bytes same ∙ test_met (nat_le (length es) 2147483647) (be w32 (pos (length es))) fits
-
 -- the bytes of a short list of entries that have bytes
 pub short_list : (es : List Lent) (i : ℕ) (bs : List ℕ) → length es ≤ 2147483647 → length es ≤ i → entries_bytes (map lent_entry (take i es)) ≡ Some bs
     → hstore_bytes (map lent_entry es) ≡ Some (be w32 (pos (length es)) ++ bs)
 short_list es i bs h whole are =
     let all : entries_bytes (map lent_entry es) ≡ Some bs = ap (λ (l : List Lent). entries_bytes (map lent_entry l)) (sym (take_all i es whole)) ∙ are in
-    rw (short_count es h, all) refl
+    rw (short_count lent_entry es h, all) refl

@@ -5,9 +5,11 @@ pub mod CellRows
 pub mod Contents
 pub mod DerivedTypes
 pub mod Fields
+pub mod FrameLists
 pub mod HostBits
 pub mod HstoreLengths
 pub mod HstoreSteps
+pub mod Joined
 pub mod JsonLemmas
 pub mod LsnLemmas
 pub mod Octets

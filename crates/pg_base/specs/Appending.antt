@@ -23,3 +23,18 @@ Appends (Some b) old new (Ok done) = (new.items ≡ old.items ++ b) × (old.spar
 Appends (Some b) old new (Err f) = (new.items ≡ old.items) × (f ≡ Memory) × (old.spare < length b) × (old.spare ≤ new.spare)
 Appends None old new (Ok done) = ⊥
 Appends None old new (Err f) = (new ≡ old) × (f ≡ Transmit)
+
+-- there are bytes to append, and room for them
+abbrev pub HasRoomFor : Option (List ℕ) → ℕ → Type 0
+HasRoomFor None room = ⊥
+HasRoomFor (Some b) room = length b ≤ room
+
+-- these bytes were appended, and used no more room than they take
+abbrev pub Extends : Option (List ℕ) → Filled → Filled → Type 0
+Extends None old new = ⊥
+Extends (Some b) old new = (new.items ≡ old.items ++ b) × (old.spare ≤ new.spare + length b)
+
+-- so many bytes are there; Transmit where a limit is passed
+abbrev pub Measures : Option (List ℕ) → Result ℕ Fault → Type 0
+Measures bytes (Ok n) = (b : List ℕ) × (bytes ≡ Some b) × (length b ≡ n)
+Measures bytes (Err f) = (f ≡ Transmit) × (bytes ≡ None)

@@ -2,7 +2,7 @@
 -- PostgreSQL frames values so in DataRow and Bind (documentation, "Message Formats"), and in array_send, record_send and
 -- hstore_send: a length of four bytes, -1 for NULL, and that many bytes. That every negative length is NULL in reading is
 -- the upstream crate's rule; the server itself writes -1 alone.
-use Rattle.std.specs.Prelude.{Bool, true, false, ◌≡◌, ℕ, ◌<◌, ◌≤◌, ◌^◌, ℤ, pos, negsuc, List, [], ◌∷◌, ◌++◌, length, Option, Some, None, ◌⊎◌, FitsSigned, if◌then◌else◌, nat_le}
+use Rattle.std.specs.Prelude.{Bool, true, false, ◌≡◌, ℕ, ◌<◌, ◌≤◌, ◌^◌, ℤ, pos, negsuc, List, [], ◌∷◌, ◌++◌, length, Option, Some, None, ◌⊎◌, FitsSigned, if◌then◌else◌, nat_le, option_map}
 use mir.Val.{bits}
 use Rattle.std.specs.Borrow.{Bor}
 use Rattle.std.specs.Int.{Width, w32, to_be_bytes, from_be_bytes, cast_signed, cast_unsigned}
@@ -61,3 +61,13 @@ SpellsAll s (c ∷ cs) rest = (t u : List ℕ) × (s ≡ t ++ u) × Spells t c �
 -- s begins with the cells cs and then comes rest: there are n cells, or fewer where no further cell is whole
 abbrev pub CellsInRow : List ℕ → ℕ → List Cell → List ℕ → Type 0
 CellsInRow s n cs rest = SpellsAll s cs rest × (length cs ≤ n) × ((length cs ≡ n) ⊎ SpellsNone rest)
+
+-- the first bytes and then the second, where both are there
+abbrev pub joined : Option (List ℕ) → Option (List ℕ) → Option (List ℕ)
+joined None r = None
+joined (Some a) r = option_map (λ b. a ++ b) r
+
+-- the frames of cells, one after another, where each cell has one
+abbrev pub frames : List Cell → Option (List ℕ)
+frames [] = Some []
+frames (c ∷ cs) = joined (frame c) (frames cs)

@@ -1,8 +1,8 @@
 -- A number of four bytes in front of others: a count or a length (pq_getmsgint).
-use Rattle.std.specs.Prelude.{◌≡◌, ℕ, ℤ, pos, negsuc, List, [], ◌∷◌, ◌++◌, length, take, drop, Bool, true, false, nat_le}
+use Rattle.std.specs.Prelude.{◌≡◌, ℕ, ℤ, pos, negsuc, List, [], ◌∷◌, ◌++◌, length, take, drop, Bool, true, false, nat_le, Option, Some, None, if◌then◌else◌}
 use Rattle.std.specs.Borrow.{Bor}
 use Rattle.std.specs.Int.{w32}
-use Rattle.pg_base.specs.Cells.{IsBe, signed_in}
+use Rattle.pg_base.specs.Cells.{be, IsBe, signed_in}
 use Rattle.pg_base.specs.Faults.{size, count}
 use Rattle.pg_base.specs.Formats.{Checks}
 
@@ -56,3 +56,7 @@ behind_cell s = drop (stated (number_in s)) (drop 4 s)
 -- the checks of a cell in front: where its length or a part of its bytes is cut, it is Size
 abbrev pub cell_checks : List ℕ → Checks
 cell_checks s = (has_number s, size) ∷ (has_cell s, size) ∷ []
+
+-- the bytes of a count, which four bytes hold
+abbrev pub count_bytes : ℕ → Option (List ℕ)
+count_bytes n = if nat_le n 2147483647 then Some (be w32 (pos n)) else None

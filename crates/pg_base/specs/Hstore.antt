@@ -1,18 +1,17 @@
 -- Hstore (hstore_send, hstore_recv): a count, and for each entry its key and its value, which may be NULL.
-use Rattle.std.specs.Prelude.{◌≡◌, ℕ, ◌+◌, ◌==◌, zero, suc, pos, List, [], ◌∷◌, ◌++◌, length, drop, Option, Some, None, option_map, nat_le, if◌then◌else◌, Result, Ok, Err, IfSome, IsSome, IsUtf8, String, string_bytes}
+use Rattle.std.specs.Prelude.{◌≡◌, ℕ, ◌+◌, ◌==◌, zero, suc, pos, List, [], ◌∷◌, ◌++◌, length, drop, Option, Some, None, option_map, nat_le, if◌then◌else◌, Result, Ok, Err, IfSome, IsSome, IsUtf8, String, string_bytes, take, Bool}
 use Rattle.std.specs.Borrow.{Bor}
 use Rattle.std.specs.Cmp.Lexicographic.{slice_cmp}
 use Rattle.std.specs.Global.{Global}
 use Rattle.std.specs.HashMap.{HashMap, get_by_text}
-use Rattle.std.specs.Int.{w32}
 use Rattle.std.specs.Ordering.{nat_cmp}
 use Rattle.std.specs.declared.cmp.Ordering.{Ordering}
 use Rattle.std.specs.declared.cmp.Ordering.TheVariants.{Less, Equal, Greater}
 use Rattle.std.specs.Str.{bytes_eq, is_utf8}
 use Rattle.pg_base.specs.declared.fault.Fault.{Fault}
 use Rattle.pg_base.specs.Appending.{Wire, wire_of}
-use Rattle.pg_base.specs.Cells.{Cell, cell_of, be, frame, Spells}
-use Rattle.pg_base.specs.Counts.{IsCount, ToRead, behind_cell, bytes_in, count_checks, has_cell, has_number, not_negative, nothing, number_in, stated}
+use Rattle.pg_base.specs.Cells.{Cell, cell_of, be, frame, Spells, joined}
+use Rattle.pg_base.specs.Counts.{IsCount, ToRead, behind_cell, bytes_in, count_checks, has_cell, has_number, not_negative, nothing, number_in, stated, count_bytes}
 use Rattle.pg_base.specs.Faults.{Refusal, Outcome, refusal_of, size, utf8, key_length}
 use Rattle.pg_base.specs.Formats.{Checks, first_fault_of, ReadsPlain}
 use Rattle.pg_base.specs.Options.{NoneOr}
@@ -110,15 +109,6 @@ SameMap m n = (q : List ℕ) → value_at m q ≡ value_at n q
 -- what a cell reads as
 abbrev pub ReadsHstore : {S : Type 0} → Cell → Outcome (HashMap (String Global) (Option (String Global)) S) → Type 0
 ReadsHstore = ReadsPlain (FormHstore value_at) first_fault_hstore
-
--- the first bytes and then the second, where both are there
-abbrev pub joined : Option (List ℕ) → Option (List ℕ) → Option (List ℕ)
-joined None r = None
-joined (Some a) r = option_map (λ b. a ++ b) r
-
--- the bytes of a count, which four bytes hold
-abbrev pub count_bytes : ℕ → Option (List ℕ)
-count_bytes n = if nat_le n 2147483647 then Some (be w32 (pos n)) else None
 
 -- the frames of the entries' keys and values, in the order of the list, where each has one
 abbrev pub entries_bytes : List Entry → Option (List ℕ)

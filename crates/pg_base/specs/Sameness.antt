@@ -15,6 +15,14 @@ equal_equivalence = record { reflexive = λ a. refl; symmetric = λ a b h. sym h
 pub content_equivalence : {A B : Type 0} (content_of : A → B) → IsEquivalence (λ a b. content_of a ≡ content_of b)
 content_equivalence content_of = record { reflexive = λ a. refl; symmetric = λ a b h. sym h; transitive = λ a b c h k. h ∙ k }
 
+-- to have the same inside is one, where sameness inside is one
+pub inside_equivalence : {A B : Type 0} (inside : B → A) (same : A → A → Type 0) → IsEquivalence same → IsEquivalence (λ v w. same (inside v) (inside w))
+inside_equivalence inside same law = record {
+  reflexive = λ v. law.reflexive (inside v);
+  symmetric = λ v w h. law.symmetric (inside v) (inside w) h;
+  transitive = λ u v w h k. law.transitive (inside u) (inside v) (inside w) h k;
+}
+
 -- options are the same where both are None, or both are Some of the same
 abbrev pub SameOption : {A : Type 0} → (A → A → Type 0) → Option A → Option A → Type 0
 SameOption same None None = Unit {0}

@@ -1,4 +1,5 @@
 -- The words of reading.
+pub mod BoxReading
 pub mod Framed
 pub mod ListReading
 pub mod OptionReading

@@ -61,6 +61,8 @@ pub fn types_whose_null_is_read_without_memory() {
     never_answers_memory_at_null::<HashMap<String, Option<String>>>();
     never_answers_memory_at_null::<BitVec>();
     never_answers_memory_at_null::<Value>();
+    never_answers_memory_at_null::<Box<i32>>();
+    never_answers_memory_at_null::<Box<Option<i32>>>();
     never_answers_memory_at_null::<Option<String>>();
     never_answers_memory_at_null::<Date<String>>();
     never_answers_memory_at_null::<Timestamp<String>>();

@@ -6,6 +6,7 @@
 
 mod arrays;
 mod bits;
+mod boxes;
 mod bytea;
 mod civil;
 pub mod from_sql;

@@ -56,6 +56,7 @@ pub fn types_that_keep_the_room_rule() {
     keeps_room_rule::<MacAddress>();
     keeps_room_rule::<Uuid>();
     keeps_room_rule::<&i32>();
+    keeps_room_rule::<Box<i32>>();
     keeps_room_rule::<Option<i32>>();
     keeps_room_rule::<Date<civil::Date>>();
     keeps_room_rule::<Timestamp<UnixTime>>();

@@ -5,6 +5,7 @@
 #![tactic(auto)]
 
 mod bits;
+mod boxes;
 mod bytea;
 mod civil;
 mod hstore;

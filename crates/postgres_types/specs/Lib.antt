@@ -2,6 +2,7 @@
 pub mod ReadingBack
 pub mod Rewriting
 pub use Rattle.pg_base.specs.Appending
+pub use Rattle.pg_base.specs.ArrayWriting
 pub use Rattle.pg_base.specs.Bits
 pub use Rattle.pg_base.specs.BitsLaws
 pub use Rattle.pg_base.specs.BuiltInRows
@@ -37,6 +38,7 @@ pub use Rattle.pg_base.specs.Seen
 pub use Rattle.pg_base.specs.Special
 pub use Rattle.pg_base.specs.SpecialLaws
 pub use Rattle.pg_base.specs.Texts
+pub use Rattle.pg_read.specs.BoxReading
 pub use Rattle.pg_read.specs.Framed
 pub use Rattle.pg_read.specs.OptionReading
 pub use Rattle.pg_read.specs.Reading

@@ -1,8 +1,6 @@
 //! Maps of texts.
-ghost use Rattle.std.specs.Prelude.{◌≡◌, ◌≤◌, ℕ, List, [], ◌∷◌, Some, None, length, map, MatchResult};
-ghost use Rattle.std.specs.Int.{w32};
-ghost use Rattle.pg_base.specs.declared.fault.Fault.TheVariants.{Transmit};
-ghost use Rattle.pg_base.specs.Appending.{Appends};
+ghost use Rattle.std.specs.Prelude.{◌≤◌, map, IfOk};
+ghost use Rattle.pg_base.specs.Appending.{Appends, Measures};
 ghost use Rattle.pg_base.specs.Cells.{cell_of, frame};
 ghost use Rattle.pg_base.specs.Counts.{InFront, ToRead, count_checks};
 ghost use Rattle.pg_base.specs.Faults.{Answers, NeverMemory};
@@ -10,7 +8,7 @@ ghost use Rattle.pg_base.specs.Formats.{Decodes, first_fault_of};
 ghost use Rattle.pg_base.specs.Hstore.{SpellsCount, SpellsEntry, SpellsText, TakesEntry, entry_checks, hstore_bytes, lent_entry, value_checks};
 
 use super::counts::{split_cell, split_count};
-use super::frames::{MAX_CELL, frame_to_sql};
+use super::frames::{frame_len, frame_to_sql};
 use super::numbers::int4_to_sql;
 use super::texts::text_from_sql;
 use crate::fault::Fault;
@@ -132,32 +130,23 @@ fn text_frame_to_sql(alloc: Global, text: Option<&str>, out: &mut BytesMut) -> R
 
 /// How many bytes the entries take.
 fn hstore_len(entries: &[(&str, Option<&str>)]) -> Result<usize, Fault>
-    ensures { MatchResult result
-        (λ n. (b : List ℕ) × (hstore_bytes (map lent_entry entries.now) ≡ Some b) × (length b ≡ n))
-        (λ fault. (fault ≡ Transmit) × (hstore_bytes (map lent_entry entries.now) ≡ None)) }
+    ensures { Measures (hstore_bytes (map lent_entry entries.now)) result }
 {
     if entries.len() > MAX_ENTRIES {
         return Err(Fault::Transmit);
     }
     let mut len = 4;
     for (key, value) in entries {
-        len += frame_len(Some(key))?;
-        len += frame_len(*value)?;
+        len += text_frame_len(Some(key))?;
+        len += text_frame_len(*value)?;
     }
     Ok(len)
 }
 
 /// How many bytes the frame of the text takes.
-fn frame_len(text: Option<&str>) -> Result<usize, Fault>
-    ensures { MatchResult result
-        (λ n. (b : List ℕ) × (frame (cell_of text.entry) ≡ Some b) × (length b ≡ n) × (n ≤ 2147483651))
-        (λ fault. (fault ≡ Transmit) × (frame (cell_of text.entry) ≡ None)) }
+fn text_frame_len(text: Option<&str>) -> Result<usize, Fault>
+    ensures len { Measures (frame (cell_of text.entry)) result }
+    ensures short { IfOk result (λ n. n ≤ 2147483651) }
 {
-    let Some(text) = text else {
-        return Ok(4);
-    };
-    if text.len() > MAX_CELL {
-        return Err(Fault::Transmit);
-    }
-    Ok(4 + text.len())
+    frame_len(text.map(|text| text.as_bytes()))
 }

@@ -1,0 +1,38 @@
+//! Reading a box.
+ghost use Rattle.pg_base.specs.Sameness.{inside_equivalence};
+ghost use Rattle.pg_read.specs.BoxReading.{ReadsBox, box_single};
+ghost use Rattle.pg_read.specs.Reading.{NullAlone};
+
+use crate::from_sql::FromSql;
+use pg_base::fault::Fault;
+use pg_base::types::PgType;
+use std::alloc::Global;
+
+/// Bytes are `T`'s value in memory of its own, or `T`'s fault. NULL is `WasNull`, whatever `T` says
+/// of NULL.
+impl<'a, T: FromSql<'a>> FromSql<'a> for Box<T> {
+    ghost same = { λ v w. T.same v.value w.value };
+
+    ghost accepted = { T.accepted };
+
+    ghost reads = { λ ty. ReadsBox (λ v. v.value) (T.reads ty) };
+
+    ghost memory_free = { NullAlone };
+
+    ghost equivalence = { inside_equivalence (λ v. v.value) T.same T.equivalence };
+
+    ghost single = { λ ty ok. box_single (λ v. v.value) T.same (T.reads ty) (T.single ty ok) };
+
+    fn from_sql(alloc: Global, ty: &PgType, raw: &'a [u8]) -> Result<Box<T>, Fault> {
+        let value = T::from_sql(alloc, ty, raw)?;
+        Ok(Box::new(alloc, value)?)
+    }
+
+    fn from_sql_null(_alloc: Global, _ty: &PgType) -> Result<Box<T>, Fault> {
+        Err(Fault::WasNull)
+    }
+
+    fn accepts(ty: &PgType) -> bool {
+        T::accepts(ty)
+    }
+}

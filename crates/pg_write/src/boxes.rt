@@ -1,0 +1,55 @@
+//! Writing a box.
+ghost use Rattle.std.specs.Prelude.{true, codes, refl};
+ghost use Rattle.pg_base.specs.declared.format.Format.TheVariants.{Binary};
+ghost use Rattle.pg_write.specs.Writing.{checked_by};
+
+use crate::to_sql::{ToSql, wrong_type};
+use bytes::BytesMut;
+use pg_base::fault::Fault;
+use pg_base::format::{Format, IsNull};
+use pg_base::types::PgType;
+use std::alloc::Global;
+
+/// As the value inside is written, NULL included. The format is binary, whatever `T` says of it.
+impl<T: ToSql> ToSql for Box<T> {
+    ghost accepted = { T.accepted };
+
+    ghost name = { codes "Box" };
+
+    ghost wire = { λ ty v. T.wire ty v.value };
+
+    ghost checked = { λ ty v. checked_by (T.accepted ty) ty (codes "Box") (T.wire ty v.value) };
+
+    ghost format = { λ _ _. Binary };
+
+    ghost by_room = { λ v. T.by_room v.value };
+
+    ghost refuses_memory_free = { true };
+
+    fn to_sql(&self, alloc: Global, ty: &PgType, out: &mut BytesMut) -> Result<IsNull, Fault> {
+        (**self).to_sql(alloc, ty, out)
+    }
+
+    fn accepts(ty: &PgType) -> bool {
+        T::accepts(ty)
+    }
+
+    fn to_sql_checked(
+        &self,
+        alloc: Global,
+        ty: &PgType,
+        out: &mut BytesMut,
+    ) -> Result<IsNull, Fault> {
+        if Self::accepts(ty) {
+            self.to_sql(alloc, ty, out)
+        } else {
+            Err(wrong_type(ty, "Box"))
+        }
+    }
+
+    fn encode_format(&self, _ty: &PgType) -> Format {
+        Format::Binary
+    }
+
+    ghost checks = { λ _ _. refl };
+}
