@@ -105,7 +105,8 @@ fn read_list<'a, T: FromSql<'a>>(
     let mut cells = array_from_sql(alloc, raw)?;
     let mut values = Vec::new(alloc);
     while let Some(cell) = cells.next() {
-        let value: T = from_sql_nullable(alloc, member, cell?)?;
+        let cell = cell?;
+        let value: T = from_sql_nullable(alloc, member, cell)?;
         values.push(value)?;
     }
     Ok(values)
