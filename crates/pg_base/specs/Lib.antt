@@ -26,6 +26,7 @@ pub mod Identifiers
 pub mod IdentifiersLaws
 pub mod Json
 pub mod JsonLaws
+pub mod Lists
 pub mod Lsn
 pub mod LsnLaws
 pub mod Moments

@@ -1,3 +1,4 @@
+mod ElementCells
 mod KeyOrder
 mod Placing
 mod SameEntries

@@ -1,3 +1,4 @@
 -- The words of writing.
+pub mod ListWriting
 pub mod OptionWriting
 pub mod Writing

@@ -12,6 +12,7 @@ mod hstore;
 mod identifiers;
 mod json;
 pub mod laws;
+mod lists;
 mod lsn;
 mod moments;
 mod network;

@@ -25,6 +25,7 @@ pub use Rattle.pg_base.specs.Identifiers
 pub use Rattle.pg_base.specs.IdentifiersLaws
 pub use Rattle.pg_base.specs.Json
 pub use Rattle.pg_base.specs.JsonLaws
+pub use Rattle.pg_base.specs.Lists
 pub use Rattle.pg_base.specs.Lsn
 pub use Rattle.pg_base.specs.LsnLaws
 pub use Rattle.pg_base.specs.Moments
@@ -43,5 +44,6 @@ pub use Rattle.pg_read.specs.Framed
 pub use Rattle.pg_read.specs.OptionReading
 pub use Rattle.pg_read.specs.Reading
 pub use Rattle.pg_read.specs.SpecialReading
+pub use Rattle.pg_write.specs.ListWriting
 pub use Rattle.pg_write.specs.OptionWriting
 pub use Rattle.pg_write.specs.Writing

@@ -1,0 +1,55 @@
+-- Writing lists.
+use Rattle.std.specs.Prelude.{◌≡◌, ℕ, ℤ, pos, List, [], ◌∷◌, length, Option, Some, None, ◌||◌, nat_le, if◌then◌else◌, Ok, Err}
+use Rattle.pg_base.specs.declared.types.built_in.BuiltIn.TheVariants.{Int2Vector, OidVector}
+use Rattle.pg_base.specs.Appending.{Wire, wire_of}
+use Rattle.pg_base.specs.ArrayWriting.{array_bytes}
+use Rattle.pg_base.specs.Cells.{Cell, frame}
+use Rattle.pg_base.specs.Content.{Content, is_row, oid_of}
+use Rattle.pg_base.specs.Faults.{Outcome, transmit}
+use Rattle.pg_base.specs.Lists.{member_of}
+
+-- a cell with its frame, or Transmit where it has none
+abbrev pub with_frame : Cell → Option (List ℕ) → Wire
+with_frame c None = Err transmit
+with_frame c (Some f) = Ok c
+
+-- the cell of an element, which is to have a frame
+abbrev pub framed : Wire → Wire
+framed (Ok c) = with_frame c (frame c)
+framed (Err r) = Err r
+
+-- a cell in front of others, or the first fault
+abbrev pub in_front : Wire → Outcome (List Cell) → Outcome (List Cell)
+in_front (Err r) cs = Err r
+in_front (Ok c) (Err r) = Err r
+in_front (Ok c) (Ok cs) = Ok (c ∷ cs)
+
+-- the cells of the elements, or the fault of the first that is refused or that has no frame
+abbrev pub element_cells : {A : Type 0} → (A → Wire) → List A → Outcome (List Cell)
+element_cells wire [] = Ok []
+element_cells wire (v ∷ vs) = in_front (framed (wire v)) (element_cells wire vs)
+
+-- the array of the cells
+abbrev pub wire_array : ℤ → ℕ → Outcome (List Cell) → Wire
+wire_array lower_bound oid (Ok cs) = wire_of (array_bytes lower_bound oid cs)
+wire_array lower_bound oid (Err r) = Err r
+
+-- the number of an array's first member: 0 in the two built-in vectors, and else 1
+abbrev pub lower_bound_of : Content → ℤ
+lower_bound_of ty = if is_row OidVector ty || is_row Int2Vector ty then pos 0 else pos 1
+
+-- what the elements are written as to an array of that type, with members of that type: a count that four bytes cannot
+-- hold is refused before any element
+abbrev pub wire_members : {A : Type 0} → (Content → A → Wire) → Content → Option Content → List A → Wire
+wire_members wire ty None vs = Err transmit
+wire_members wire ty (Some member) vs =
+    if nat_le (length vs) 2147483647 then wire_array (lower_bound_of ty) (oid_of member) (element_cells (wire member) vs) else Err transmit
+
+-- what a list is written as
+abbrev pub wire_list : {A : Type 0} → (Content → A → Wire) → Content → List A → Wire
+wire_list wire ty vs = wire_members wire ty (member_of ty) vs
+
+-- what was made is what is told, seen so
+abbrev pub Gives : {A B : Type 0} → (B → A) → Outcome A → Outcome B → Type 0
+Gives seen told (Ok made) = told ≡ Ok (seen made)
+Gives seen told (Err r) = told ≡ Err r
