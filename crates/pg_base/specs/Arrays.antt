@@ -1,10 +1,9 @@
 -- Arrays (array_send, array_recv): a head, and then the framed elements. The head is a count of dimensions, flags and the
 -- elements' OID in four bytes each, and for each dimension its length and its lower bound.
-use Rattle.std.specs.Prelude.{◌≡◌, ℕ, ◌+◌, ◌==◌, zero, suc, List, [], ◌∷◌, ◌++◌, length, drop, Option, Some, None, Bool, false, nat_le, Result, Ok, Err, IfSome, IsSome}
+use Rattle.std.specs.Prelude.{◌≡◌, ℕ, ◌+◌, ◌==◌, zero, suc, List, [], ◌∷◌, ◌++◌, length, drop, Option, Some, None, false, nat_le, Result, Ok, Err, IfSome, IsSome}
 use Rattle.std.specs.Borrow.{Bor}
 use Rattle.pg_base.specs.declared.fault.Fault.{Fault}
 use Rattle.pg_base.specs.Cells.{Cell, cell_of, Spells, CellsInRow}
-use Rattle.pg_base.specs.Content.{Content, KindContent, SimpleKind, EnumKind, PseudoKind, ArrayKind, RangeKind, MultirangeKind, DomainKind, CompositeKind, kind_of}
 use Rattle.pg_base.specs.Counts.{IsCount, ToRead, cell_checks, count_checks, not_negative, nothing, number_in, stated}
 use Rattle.pg_base.specs.Faults.{refusal_of, size, count, dimensions}
 use Rattle.pg_base.specs.Formats.{Checks, first_fault_of}
@@ -52,27 +51,3 @@ TakesElement old (Some (Ok raw)) new =
 TakesElement old (Some (Err f)) new =
     IfSome (refusal_of f) (λ r. first_fault_of (next_checks old) ≡ Some r) × IsSome (refusal_of f) × (new ≡ nothing)
 TakesElement old None new = (old ≡ nothing) × (new ≡ nothing)
-
--- the member of a kind of array
-abbrev pub member_of_kind : KindContent → Option Content
-member_of_kind SimpleKind = None
-member_of_kind (EnumKind _) = None
-member_of_kind PseudoKind = None
-member_of_kind (ArrayKind member) = Some member
-member_of_kind (RangeKind _) = None
-member_of_kind (MultirangeKind _) = None
-member_of_kind (DomainKind _) = None
-member_of_kind (CompositeKind _) = None
-
--- the type of an array's elements; another type has none
-abbrev pub member_of : Content → Option Content
-member_of ty = member_of_kind (kind_of ty)
-
--- there is a member, and it is accepted
-abbrev pub accepted_member : (Content → Bool) → Option Content → Bool
-accepted_member inside None = false
-accepted_member inside (Some member) = inside member
-
--- lists accept an array of a type that their elements accept
-abbrev pub accepted_list : (Content → Bool) → Content → Bool
-accepted_list inside ty = accepted_member inside (member_of ty)

@@ -2,7 +2,7 @@
 ghost use Rattle.std.specs.Prelude.{◌≡◌, codes, option_map};
 ghost use Rattle.std.specs.Cow.{cow_value};
 ghost use Rattle.pg_base.specs.declared.types.built_in.BuiltIn.TheVariants.{Date, Jsonb};
-ghost use Rattle.pg_base.specs.Arrays.{member_of};
+ghost use Rattle.pg_base.specs.Lists.{member_of};
 ghost use Rattle.pg_base.specs.Bits.{accepted_bits};
 ghost use Rattle.pg_base.specs.Content.{content, is_row};
 ghost use Rattle.pg_base.specs.Json.{accepted_json};

@@ -1,7 +1,8 @@
 -- Reading a list from an array's cell.
 use Rattle.std.specs.Prelude.{◌≡◌, ◌⊎◌, ◌==◌, nat_le, ℕ, List, [], ◌∷◌, ◌++◌, length, take, Option, Some, None, Ok, Err, Bool, IsTrue}
 use Rattle.std.proofs.Common.{sym, ◌∙◌, subst, inl, inr, true≢false}
-use Rattle.pg_base.specs.Arrays.{ArrayBody, head_checks, accepted_member, accepted_list, member_of}
+use Rattle.pg_base.specs.Arrays.{ArrayBody, head_checks}
+use Rattle.pg_base.specs.Lists.{accepted_member, accepted_list, member_of}
 use Rattle.pg_base.specs.ArrayLaws.{body_single, head_passes}
 use Rattle.pg_base.specs.Cells.{Cell}
 use Rattle.pg_base.specs.Content.{Content}

@@ -1,6 +1,6 @@
 //! Reading arrays of a length that the type states.
 ghost use Rattle.std.specs.Prelude.{Some, IsTrue};
-ghost use Rattle.pg_base.specs.Arrays.{accepted_list, member_of};
+ghost use Rattle.pg_base.specs.Lists.{accepted_list, member_of};
 ghost use Rattle.pg_base.specs.Content.{content};
 ghost use Rattle.pg_base.specs.Faults.{Answers};
 ghost use Rattle.pg_base.specs.Sameness.{SameList, list_equivalence};

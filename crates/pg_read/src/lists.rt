@@ -1,7 +1,7 @@
 //! Reading lists.
 ghost use Rattle.std.specs.Prelude.{◌≡◌, Some, IsTrue};
 ghost use Rattle.std.specs.Box.{boxed_slice_items};
-ghost use Rattle.pg_base.specs.Arrays.{accepted_list, member_of};
+ghost use Rattle.pg_base.specs.Lists.{accepted_list, member_of};
 ghost use Rattle.pg_base.specs.Content.{content};
 ghost use Rattle.pg_base.specs.Faults.{Answers};
 ghost use Rattle.pg_base.specs.Sameness.{SameList, list_equivalence};

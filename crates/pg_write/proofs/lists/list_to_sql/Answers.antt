@@ -4,7 +4,7 @@ use Rattle.std.specs.Cow.{cow_value}
 use Rattle.std.specs.Int.{w32}
 use Rattle.pg_base.specs.ArrayWriting.{owned_cell}
 use Rattle.pg_base.specs.Content.{content, oid_of}
-use Rattle.pg_base.specs.Lists.{member_in}
+use Rattle.pg_base.specs.Lists.{member_of_kind}
 use Rattle.pg_base.specs.Seen.{seen}
 use Rattle.pg_write.specs.ListWriting.{element_cells, lower_bound_of}
 use Rattle.pg_write.proofs.ElementCells.{had_bytes, list_written, same_array}
@@ -23,5 +23,5 @@ returns g c =
     let oid = c.oid.ensures ∙ ap (λ m. oid_of (content m)) c.deref-2.ensures in
     let appended = same_array first _ (oid_of member) _ owned _ (sym lower_bound) (sym oid) (sym c.as_slice.ensures.value) ∙ bytes.1 in
     let told = ap (λ m. element_cells (g.T.ToSql.wire (content m)) values) (sym c.deref.ensures) ∙ c.in_ok-cells.ensures in
-    let is = ap member_in (sym c.kind.ensures ∙ ap seen c.in-Array.is) in
+    let is = ap member_of_kind (sym c.kind.ensures ∙ ap seen c.in-Array.is) in
     (bytes.0, list_written g.T.ToSql.wire ty member values cells bytes.0 is c.if-values-gt-MAX_LEN.false told appended, bytes.2)
