@@ -15,9 +15,10 @@ use pg_base::protocol::array_from_sql;
 use pg_base::types::PgType;
 use std::alloc::Global;
 
-/// As for `Vec<T>`, where the array has `N` elements; no more than `N` are read. Where a further
-/// element is whole it is `Excess`, and where it is cut `Size`. Where fewer are stated it is
-/// `TooFew`, unless bytes are left, which are `Size`.
+/// An array of a type that `T` accepts, of `N` elements, read as for `Vec<T>`; elements behind the
+/// first `N` are not read. Where `N` were read, a further element that is cut is `Size`, and one
+/// that is whole `Excess`. Where fewer are stated, bytes behind the last are `Size`, and otherwise
+/// it is `TooFew`. NULL is `WasNull`.
 impl<'a, T: FromSql<'a>, const N: usize> FromSql<'a> for [T; N] {
     ghost same = { SameList T.same };
 

@@ -17,10 +17,13 @@ use std::alloc::Global;
 use std::boxed::BoxedSlice;
 
 /// An array of a type that `T` accepts (`array_recv`), of one dimension or none: its elements, in
-/// order. The head's checks come first: where it is cut it is `Size`, a negative number of
-/// dimensions or elements is `Count`, and more than 1 dimension `Dimensions`. Then the first
-/// element that is cut is `Size`, or the first that `T` refuses gives `T`'s fault, whichever stands
-/// first. Bytes behind the last element are `Size`. NULL is `WasNull`.
+/// order, of which every negative length is NULL. The flags, the OID of the elements' type and the
+/// lower bound are not looked at.
+///
+/// The head's checks come first: where it is cut it is `Size`, a negative number of dimensions or
+/// elements is `Count`, and more than 1 dimension `Dimensions`. Then the first element that is cut
+/// is `Size`, or the first that `T` refuses gives `T`'s fault, whichever stands first. Bytes behind
+/// the last element are `Size`. NULL is `WasNull`.
 impl<'a, T: FromSql<'a>> FromSql<'a> for Vec<T> {
     ghost same = { λ v w. SameList T.same v.items w.items };
 
@@ -51,7 +54,7 @@ impl<'a, T: FromSql<'a>> FromSql<'a> for Vec<T> {
     }
 }
 
-/// As for `Vec<T>`.
+/// An array of a type that `T` accepts, read as for `Vec<T>`. NULL is `WasNull`.
 impl<'a, T: FromSql<'a>> FromSql<'a> for BoxedSlice<T> {
     ghost same = { λ v w. SameList T.same (boxed_slice_items v) (boxed_slice_items w) };
 
@@ -92,8 +95,8 @@ pub(crate) fn accepts_list<'a, T: FromSql<'a>>(ty: &PgType) -> bool
     }
 }
 
-/// Reads the elements of an array, which are of the type `member`, into a list that grows as they
-/// come: what the head states is not believed.
+/// Reads the elements of an array, which are of the type `member`. The list grows as they come,
+/// since a head may state more than the cell has.
 fn read_list<'a, T: FromSql<'a>>(
     alloc: Global,
     member: &PgType,
