@@ -8,6 +8,7 @@ mod faults;
 mod framed;
 mod hstore;
 mod json;
+mod list_writing;
 mod lsn;
 mod memory;
 mod moments;
