@@ -8,6 +8,7 @@ mod faults;
 mod framed;
 mod hstore;
 mod json;
+mod list_writing;
 mod lists;
 mod lsn;
 mod memory;

@@ -10,7 +10,7 @@ use pg_base::special::{Date, Timestamp};
 use pg_base::unix_time::UnixTime;
 use serde_json::Value;
 use std::borrow::{CowSlice, CowStr};
-use std::boxed::BoxedStr;
+use std::boxed::{BoxedSlice, BoxedStr};
 use std::collections::HashMap;
 use std::net::IpAddr;
 use uuid::Uuid;
@@ -66,4 +66,9 @@ pub fn types_that_keep_the_room_rule() {
 pub fn types_refused_without_memory() {
     refuses_without_memory::<HashMap<String, Option<String>>>();
     refuses_without_memory::<Value>();
+    refuses_without_memory::<Vec<i32>>();
+    refuses_without_memory::<&[i32]>();
+    refuses_without_memory::<[i32; 2]>();
+    refuses_without_memory::<BoxedSlice<i32>>();
+    refuses_without_memory::<Vec<Vec<Option<i16>>>>();
 }

@@ -2,11 +2,14 @@
 pub mod ReadingBack
 pub mod Rewriting
 pub use Rattle.pg_base.specs.Appending
+pub use Rattle.pg_base.specs.ArrayLaws
+pub use Rattle.pg_base.specs.Arrays
 pub use Rattle.pg_base.specs.ArrayWriting
 pub use Rattle.pg_base.specs.Bits
 pub use Rattle.pg_base.specs.BitsLaws
 pub use Rattle.pg_base.specs.BuiltInRows
 pub use Rattle.pg_base.specs.Bytes
+pub use Rattle.pg_base.specs.CellLaws
 pub use Rattle.pg_base.specs.Cells
 pub use Rattle.pg_base.specs.Civil
 pub use Rattle.pg_base.specs.CivilLaws
@@ -41,6 +44,7 @@ pub use Rattle.pg_base.specs.SpecialLaws
 pub use Rattle.pg_base.specs.Texts
 pub use Rattle.pg_read.specs.BoxReading
 pub use Rattle.pg_read.specs.Framed
+pub use Rattle.pg_read.specs.ListReading
 pub use Rattle.pg_read.specs.OptionReading
 pub use Rattle.pg_read.specs.Reading
 pub use Rattle.pg_read.specs.SpecialReading

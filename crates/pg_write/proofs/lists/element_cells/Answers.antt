@@ -1,4 +1,4 @@
-use Rattle.std.proofs.Common.{[], ◌∷◌, map, Ok, sym, ap, ◌∙◌}
+use Rattle.std.proofs.Common.{◌≡◌, ◌++◌, [], ◌∷◌, map, Ok, sym, ap, ◌∙◌}
 use Rattle.std.proofs.lemmas.List.{map-append}
 use Rattle.std.proofs.lemmas.Result.{err_from_is_err_and}
 use Rattle.pg_base.specs.ArrayWriting.{owned_cell}
@@ -18,5 +18,5 @@ loop-value-preserved g c =
     let items = c.loop-value.cells.items in
     let cell = c.in_ok-element_cell.field-0 in
     let next = next_cell (g.T.ToSql.wire (content c.args.member.now)) c.args.values.now c.loop-value.value-index _ c.loop-value-test.true c.value-item.is (map owned_cell items) (owned_cell cell) c.loop-value.invariant c.in_ok-element_cell.ensures in
-    let pushed = ap (map owned_cell) c.in_ok-push.ensures.items ∙ map-append owned_cell items (cell ∷ []) in
+    let pushed : map owned_cell c.push.new.self.items ≡ map owned_cell items ++ owned_cell cell ∷ [] = ap (map owned_cell) c.in_ok-push.ensures.items ∙ map-append owned_cell items (cell ∷ []) in
     next ∙ ap Ok (sym pushed)
