@@ -66,7 +66,9 @@ fn a_null_element_is_flagged(rt: HostRuntime) -> Result<(), Fail> {
 fn an_empty_list_has_one_dimension(rt: HostRuntime) -> Result<(), Fail> {
     let alloc = rt.alloc();
     let values: Vec<i32> = Vec::new(alloc);
-    let cell = [0, 0, 0, 1, 0, 0, 0, 0, 0, 0, 0, 0x17, 0, 0, 0, 0, 0, 0, 0, 1];
+    let cell = [
+        0, 0, 0, 1, 0, 0, 0, 0, 0, 0, 0, 0x17, 0, 0, 0, 0, 0, 0, 0, 1,
+    ];
     writes(&rt, alloc, &values, &Type::INT4_ARRAY, &cell)
 }
 
@@ -104,14 +106,20 @@ fn lists_of_dates_have_infinities(rt: HostRuntime) -> Result<(), Fail> {
 #[test]
 fn lists_nest(rt: HostRuntime) -> Result<(), Fail> {
     let alloc = rt.alloc();
-    let ty = made_of(alloc, "int2vectors", 100_010, Kind::Array(Type::INT2_VECTOR), "public")?;
+    let ty = made_of(
+        alloc,
+        "int2vectors",
+        100_010,
+        Kind::Array(Type::INT2_VECTOR),
+        "public",
+    )?;
     let mut values: Vec<Vec<i16>> = Vec::new(alloc);
     values.push(Vec::from_slice(alloc, &[5])?)?;
     values.push(Vec::new(alloc))?;
     let cell = [
         0, 0, 0, 1, 0, 0, 0, 0, 0, 0, 0, 0x16, 0, 0, 0, 2, 0, 0, 0, 1, //
-        0, 0, 0, 0x1a, 0, 0, 0, 1, 0, 0, 0, 0, 0, 0, 0, 0x15, 0, 0, 0, 1, 0, 0, 0, 0, 0, 0, 0, 2, 0,
-        5, //
+        0, 0, 0, 0x1a, 0, 0, 0, 1, 0, 0, 0, 0, 0, 0, 0, 0x15, 0, 0, 0, 1, 0, 0, 0, 0, 0, 0, 0, 2,
+        0, 5, //
         0, 0, 0, 0x14, 0, 0, 0, 1, 0, 0, 0, 0, 0, 0, 0, 0x15, 0, 0, 0, 0, 0, 0, 0, 0,
     ];
     writes(&rt, alloc, &values, &ty, &cell)
