@@ -51,7 +51,8 @@ fn datetime_of(micros: i64) -> Result<DateTime, Fault>
     ensures never_memory { NeverMemory result }
 {
     let base = DateTime::ZERO;
-    let distance = POSTGRES_EPOCH_NANOS + i128::from(micros) * 1_000 - base.to_plain().to_nanosecond();
+    let distance = POSTGRES_EPOCH_NANOS + i128::from(micros) * 1_000
+        - base.to_plain().to_nanosecond();
     match base.checked_add(SignedDuration::from_nanos_i128(distance)) {
         Ok(datetime) => Ok(datetime),
         Err(_) => Err(Fault::Decode),
