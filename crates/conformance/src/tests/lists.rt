@@ -70,7 +70,7 @@ fn elements_are_read_in_their_order(rt: HostRuntime) -> Result<(), Fail> {
         0, 0, 0, 1, 0, 0, 0, 0, 0, 0, 0, 0x19, 0, 0, 0, 2, 0, 0, 0, 1, 0, 0, 0, 2, b'a', b'b', 0,
         0, 0, 0,
     ];
-    let texts: [&str; 2] = read(alloc, &Type::TEXT_ARRAY, Some(&texts))?;
+    let texts: Vec<&str> = read(alloc, &Type::TEXT_ARRAY, Some(&texts))?;
     assert_eq!(rt; texts[0], "ab");
     assert_eq!(rt; texts[1], "");
     Ok(())
