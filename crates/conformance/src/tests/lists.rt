@@ -1,4 +1,4 @@
-use super::{made_of, read, reads, refusal, refuses};
+use super::{made_of, read, reads, refusal, refuses, rewrites};
 use jiff::civil;
 use pg_base::special::laws::same_date;
 use postgres_types::protocol::{ArrayCells, array_from_sql};
@@ -74,6 +74,24 @@ fn elements_are_read_in_their_order(rt: HostRuntime) -> Result<(), Fail> {
     assert_eq!(rt; texts[0], "ab");
     assert_eq!(rt; texts[1], "");
     Ok(())
+}
+
+#[test]
+fn lists_are_written_with_the_type_of_their_elements(rt: HostRuntime) -> Result<(), Fail> {
+    let alloc = rt.alloc();
+    let ints = &Type::INT4_ARRAY;
+    let text = [
+        0, 0, 0, 1, 0, 0, 0, 0, 0, 0, 0, 0x19, 0, 0, 0, 1, 0, 0, 0, 1, 0, 0, 0, 4, 0, 0, 0, 7,
+    ];
+    let int = [
+        0, 0, 0, 1, 0, 0, 0, 0, 0, 0, 0, 0x17, 0, 0, 0, 1, 0, 0, 0, 1, 0, 0, 0, 4, 0, 0, 0, 7,
+    ];
+    reads(&rt, alloc, ints, &text, vec![in alloc; 7i32]?)?;
+    rewrites::<Vec<i32>>(&rt, alloc, ints, &text, &int)?;
+    rewrites::<BoxedSlice<i32>>(&rt, alloc, ints, &text, &int)?;
+    rewrites::<[i32; 1]>(&rt, alloc, ints, &text, &int)?;
+    rewrites::<Vec<Option<i32>>>(&rt, alloc, ints, &NULL, &NULL)?;
+    rewrites::<Vec<i32>>(&rt, alloc, ints, &NONE, &EMPTY)
 }
 
 #[test]
