@@ -49,6 +49,14 @@ fn writes<T: ToSql>(
     Ok(())
 }
 
+/// The value is written as NULL, which appends nothing.
+fn writes_null<T: ToSql>(rt: &impl Abort, alloc: Global, value: &T, ty: &Type) -> Result<(), Fail> {
+    let mut out = BytesMut::copy_from_slice(alloc, b"before")?;
+    assert_eq!(rt; value.to_sql_checked(alloc, ty, &mut out)?, IsNull::Yes);
+    assert_eq!(rt; out.as_slice(), b"before".as_slice());
+    Ok(())
+}
+
 /// What reading the cell answers; a type that is not accepted is not read.
 fn read<'a, T: FromSql<'a>>(alloc: Global, ty: &Type, cell: Option<&'a [u8]>) -> Result<T, Fault> {
     if !T::accepts(ty) {

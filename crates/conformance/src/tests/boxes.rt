@@ -1,21 +1,7 @@
-use super::{refusal, spells};
+use super::{refusal, spells, writes_null};
 use postgres_types::private::BytesMut;
-use postgres_types::{Format, FromSql, IsNull, ToSql, Type, from_sql_nullable};
-use std::alloc::Global;
-use std::process::Abort;
+use postgres_types::{Format, FromSql, ToSql, Type, from_sql_nullable};
 use std::test::Fail;
-
-/// The value is written as NULL, which appends nothing.
-fn writes_null<T: ToSql>(rt: &impl Abort, alloc: Global, value: &T) -> Result<(), Fail> {
-    let mut out = BytesMut::copy_from_slice(alloc, b"before")?;
-    assert_eq!(rt; value.to_sql(alloc, &Type::INT4, &mut out)?, IsNull::Yes);
-    assert_eq!(rt;
-        value.to_sql_checked(alloc, &Type::INT4, &mut out)?,
-        IsNull::Yes
-    );
-    assert_eq!(rt; out.as_slice(), b"before".as_slice());
-    Ok(())
-}
 
 #[test]
 fn boxes_hold_what_is_read(rt: HostRuntime) -> Result<(), Fail> {
@@ -39,14 +25,14 @@ fn boxes_keep_null_from_the_value(rt: HostRuntime) -> Result<(), Fail> {
     assert_eq!(rt; refusal::<Box<i32>>(alloc, &Type::INT4, None), 2);
     assert_eq!(rt; refusal::<Box<Option<i32>>>(alloc, &Type::INT4, None), 2);
     assert_eq!(rt; refusal::<Option<Box<i32>>>(alloc, &Type::INT4, None), 0);
-    writes_null(&rt, alloc, &Box::new(alloc, None::<i32>)?)
+    writes_null(&rt, alloc, &Box::new(alloc, None::<i32>)?, &Type::INT4)
 }
 
 #[test]
 fn some_of_none_is_read_as_none(rt: HostRuntime) -> Result<(), Fail> {
     let alloc = rt.alloc();
     let inner: Option<Option<i32>> = Some(None);
-    writes_null(&rt, alloc, &inner)?;
+    writes_null(&rt, alloc, &inner, &Type::INT4)?;
     let found: Option<Option<i32>> = from_sql_nullable(alloc, &Type::INT4, None)?;
     assert!(rt; found.is_none());
     Ok(())

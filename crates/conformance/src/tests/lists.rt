@@ -71,8 +71,7 @@ fn elements_are_read_in_their_order(rt: HostRuntime) -> Result<(), Fail> {
         0, 0, 0,
     ];
     let texts: Vec<&str> = read(alloc, &Type::TEXT_ARRAY, Some(&texts))?;
-    assert_eq!(rt; texts[0], "ab");
-    assert_eq!(rt; texts[1], "");
+    assert!(rt; texts.as_slice() == ["ab", ""].as_slice());
     Ok(())
 }
 

@@ -1,11 +1,11 @@
 //! Dates and moments with infinities.
 
 use super::days::{Days, NoDay};
-use super::{reads, refusal, rewrites, spells, writes};
+use super::{reads, refusal, rewrites, spells, writes, writes_null};
 use jiff::civil;
 use pg_base::special::laws::{same_date, same_timestamp};
 use postgres_types::private::BytesMut;
-use postgres_types::{Date, Format, FromSql, IsNull, Timestamp, ToSql, Type, UnixTime};
+use postgres_types::{Date, Format, FromSql, Timestamp, ToSql, Type, UnixTime};
 use std::alloc::Global;
 use std::process::Abort;
 use std::test::Fail;
@@ -23,14 +23,6 @@ fn unix(secs: i64, nanos: u32) -> Result<UnixTime, Fail> {
         Some(moment) => Ok(moment),
         None => Err(Fail::from("no moment")),
     }
-}
-
-/// The value is written as NULL, which appends nothing.
-fn writes_null<T: ToSql>(rt: &impl Abort, alloc: Global, value: &T, ty: &Type) -> Result<(), Fail> {
-    let mut out = BytesMut::copy_from_slice(alloc, b"before")?;
-    assert_eq!(rt; value.to_sql_checked(alloc, ty, &mut out)?, IsNull::Yes);
-    assert_eq!(rt; out.as_slice(), b"before".as_slice());
-    Ok(())
 }
 
 /// The type is refused, under that name.
