@@ -3,11 +3,11 @@ use Rattle.std.proofs.Common.{◌≡◌, ◌<◌, ◌+◌, ◌++◌, ℕ, List, 
 use Rattle.std.proofs.lemmas.List.{take_more, map-append, take-append-drop}
 use Rattle.bytes.specs.Filled.{Filled}
 use Rattle.pg_base.specs.Appending.{Extends, HasRoomFor}
-use Rattle.pg_base.specs.ArrayWriting.{has_null, owned_cell}
+use Rattle.pg_base.specs.Arrays.{has_null, owned_cell}
 use Rattle.pg_base.specs.Cells.{Cell, frame, frames, joined}
 use Rattle.pg_base.proofs.Joined.{extends_both, joined-assoc, joined-nil, nil-joined, room_for_first, room_for_second}
 
-frames-append : (cs ds : List Cell) → frames (cs ++ ds) ≡ joined (frames cs) (frames ds)
+pub frames-append : (cs ds : List Cell) → frames (cs ++ ds) ≡ joined (frames cs) (frames ds)
 frames-append [] ds = sym (nil-joined (frames ds))
 frames-append (c ∷ cs) ds = ap (joined (frame c)) (frames-append cs ds) ∙ sym (joined-assoc (frame c) (frames cs) (frames ds))
 

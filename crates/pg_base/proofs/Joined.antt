@@ -27,12 +27,6 @@ pub nil-joined : (a : Bytes) → joined (Some []) a ≡ a
 nil-joined None = refl
 nil-joined (Some a) = refl
 
--- both parts of joined bytes are there
-pub parts_of : (a b : Bytes) (t : List ℕ) → joined a b ≡ Some t → (x y : List ℕ) × (a ≡ Some x) × (b ≡ Some y) × (t ≡ x ++ y)
-parts_of None b t e = let no : ⊥ = cc in absurd no
-parts_of (Some x) None t e = let no : ⊥ = cc in absurd no
-parts_of (Some x) (Some y) t e = (x, y, refl, refl, cc)
-
 pub sum_len : (t x y : List ℕ) → t ≡ x ++ y → length t ≡ length x + length y
 sum_len t x y e = subst (λ (s : List ℕ). length s ≡ length x + length y) (sym e) (length-append x y)
 

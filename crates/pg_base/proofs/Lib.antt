@@ -1,6 +1,6 @@
 pub mod ArrayHeads
+pub mod BitCells
 pub mod BitLemmas
-pub mod CellLemmas
 pub mod CellRows
 pub mod Contents
 pub mod DerivedTypes

@@ -1,12 +1,14 @@
 -- Arrays (array_send, array_recv): a head, and then the framed elements. The head is a count of dimensions, flags and the
 -- elements' OID in four bytes each, and for each dimension its length and its lower bound.
-use Rattle.std.specs.Prelude.{◌≡◌, ℕ, ◌+◌, ◌==◌, zero, suc, List, [], ◌∷◌, ◌++◌, length, drop, Option, Some, None, false, nat_le, Result, Ok, Err, IfSome, IsSome}
+use Rattle.std.specs.Prelude.{◌≡◌, ℕ, zero, suc, List, [], ◌∷◌, ◌++◌, length, drop, Option, false, nat_le, Result, ℤ, pos, option_map, Bool, ◌||◌, is_none, if◌then◌else◌, Vec}
 use Rattle.std.specs.Borrow.{Bor}
 use Rattle.pg_base.specs.declared.fault.Fault.{Fault}
-use Rattle.pg_base.specs.Cells.{Cell, cell_of, Spells, CellsInRow}
-use Rattle.pg_base.specs.Counts.{IsCount, ToRead, cell_checks, count_checks, not_negative, nothing, number_in, stated}
-use Rattle.pg_base.specs.Faults.{refusal_of, size, count, dimensions}
-use Rattle.pg_base.specs.Formats.{Checks, first_fault_of}
+use Rattle.pg_base.specs.Cells.{Cell, cell_of, Spells, CellsInRow, be, frames, joined}
+use Rattle.pg_base.specs.Counts.{IsCount, TakesNext, ToRead, cell_checks, count_checks, not_negative, number_in, stated, count_bytes}
+use Rattle.pg_base.specs.Faults.{size, count, dimensions}
+use Rattle.pg_base.specs.Formats.{Checks}
+use Rattle.std.specs.Global.{Global}
+use Rattle.std.specs.Int.{w32, to_be_bytes}
 
 -- s is so many dimensions, and then what is to be read: without a dimension there are no elements, and one states how
 -- many there are, with any lower bound
@@ -35,19 +37,29 @@ head_checks b =
 abbrev pub ArrayBody : List ℕ → ℕ → List Cell → List ℕ → Type 0
 ArrayBody b n cs rest = (s : List ℕ) × SpellsHead b (record { left = n; bytes = s }) × CellsInRow s n cs rest
 
--- the checks of what comes next: a cell, or after the last that no bytes are left
-abbrev pub checks_of_next : ℕ → List ℕ → Checks
-checks_of_next zero s = (length s == 0, size) ∷ []
-checks_of_next (suc n) s = cell_checks s
-
-abbrev pub next_checks : ToRead → Checks
-next_checks r = checks_of_next r.left r.bytes
-
--- a step of reading: the next cell was taken from the front; or its first check that fails was answered, or that of
--- the end, and then nothing is to be read; or nothing was to be read
+-- a step of reading: the next cell was taken
 abbrev pub TakesElement : ToRead → Option (Result (Option (Bor (List ℕ))) Fault) → ToRead → Type 0
-TakesElement old (Some (Ok raw)) new =
-    (new.left + 1 ≡ old.left) × (t : List ℕ) × (old.bytes ≡ t ++ new.bytes) × Spells t (cell_of raw)
-TakesElement old (Some (Err f)) new =
-    IfSome (refusal_of f) (λ r. first_fault_of (next_checks old) ≡ Some r) × IsSome (refusal_of f) × (new ≡ nothing)
-TakesElement old None new = (old ≡ nothing) × (new ≡ nothing)
+TakesElement = TakesNext (λ s raw. Spells s (cell_of raw)) cell_checks
+
+-- the cell that owned bytes are
+abbrev pub owned_cell : Option (Vec ℕ Global) → Cell
+owned_cell = option_map (λ bytes. bytes.items)
+
+-- whether a cell is NULL
+abbrev pub has_null : List Cell → Bool
+has_null [] = false
+has_null (c ∷ cs) = is_none c || has_null cs
+
+-- the flags: 1 where a cell is NULL, and else 0
+abbrev pub flags_of : List Cell → ℤ
+flags_of cs = if has_null cs then pos 1 else pos 0
+
+-- the head that is written, of one dimension whatever the number of cells: the flags, the members' OID, the number of
+-- cells, and the number of the first of them
+abbrev pub array_head : ℤ → ℕ → List Cell → Option (List ℕ)
+array_head lower_bound oid cs =
+    option_map (λ n. be w32 (pos 1) ++ be w32 (flags_of cs) ++ to_be_bytes w32 oid ++ n ++ be w32 lower_bound) (count_bytes (length cs))
+
+-- the cell of an array: the head, and the frames of its members' cells
+abbrev pub array_bytes : ℤ → ℕ → List Cell → Option (List ℕ)
+array_bytes lower_bound oid cs = joined (array_head lower_bound oid cs) (frames cs)

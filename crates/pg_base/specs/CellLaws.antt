@@ -1,16 +1,16 @@
 -- Laws of cells in a row.
-use Rattle.std.specs.Prelude.{◌≡◌, ℕ, zero, suc, ℤ, pos, negsuc, List, [], ◌∷◌, ◌++◌, length, drop, Some, None, true, nat_le, refl}
-use Rattle.std.proofs.Common.{sym, ◌∙◌, ap, ap₂, subst, arith, append_assoc, inl, inr}
+use Rattle.std.specs.Prelude.{◌≡◌, ℕ, zero, suc, ◌+◌, ℤ, pos, negsuc, List, [], ◌∷◌, ◌++◌, length, drop, Some, None, true, nat_le, refl}
+use Rattle.std.proofs.Common.{sym, ◌∙◌, ap, ap₂, subst, arith, append_assoc, append-nil, inl, inr}
 use Rattle.std.proofs.Math.Dec.{leb-zero}
 use Rattle.std.proofs.Math.Seq.{take-append_seam, drop-append_seam}
 use Rattle.std.proofs.lemmas.Bool.Decides.{nat_tests}
 use Rattle.std.proofs.lemmas.List.{length-append}
-use Rattle.pg_base.specs.Cells.{Cell, Spells, SpellsNone, CellsInRow}
+use Rattle.pg_base.specs.Cells.{Cell, Spells, SpellsNone, SpellsAll, CellsInRow, frame, frames}
 use Rattle.pg_base.specs.CountLaws.{IsNumberThen, number_then}
 use Rattle.pg_base.specs.Counts.{has_number, number_in, has_cell, bytes_in, behind_cell, cell_checks}
-use Rattle.pg_base.specs.Faults.{Refusal}
+use Rattle.pg_base.specs.Faults.{Refusal, size}
 use Rattle.pg_base.specs.Formats.{first_fault_of}
-use Rattle.pg_base.specs.FrameLaws.{bytes-frame}
+use Rattle.pg_base.specs.FrameLaws.{bytes-frame, frame_spells, parts_of}
 
 -- the bytes of a cell; NULL has none
 abbrev pub bytes_or_none : Cell → List ℕ
@@ -94,3 +94,37 @@ cells_single s (suc n) (c ∷ cs) (d ∷ ds) u w p q =
     let k : CellsInRow q.0.1 n ds w = (q.0.4, omega (arith, q.1), elim q.2 [ inl z ↦ inl (omega (arith, z)) | inr z ↦ inr z ]) in
     let later = cells_single p.0.1 n cs ds u w h (subst (λ x. CellsInRow x n ds w) (sym first.1) k) in
     (ap₂ (λ (x : Cell) (xs : List Cell). x ∷ xs) first.0 later.0, later.1)
+
+-- frames spell their cells, whatever comes behind
+pub frames_spell : (cs : List Cell) (b s : List ℕ) → frames cs ≡ Some b → SpellsAll (b ++ s) cs s
+frames_spell [] b s e = let none : b ≡ [] = cc in ap (λ x. x ++ s) none
+frames_spell (c ∷ cs) b s e =
+    let parts = parts_of (frame c) (frames cs) b e in
+    (parts.0, parts.1 ++ s, ap (λ x. x ++ s) parts.4 ∙ append_assoc parts.0 parts.1 s, frame_spells c parts.0 parts.2, frames_spell cs parts.1 s parts.3)
+
+-- and alone where nothing does
+pub frames_alone : (cs : List Cell) (b : List ℕ) → frames cs ≡ Some b → SpellsAll b cs []
+frames_alone cs b e = subst (λ x. SpellsAll x cs []) (append-nil b) (frames_spell cs b [] e)
+
+-- so bytes that begin with frames are a row of their cells
+pub frames_in_row : (cs : List Cell) (b s : List ℕ) → frames cs ≡ Some b → CellsInRow (b ++ s) (length cs) cs s
+frames_in_row cs b s e = (frames_spell cs b s e, omega arith, inl refl)
+
+-- the frames of cells are those of no others
+abbrev pub FramesSingle : Type 0
+FramesSingle = (cs ds : List Cell) (b : List ℕ) → frames cs ≡ Some b → frames ds ≡ Some b → cs ≡ ds
+
+pub frames_single : FramesSingle
+frames_single cs ds b e f =
+    let none : SpellsNone [] = no_cell [] size refl in
+    (cells_single b (length cs + length ds) cs ds [] [] (frames_alone cs b e, omega arith, inr none) (frames_alone ds b f, omega arith, inr none)).0
+
+-- nor, whatever comes behind them, of other cells that are as many
+abbrev pub FramesInFrontSingle : Type 0
+FramesInFrontSingle =
+    (cs ds : List Cell) (a b s t : List ℕ) → length cs ≡ length ds → frames cs ≡ Some a → frames ds ≡ Some b → a ++ s ≡ b ++ t → (cs ≡ ds) × (s ≡ t)
+
+pub frames_in_front_single : FramesInFrontSingle
+frames_in_front_single cs ds a b s t many e f is =
+    let other : CellsInRow (a ++ s) (length cs) ds t = (subst (λ x. SpellsAll x ds t) (sym is) (frames_spell ds b t f), omega (arith, many), inl (sym many)) in
+    cells_single (a ++ s) (length cs) cs ds s t (frames_in_row cs a s e) other

@@ -1,23 +1,23 @@
 -- Laws of dates and times.
-use Rattle.std.specs.Prelude.{◌≡◌, ℕ, ◌<◌, ◌+◌, ◌-◌, ◌*◌, ◌/◌, ◌^◌, ℤ, pos, negsuc, neg_ℤ, ◌+ℤ◌, ◌-ℤ◌, ◌*ℤ◌, int_div, ◌↔◌, ◌≤ℤ◌, int_le, List, Some, None, true, false, Result, Ok, Err, IsOkAnd, FitsSigned, refl}
+use Rattle.std.specs.Prelude.{◌≡◌, ℕ, ◌<◌, ◌+◌, ◌*◌, ◌/◌, ◌^◌, ℤ, pos, negsuc, neg_ℤ, ◌+ℤ◌, ◌-ℤ◌, ◌*ℤ◌, int_div, ◌↔◌, ◌≤ℤ◌, int_le, List, Some, None, true, false, Result, Ok, Err, IsOkAnd, FitsSigned, refl}
 use Rattle.std.proofs.Common.{sym, ◌∙◌, ap, arith}
-use Rattle.std.proofs.lemmas.Bool.{and_from, and_parts, false_from_ne_true, true_from_ne_false, eq-eqb, lt-ltb}
+use Rattle.std.proofs.lemmas.Bool.{and_from, and_parts, false_from_ne_true, true_from_ne_false, eq-eqb}
 use Rattle.std.proofs.lemmas.Option.{IfSome_then}
 use Rattle.std.proofs.lemmas.Nat.{from_be_bytes-to_be_bytes_4, from_be_bytes-to_be_bytes_8}
-use Rattle.std.specs.Int.{Width, w8, w16, w32, w64, w128, from_be_bytes, to_be_bytes}
+use Rattle.std.specs.Int.{Width, w32, w64, from_be_bytes, to_be_bytes}
 use Rattle.jiff.proofs.Family.{epoch_day_range, time_nanos_bound, civil_nanos_range}
 use Rattle.jiff.proofs.SpanFacts.{signed_arith}
 use borrow.Author.Differences.{le-true, le-false}
-use mir.Val.{bits, hbits}
+use mir.Val.{bits}
 use Rattle.jiff.specs.Types.{Date, Time, DateTime, Timestamp}
 use Rattle.jiff.specs.Words.{epoch_day, time_nanos, civil_nanos, IsBetween, IsTimestampNanos}
 use Rattle.pg_base.specs.Cells.{be, IsBe, signed_in}
 use Rattle.pg_base.specs.Civil.{is_between, first_fault_count, FormCount, CountGives, base_day, first_day, last_day, IsDayOf, last_micros, IsAfterMidnight, first_civil, last_civil, first_instant, last_instant, instant_nanos, wire_date, wire_time, wire_datetime, wire_instant, ReadsDate, ReadsTime, ReadsDateTime, ReadsInstant}
 use Rattle.pg_base.specs.Faults.{Outcome, Answers, refusal_of, decode}
-use Rattle.pg_base.specs.FormatLaws.{be-back, be-length, be-single}
+use Rattle.pg_base.specs.FormatLaws.{be-back, be-length, be-single, fits}
 use Rattle.pg_base.specs.Formats.{IsGrammar, Decodes}
 use Rattle.pg_base.specs.Moments.{base_nanos, cut_micros, IsAfterBase}
-use Rattle.pg_base.specs.Numbers.{FormSigned, fits_signed, wire_signed}
+use Rattle.pg_base.specs.Numbers.{FormSigned, wire_signed}
 use Rattle.pg_base.specs.Appending.{Wire}
 use Rattle.pg_base.specs.declared.fault.Fault.{Fault}
 
@@ -93,17 +93,6 @@ answered_8 low high names = count_answered w64 from_be_bytes-to_be_bytes_8 low h
 -- the written form is the bytes of a count within the bounds, and no refusal
 abbrev pub IsWrittenCount : Width → ℤ → ℤ → ℤ → Wire → Type 0
 IsWrittenCount w low high z wire = (wire ≡ Ok (Some (be w z))) × FitsSigned w z × IsBetween low high z
-
-half_width : (w : Width) → bits w - 1 ≡ hbits w
-half_width w8 = refl
-half_width w16 = refl
-half_width w32 = refl
-half_width w64 = refl
-half_width w128 = refl
-
-fits : (w : Width) (z : ℤ) → FitsSigned w z → fits_signed w z ≡ true
-fits w (pos n) h = rw (half_width w) (lt-ltb n _ h.sfits)
-fits w (negsuc n) h = rw (half_width w) (lt-ltb n _ h.sfits)
 
 written : (w : Width) (low high z : ℤ) → FitsSigned w z → IsBetween low high z → IsWrittenCount w low high z (wire_signed w z)
 written w low high z h k = (rw (fits w z h) refl, h, k)

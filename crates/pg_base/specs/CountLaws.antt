@@ -1,13 +1,14 @@
 -- Laws of a number in front.
-use Rattle.std.specs.Prelude.{◌≡◌, ℕ, ℤ, List, ◌++◌, ◌≤◌, length, drop, true, refl}
+use Rattle.std.specs.Prelude.{◌≡◌, ℕ, ℤ, pos, List, Some, ◌++◌, ◌≤◌, length, drop, nat_le, true, refl}
 use Rattle.std.proofs.Common.{sym, ◌∙◌, ap, subst, arith}
 use Rattle.std.proofs.lemmas.Bool.Decides.{nat_tests}
 use Rattle.std.proofs.lemmas.List.{length-append}
 use Rattle.std.proofs.lemmas.Nat.{from_be_bytes-to_be_bytes_4}
 use Rattle.std.specs.Int.{w32}
 use Rattle.pg_base.specs.Cells.{be, IsBe, signed_in}
-use Rattle.pg_base.specs.Counts.{has_number, number_in}
+use Rattle.pg_base.specs.Counts.{IsCount, count_bytes, has_number, number_in}
 use Rattle.pg_base.specs.FormatLaws.{be-back}
+use Rattle.pg_base.specs.FrameLaws.{fits_length, some_of}
 
 -- what is known of bytes with this number in front of u
 pub record IsNumberThen (s : List ℕ) (n : ℤ) (u : List ℕ) : Type 0 where
@@ -24,3 +25,9 @@ be_then n u back = record { has = has_four (be w32 n ++ u) (omega (arith, length
 pub number_then : (b h u : List ℕ) (n : ℤ) → b ≡ h ++ u → IsBe w32 h n → IsNumberThen b n u
 number_then b h u n e p =
     subst (λ s. IsNumberThen s n u) (sym (e ∙ ap (λ s. s ++ u) p.1)) (be_then n u (be-back w32 from_be_bytes-to_be_bytes_4 n p.0))
+
+-- the bytes of a count are a count
+pub count_is : (n : ℕ) (s : List ℕ) → count_bytes n ≡ Some s → IsCount s n
+count_is n s e =
+    let p = some_of (nat_le n 2147483647) (be w32 (pos n)) s e in
+    (fits_length n p.0, p.1)

@@ -1,10 +1,11 @@
 -- A number of four bytes in front of others: a count or a length (pq_getmsgint).
-use Rattle.std.specs.Prelude.{◌≡◌, ℕ, ℤ, pos, negsuc, List, [], ◌∷◌, ◌++◌, length, take, drop, Bool, true, false, nat_le, Option, Some, None, if◌then◌else◌}
+use Rattle.std.specs.Prelude.{◌≡◌, ◌==◌, ◌+◌, zero, suc, Result, Ok, Err, IfSome, IsSome, ℕ, ℤ, pos, negsuc, List, [], ◌∷◌, ◌++◌, length, take, drop, Bool, true, false, nat_le, Option, Some, None, if◌then◌else◌}
 use Rattle.std.specs.Borrow.{Bor}
 use Rattle.std.specs.Int.{w32}
 use Rattle.pg_base.specs.Cells.{be, IsBe, signed_in}
-use Rattle.pg_base.specs.Faults.{size, count}
-use Rattle.pg_base.specs.Formats.{Checks}
+use Rattle.pg_base.specs.declared.fault.Fault.{Fault}
+use Rattle.pg_base.specs.Faults.{refusal_of, size, count}
+use Rattle.pg_base.specs.Formats.{Checks, first_fault_of}
 
 -- the number in the first four bytes, where they are there
 abbrev pub has_number : List ℕ → Bool
@@ -34,7 +35,7 @@ count_checks s = (has_number s, size) ∷ (not_negative (number_in s), count) �
 abbrev pub InFront : {A : Type 0} → (List ℕ → A → Type 0) → List ℕ → A × Bor (List ℕ) → Type 0
 InFront spells s p = (t : List ℕ) × (s ≡ t ++ p.1.now) × spells t p.0
 
--- what is to be read: the entries that are stated still, and the bytes that are left
+-- what is to be read: the items that are stated still, and the bytes that are left
 pub record ToRead : Type 0 where
   pub left : ℕ
   pub bytes : List ℕ
@@ -42,6 +43,23 @@ pub record ToRead : Type 0 where
 -- nothing is to be read
 abbrev pub nothing : ToRead
 nothing = record { left = 0; bytes = [] }
+
+-- the checks of what comes next: those of an item, or after the last that no bytes are left
+abbrev pub checks_of_next : (List ℕ → Checks) → ℕ → List ℕ → Checks
+checks_of_next item zero s = (length s == 0, size) ∷ []
+checks_of_next item (suc n) s = item s
+
+abbrev pub next_checks : (List ℕ → Checks) → ToRead → Checks
+next_checks item r = checks_of_next item r.left r.bytes
+
+-- a step of reading: the next item was taken from the front; or its first check that fails was answered, or that of
+-- the end, and then nothing is to be read; or nothing was to be read
+abbrev pub TakesNext : {A : Type 0} → (List ℕ → A → Type 0) → (List ℕ → Checks) → ToRead → Option (Result A Fault) → ToRead → Type 0
+TakesNext spells item old (Some (Ok v)) new =
+    (new.left + 1 ≡ old.left) × (t : List ℕ) × (old.bytes ≡ t ++ new.bytes) × spells t v
+TakesNext spells item old (Some (Err f)) new =
+    IfSome (refusal_of f) (λ r. first_fault_of (next_checks item old) ≡ Some r) × IsSome (refusal_of f) × (new ≡ nothing)
+TakesNext spells item old None new = (old ≡ nothing) × (new ≡ nothing)
 
 -- the bytes whose length stands in front, where all of them are there, and what follows them
 abbrev pub has_cell : List ℕ → Bool

@@ -1,18 +1,18 @@
 -- Laws of formats: which of them are grammars.
-use Rattle.std.specs.Prelude.{◌≡◌, ◌++◌, [], ◌∷◌, Some, ℕ, suc, zero, ◌<◌, ◌^◌, ◌==◌, ℤ, List, length, None, Bool, true, false, not, FitsSigned, refl}
-use Rattle.std.proofs.Common.{sym, ◌∙◌, ap, arith, cond, drop}
+use Rattle.std.specs.Prelude.{◌≡◌, ◌++◌, [], ◌∷◌, Some, ℕ, suc, zero, ◌<◌, ◌^◌, ◌-◌, ◌==◌, ℤ, pos, negsuc, List, length, None, Bool, true, false, not, FitsSigned, refl}
+use Rattle.std.proofs.Common.{sym, ◌∙◌, ap, subst, arith, cond, drop}
 use Rattle.std.proofs.Math.Facts.{Fits-of_z}
-use Rattle.std.proofs.lemmas.Bool.{eq-eqb}
+use Rattle.std.proofs.lemmas.Bool.{eq-eqb, lt-ltb, ltb-true}
 use Rattle.std.proofs.lemmas.Int.{to_z-of_z}
 use Rattle.std.proofs.lemmas.Nat.{from_be_bytes-to_be_bytes_2, from_be_bytes-to_be_bytes_4, from_be_bytes-to_be_bytes_8}
 use Rattle.std.proofs.lemmas.Str.{is_utf8-from_IsUtf8}
-use Rattle.std.specs.Int.{Width, w8, w16, w32, w64, byte_len, bytes_high_first, cast_unsigned, cast_signed, to_be_bytes, from_be_bytes}
-use mir.Val.{bits}
+use Rattle.std.specs.Int.{Width, w8, w16, w32, w64, w128, byte_len, bytes_high_first, cast_unsigned, cast_signed, to_be_bytes, from_be_bytes}
+use mir.Val.{bits, hbits}
 use Rattle.pg_base.specs.Bytes.{FormBytes, first_fault_bytes}
 use Rattle.pg_base.specs.Cells.{be, signed_in, IsBe, IsBeUnsigned}
 use Rattle.pg_base.specs.Faults.{Refusal}
 use Rattle.pg_base.specs.Formats.{Checks, IsGrammar, first_fault_of}
-use Rattle.pg_base.specs.Numbers.{FormSigned, FormUnsigned, FormBool, first_fault_number}
+use Rattle.pg_base.specs.Numbers.{FormSigned, FormUnsigned, FormBool, first_fault_number, fits_signed}
 use Rattle.pg_base.specs.Texts.{FormText, first_fault_text}
 
 -- checks that are met are passed by
@@ -70,6 +70,22 @@ module _ (w : Width) (back : (n : ℕ) → n < 2 ^ bits w → from_be_bytes w (t
     passes = λ b n h. passes_number (byte_len w) b (ap length h.1 ∙ length-bytes_high_first (byte_len w) n);
     single = be_unsigned-single;
   }
+
+half_width : (w : Width) → bits w - 1 ≡ hbits w
+half_width w8 = refl
+half_width w16 = refl
+half_width w32 = refl
+half_width w64 = refl
+half_width w128 = refl
+
+-- a number that the width holds passes the test of it, and one that passes is held
+pub fits : (w : Width) (z : ℤ) → FitsSigned w z → fits_signed w z ≡ true
+fits w (pos n) h = rw (half_width w) (lt-ltb n _ h.sfits)
+fits w (negsuc n) h = rw (half_width w) (lt-ltb n _ h.sfits)
+
+pub has_fitted : (w : Width) (z : ℤ) → fits_signed w z ≡ true → FitsSigned w z
+has_fitted w (pos n) h = record { sfits = subst (λ k. n < 2 ^ k) (half_width w) (ltb-true n _ h) }
+has_fitted w (negsuc n) h = record { sfits = subst (λ k. n < 2 ^ k) (half_width w) (ltb-true n _ h) }
 
 one_byte-back : (n : ℕ) → n < 2 ^ bits w8 → from_be_bytes w8 (to_be_bytes w8 n) ≡ n
 one_byte-back n h = omega (arith, h)

@@ -1,18 +1,19 @@
 -- Laws of frames.
-use Rattle.std.specs.Prelude.{◌≡◌, ◌<◌, ◌^◌, ℕ, ℤ, pos, List, ◌++◌, length, Some, None, Bool, true, false, nat_le, FitsSigned, refl}
+use Rattle.std.specs.Prelude.{◌≡◌, ◌<◌, ◌^◌, ℕ, ℤ, pos, negsuc, List, ◌++◌, length, Option, Some, None, Bool, true, false, nat_le, FitsSigned, refl}
 use Rattle.std.proofs.Common.{sym, ◌∙◌, ap, subst, arith, cond, append_assoc}
 use Rattle.std.proofs.lemmas.Bool.{leb-true}
 use Rattle.std.proofs.lemmas.Bool.Decides.{nat_tests}
 use Rattle.std.proofs.lemmas.Int.{ints}
 use Rattle.std.specs.Int.{w32}
-use Rattle.pg_base.specs.Cells.{be, IsBe, Spells, frame}
+use Rattle.pg_base.specs.Cells.{Cell, be, IsBe, Spells, frame, joined}
 
 length_fits : (n : ℕ) → FitsSigned w32 (pos n) → nat_le n 2147483647 ≡ true
 length_fits n h =
     let below : n < 2 ^ 31 = omega (arith, ints) in
     grind (arith, nat_tests)
 
-fits_length : (n : ℕ) → nat_le n 2147483647 ≡ true → FitsSigned w32 (pos n)
+-- a length within the limit fits four bytes
+pub fits_length : (n : ℕ) → nat_le n 2147483647 ≡ true → FitsSigned w32 (pos n)
 fits_length n h =
     let below = leb-true n 2147483647 h in
     omega (arith, ints, below)
@@ -23,7 +24,8 @@ frame-bytes h b p =
     ap (λ t. cond t (Some (be w32 (pos (length b)) ++ b)) None) (length_fits (length b) p.0)
     ∙ ap (λ s. Some (s ++ b)) (sym p.1)
 
-some_of : (t : Bool) (v k : List ℕ) → cond t (Some v) None ≡ Some k → (t ≡ true) × (k ≡ v)
+-- what is there by a test: the test holds, and it is that
+pub some_of : (t : Bool) (v k : List ℕ) → cond t (Some v) None ≡ Some k → (t ≡ true) × (k ≡ v)
 some_of true v k e = (refl, cc)
 some_of false v k e = let no : ⊥ = cc in absurd no
 
@@ -41,3 +43,17 @@ taken old h mid cell rest n e p is m = (
   e ∙ ap (λ x. h ++ x) m ∙ sym (append_assoc h cell rest),
   frame-bytes h cell (subst (λ z. IsBe w32 h z) is p),
 )
+
+-- the frame of a cell spells it
+pub frame_spells : (c : Cell) (s : List ℕ) → frame c ≡ Some s → Spells s c
+frame_spells None s e =
+    let fits : FitsSigned w32 (negsuc 0) = omega (arith, ints) in
+    let is : s ≡ be w32 (negsuc 0) = cc in
+    (0, (fits, is))
+frame_spells (Some b) s e = e
+
+-- both parts of joined bytes are there
+pub parts_of : (a b : Option (List ℕ)) (t : List ℕ) → joined a b ≡ Some t → (x y : List ℕ) × (a ≡ Some x) × (b ≡ Some y) × (t ≡ x ++ y)
+parts_of None b t e = let no : ⊥ = cc in absurd no
+parts_of (Some x) None t e = let no : ⊥ = cc in absurd no
+parts_of (Some x) (Some y) t e = (x, y, refl, refl, cc)

@@ -1,5 +1,5 @@
 -- Hstore (hstore_send, hstore_recv): a count, and for each entry its key and its value, which may be NULL.
-use Rattle.std.specs.Prelude.{◌≡◌, ℕ, ◌+◌, ◌==◌, zero, suc, List, [], ◌∷◌, ◌++◌, length, drop, Option, Some, None, option_map, if◌then◌else◌, Result, Ok, Err, IfSome, IsSome, IsUtf8, String, string_bytes}
+use Rattle.std.specs.Prelude.{◌≡◌, ℕ, ◌==◌, zero, suc, List, [], ◌∷◌, ◌++◌, length, drop, Option, Some, None, option_map, if◌then◌else◌, Result, IsUtf8, String, string_bytes}
 use Rattle.std.specs.Borrow.{Bor}
 use Rattle.std.specs.Cmp.Lexicographic.{slice_cmp}
 use Rattle.std.specs.Global.{Global}
@@ -11,8 +11,8 @@ use Rattle.std.specs.Str.{bytes_eq, is_utf8}
 use Rattle.pg_base.specs.declared.fault.Fault.{Fault}
 use Rattle.pg_base.specs.Appending.{Wire, wire_of}
 use Rattle.pg_base.specs.Cells.{Cell, cell_of, frame, Spells, joined}
-use Rattle.pg_base.specs.Counts.{IsCount, ToRead, behind_cell, bytes_in, count_checks, has_cell, has_number, not_negative, nothing, number_in, stated, count_bytes}
-use Rattle.pg_base.specs.Faults.{Refusal, Outcome, refusal_of, size, utf8, key_length}
+use Rattle.pg_base.specs.Counts.{IsCount, TakesNext, ToRead, behind_cell, bytes_in, count_checks, has_cell, has_number, not_negative, number_in, stated, count_bytes}
+use Rattle.pg_base.specs.Faults.{Refusal, Outcome, size, utf8, key_length}
 use Rattle.pg_base.specs.Formats.{Checks, first_fault_of, ReadsPlain}
 use Rattle.pg_base.specs.Options.{NoneOr}
 
@@ -64,14 +64,6 @@ value_checks s = (has_number s, size) ∷ (has_cell s, size) ∷ (is_utf8 (bytes
 abbrev pub entry_checks : List ℕ → Checks
 entry_checks s = key_checks s ++ value_checks (behind_cell s)
 
--- the checks of what comes next: an entry, or after the last that no bytes are left
-abbrev pub checks_of_next : ℕ → List ℕ → Checks
-checks_of_next zero s = (length s == 0, size) ∷ []
-checks_of_next (suc n) s = entry_checks s
-
-abbrev pub next_checks : ToRead → Checks
-next_checks r = checks_of_next r.left r.bytes
-
 -- the checks of n entries, one after another, and of the end
 abbrev pub entries_checks : ℕ → List ℕ → Checks
 entries_checks zero s = (length s == 0, size) ∷ []
@@ -85,14 +77,9 @@ first_fault_hstore b = first_fault_of (count_checks b ++ entries_checks (stated 
 abbrev pub lent_entry : Bor (List ℕ) × Option (Bor (List ℕ)) → Entry
 lent_entry e = (e.0.now, cell_of e.1)
 
--- a step of reading: the next entry was taken from the front; or its first check that fails was answered, or that of
--- the end, and then nothing is to be read; or nothing was to be read
+-- a step of reading: the next entry was taken
 abbrev pub TakesEntry : ToRead → Option (Result (Bor (List ℕ) × Option (Bor (List ℕ))) Fault) → ToRead → Type 0
-TakesEntry old (Some (Ok e)) new =
-    (new.left + 1 ≡ old.left) × (t : List ℕ) × (old.bytes ≡ t ++ new.bytes) × SpellsEntry t (lent_entry e)
-TakesEntry old (Some (Err f)) new =
-    IfSome (refusal_of f) (λ r. first_fault_of (next_checks old) ≡ Some r) × IsSome (refusal_of f) × (new ≡ nothing)
-TakesEntry old None new = (old ≡ nothing) × (new ≡ nothing)
+TakesEntry = TakesNext (λ s e. SpellsEntry s (lent_entry e)) entry_checks
 
 -- an entry of owned texts
 abbrev pub owned_entry : String Global × Option (String Global) → Entry

@@ -10,10 +10,10 @@ use Rattle.pg_base.specs.Cells.{Cell, IsBe}
 use Rattle.pg_base.specs.Faults.{Refusal, size, utf8, key_length}
 use Rattle.pg_base.specs.CellLaws.{IsCellThen, bytes_or_none, cell_by, cell_in, cell_then}
 use Rattle.pg_base.specs.CountLaws.{number_then}
-use Rattle.pg_base.specs.Counts.{ToRead, behind_cell, bytes_in, count_checks, has_number, not_negative, nothing, number_in, stated}
+use Rattle.pg_base.specs.Counts.{checks_of_next, next_checks, ToRead, behind_cell, bytes_in, count_checks, has_number, not_negative, nothing, number_in, stated}
 use Rattle.pg_base.specs.FormatLaws.{check_failed, checks_met}
 use Rattle.pg_base.specs.Formats.{IsGrammar, first_fault_of}
-use Rattle.pg_base.specs.Hstore.{Entry, checks_of_next, next_checks, SpellsText, SpellsEntry, SpellsEntries, SpellsCount, FormHstore, key_checks, value_checks, entry_checks, entries_checks, first_fault_hstore, last_value}
+use Rattle.pg_base.specs.Hstore.{Entry, SpellsText, SpellsEntry, SpellsEntries, SpellsCount, FormHstore, key_checks, value_checks, entry_checks, entries_checks, first_fault_hstore, last_value}
 use Rattle.pg_base.specs.Options.{NoneOr}
 use Rattle.pg_base.specs.Sameness.{IsEquivalence}
 
@@ -136,7 +136,7 @@ hstore_grammar value_at = record {
 pub count_fault : (b : List ℕ) (r : Refusal) → first_fault_of (count_checks b) ≡ Some r → first_fault_hstore b ≡ Some r
 count_fault b r e = check_failed (count_checks b) (entries_checks (stated (number_in b)) (drop 4 b)) r e
 
-next_fault : (n : ℕ) (s : List ℕ) (r : Refusal) → first_fault_of (checks_of_next n s) ≡ Some r → first_fault_of (entries_checks n s) ≡ Some r
+next_fault : (n : ℕ) (s : List ℕ) (r : Refusal) → first_fault_of (checks_of_next entry_checks n s) ≡ Some r → first_fault_of (entries_checks n s) ≡ Some r
 next_fault zero s r e = e
 next_fault (suc n) s r e = check_failed (entry_checks s) (entries_checks n (behind_cell (behind_cell s))) r e
 
@@ -147,7 +147,7 @@ pub record HaveBeenRead (start : ToRead) (es : List Entry) (now : ToRead) : Type
 
 -- the next fault is then the first
 pub entry_fault : (b : List ℕ) (start now : ToRead) (es : List Entry) (r : Refusal) → SpellsCount b start → HaveBeenRead start es now
-    → first_fault_of (next_checks now) ≡ Some r → first_fault_hstore b ≡ Some r
+    → first_fault_of (next_checks entry_checks now) ≡ Some r → first_fault_hstore b ≡ Some r
 entry_fault b start now es r c h e =
     counted b start c ∙ entries_pass start.bytes now.bytes es now.left start.left h.spelled h.so_many ∙ next_fault now.left now.bytes r e
 

@@ -1,7 +1,6 @@
 -- The words of types, faults, cells and formats.
 pub mod Appending
 pub mod ArrayLaws
-pub mod ArrayWriting
 pub mod Arrays
 pub mod Bits
 pub mod BitsLaws

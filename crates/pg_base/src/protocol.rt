@@ -5,7 +5,6 @@
 //! that only where the buffer had less spare room than these bytes; where a limit is passed it
 //! answers `Transmit`.
 
-mod array_writing;
 mod arrays;
 mod bits;
 mod bytea;
@@ -20,8 +19,7 @@ mod network;
 mod numbers;
 mod texts;
 
-pub use array_writing::array_to_sql;
-pub use arrays::{ArrayCells, array_from_sql};
+pub use arrays::{ArrayCells, array_from_sql, array_to_sql};
 pub(crate) use bits::without_pad;
 pub use bits::{Varbit, varbit_from_sql, varbit_to_sql};
 pub use bytea::{bytea_from_sql, bytea_to_sql};

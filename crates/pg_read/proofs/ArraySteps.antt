@@ -5,9 +5,9 @@ use Rattle.std.proofs.Math.Seq.{take-append-add, take-append_seam}
 use Rattle.std.proofs.lemmas.Bool.Decides.{nat_tests}
 use Rattle.std.proofs.lemmas.List.{take_all}
 use Rattle.std.proofs.lemmas.Option.{IfSome_then}
-use Rattle.pg_base.specs.Arrays.{SpellsHead, next_checks}
+use Rattle.pg_base.specs.Arrays.{SpellsHead}
 use Rattle.pg_base.specs.Cells.{Cell, Spells}
-use Rattle.pg_base.specs.Counts.{ToRead, nothing}
+use Rattle.pg_base.specs.Counts.{next_checks, cell_checks, ToRead, nothing}
 use Rattle.pg_base.specs.Faults.{Refusal, Outcome, excess, too_few}
 use Rattle.pg_base.specs.FormatLaws.{check_failed, checks_met}
 use Rattle.pg_base.specs.Formats.{first_fault_of}
@@ -65,7 +65,7 @@ module _ {A : Type 0} (reads : Cell → Outcome A → Type 0) (expected : ℕ) (
       ∙ (rw (more start.left expected fewer) refl)) in
       inr (start.left, cs, [], (start.bytes, head, all.1), inr (vs, read_within, failed ∙ ap (λ n. Some (too_few expected n)) many))
 
-  cut : (r : Refusal) → first_fault_of (next_checks now) ≡ Some r → Reads (Err r)
+  cut : (r : Refusal) → first_fault_of (next_checks cell_checks now) ≡ Some r → Reads (Err r)
   cut r e =
       let all = all_there start now cs r taken e in
       let failed : first_fault_of (fixed_checks expected start.left cs now.bytes) ≡ Some r
@@ -73,7 +73,7 @@ module _ {A : Type 0} (reads : Cell → Outcome A → Type 0) (expected : ℕ) (
       inr (start.left, cs, now.bytes, (start.bytes, head, all.0), inr (vs, read_within, failed))
 
   -- the next step fails
-  pub array_cut : (fault : Option Refusal) → IfSome fault (λ r. first_fault_of (next_checks now) ≡ Some r) → IfSome fault (λ r. Reads (Err r))
+  pub array_cut : (fault : Option Refusal) → IfSome fault (λ r. first_fault_of (next_checks cell_checks now) ≡ Some r) → IfSome fault (λ r. Reads (Err r))
   array_cut fault e = IfSome_then fault e cut
 
   module _ (next : ToRead) (t : List ℕ) (c : Cell) (bytes : AreBytes b) (n : next.left + 1 ≡ now.left) (is : now.bytes ≡ t ++ next.bytes) (spells : Spells t c) where

@@ -2,3 +2,5 @@ mod ArraySteps
 mod LastEntries
 mod ListSteps
 mod Refusals
+mod RunFrames
+mod RunSteps

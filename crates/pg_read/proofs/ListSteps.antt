@@ -1,13 +1,13 @@
 -- Reading the elements of an array one after another.
-use Rattle.std.proofs.Common.{◌≡◌, ◌≢◌, ℕ, zero, suc, ◌+◌, ◌<◌, ◌==◌, Bool, true, false, List, [], ◌∷◌, ◌++◌, length, Some, None, Ok, Err, refl, sym, ◌∙◌, ap, subst, arith, inl, inr, length-append}
+use Rattle.std.proofs.Common.{◌≡◌, ◌≢◌, ℕ, zero, suc, ◌+◌, ◌-◌, ◌<◌, ◌≤◌, ◌==◌, Bool, true, false, List, [], ◌∷◌, ◌++◌, length, Some, None, Ok, Err, refl, sym, ◌∙◌, ap, subst, arith, inl, inr, length-append}
 use Rattle.std.specs.Prelude.{◌⊎◌, Option, IfSome, nat_le}
 use Rattle.std.proofs.lemmas.Bool.Decides.{nat_tests}
 use Rattle.std.proofs.lemmas.Option.{IfSome_then}
-use Rattle.pg_base.specs.Arrays.{SpellsHead, checks_of_next, next_checks}
+use Rattle.pg_base.specs.Arrays.{SpellsHead}
 use Rattle.pg_base.specs.CellLaws.{no_cell}
 use Rattle.pg_base.specs.Cells.{Cell, Spells, SpellsAll, SpellsNone, CellsInRow}
 use Rattle.pg_base.specs.Content.{Content}
-use Rattle.pg_base.specs.Counts.{ToRead, has_cell, has_number, nothing}
+use Rattle.pg_base.specs.Counts.{checks_of_next, next_checks, cell_checks, ToRead, has_cell, has_number, nothing}
 use Rattle.pg_base.specs.Faults.{Refusal, Outcome, size}
 use Rattle.pg_base.specs.Formats.{first_fault_of}
 use Rattle.pg_base.proofs.CellRows.{AreBytes, cells_exist, head_bytes, row_bytes}
@@ -22,7 +22,7 @@ pub record HaveBeenTaken (start : ToRead) (cs : List Cell) (now : ToRead) : Type
 pub none_taken : (start : ToRead) → HaveBeenTaken start [] start
 none_taken start = record { so_many = omega arith; spelled = refl }
 
-spelled_more : (s u rest : List ℕ) (cs ds : List Cell) → SpellsAll s cs u → SpellsAll u ds rest → SpellsAll s (cs ++ ds) rest
+pub spelled_more : (s u rest : List ℕ) (cs ds : List Cell) → SpellsAll s cs u → SpellsAll u ds rest → SpellsAll s (cs ++ ds) rest
 spelled_more s u rest [] ds e r = subst (λ x. SpellsAll x ds rest) (sym e) r
 spelled_more s u rest (c ∷ cs) ds p r = (p.0, p.1, p.2, p.3, spelled_more p.1 u rest cs ds p.4 r)
 
@@ -65,12 +65,12 @@ size_of_one : (t : Bool) (r : Refusal) → first_fault_of ((t, size) ∷ []) ≡
 size_of_one true r e = let no : ⊥ = cc in absurd no
 size_of_one false r e = cc
 
-no_bytes : (s : List ℕ) (r : Refusal) → first_fault_of (checks_of_next 0 s) ≡ Some r → s ≢ []
+no_bytes : (s : List ℕ) (r : Refusal) → first_fault_of (checks_of_next cell_checks 0 s) ≡ Some r → s ≢ []
 no_bytes s r e is =
-    let none : None ≡ Some r = ap (λ x. first_fault_of (checks_of_next 0 x)) (sym is) ∙ e in
+    let none : None ≡ Some r = ap (λ x. first_fault_of (checks_of_next cell_checks 0 x)) (sym is) ∙ e in
     let no : ⊥ = cc in no
 
-stops : (n : ℕ) (s : List ℕ) (r : Refusal) → first_fault_of (checks_of_next n s) ≡ Some r → (r ≡ size) × (((n ≡ 0) × (s ≢ [])) ⊎ ((0 < n) × SpellsNone s))
+stops : (n : ℕ) (s : List ℕ) (r : Refusal) → first_fault_of (checks_of_next cell_checks n s) ≡ Some r → (r ≡ size) × (((n ≡ 0) × (s ≢ [])) ⊎ ((0 < n) × SpellsNone s))
 stops zero s r e = (size_of_one (length s == 0) r e, inl (refl, no_bytes s r e))
 stops (suc n) s r e = (size_of_two (has_number s) (has_cell s) r e, inr (omega arith, no_cell s r e))
 
@@ -98,7 +98,7 @@ none_left n cs h =
     let all : nat_le n (length cs) ≡ true = grind (arith, nat_tests) in
     rw all refl
 
-pub all_there : (start now : ToRead) (cs : List Cell) (r : Refusal) → HaveBeenTaken start cs now → first_fault_of (next_checks now) ≡ Some r
+pub all_there : (start now : ToRead) (cs : List Cell) (r : Refusal) → HaveBeenTaken start cs now → first_fault_of (next_checks cell_checks now) ≡ Some r
     → CellsInRow start.bytes start.left cs now.bytes × (first_fault_of (end_checks start.left cs now.bytes) ≡ Some r)
 all_there start now cs r h e =
     let p = stops now.left now.bytes r e in (
@@ -114,18 +114,24 @@ all_there start now cs r h e =
     )
 
 -- there are more cells behind those that were taken, or none
-pub all_behind : (b : List ℕ) (start now : ToRead) (cs : List Cell) → SpellsHead b start → AreBytes b → HaveBeenTaken start cs now
-    → (ds : List Cell) × (rest : List ℕ) × CellsInRow start.bytes start.left (cs ++ ds) rest
-all_behind b start now cs p bytes h =
-    let more = cells_exist now.bytes now.left (row_bytes start.bytes now.bytes cs h.spelled (head_bytes b start p bytes)) in (
+pub cells_behind : (s u : List ℕ) (cs : List Cell) (n : ℕ) → SpellsAll s cs u → length cs ≤ n → AreBytes u
+    → (ds : List Cell) × (rest : List ℕ) × CellsInRow s n (cs ++ ds) rest
+cells_behind s u cs n spelled few bytes =
+    let more = cells_exist u (n - length cs) bytes in (
       more.0,
       more.1,
       (
-        spelled_more start.bytes now.bytes more.1 cs more.0 h.spelled more.2.0,
-        omega (arith, h.so_many, length-append cs more.0, more.2.1),
-        elim more.2.2 [ inl e ↦ inl (omega (arith, h.so_many, length-append cs more.0, e)) | inr z ↦ inr z ],
+        spelled_more s u more.1 cs more.0 spelled more.2.0,
+        omega (arith, few, length-append cs more.0, more.2.1),
+        elim more.2.2 [ inl e ↦ inl (omega (arith, few, length-append cs more.0, e)) | inr z ↦ inr z ],
       ),
     )
+
+-- and so there are behind those of an array
+pub all_behind : (b : List ℕ) (start now : ToRead) (cs : List Cell) → SpellsHead b start → AreBytes b → HaveBeenTaken start cs now
+    → (ds : List Cell) × (rest : List ℕ) × CellsInRow start.bytes start.left (cs ++ ds) rest
+all_behind b start now cs p bytes h =
+    cells_behind start.bytes now.bytes cs start.left h.spelled (omega (arith, h.so_many)) (row_bytes start.bytes now.bytes cs h.spelled (head_bytes b start p bytes))
 
 module _ {A X : Type 0} (items : X → List A) (reads : Cell → Outcome A → Type 0) (b : List ℕ) (start now : ToRead) (cs : List Cell) (vs : List A)
     (head : SpellsHead b start) (taken : HaveBeenTaken start cs now) (values : ReadsAll reads cs (Ok vs)) where
@@ -135,13 +141,13 @@ module _ {A X : Type 0} (items : X → List A) (reads : Cell → Outcome A → T
       let all = all_taken start now cs taken end in
       (start.left, cs, [], (start.bytes, head, all.1), (subst (λ xs. ReadsAll reads cs (Ok xs)) (sym is) values, none_left start.left cs all.0))
 
-  cut : (r : Refusal) → first_fault_of (next_checks now) ≡ Some r → ReadsList items reads (Some b) (Err r)
+  cut : (r : Refusal) → first_fault_of (next_checks cell_checks now) ≡ Some r → ReadsList items reads (Some b) (Err r)
   cut r e =
       let all = all_there start now cs r taken e in
       inr (start.left, cs, now.bytes, (start.bytes, head, all.0), inr (vs, values, all.1))
 
   -- it is Size where the next step fails
-  pub list_cut : (fault : Option Refusal) → IfSome fault (λ r. first_fault_of (next_checks now) ≡ Some r) → IfSome fault (λ r. ReadsList items reads (Some b) (Err r))
+  pub list_cut : (fault : Option Refusal) → IfSome fault (λ r. first_fault_of (next_checks cell_checks now) ≡ Some r) → IfSome fault (λ r. ReadsList items reads (Some b) (Err r))
   list_cut fault e = IfSome_then fault e cut
 
   -- and the fault of the next cell where that is refused

@@ -4,4 +4,5 @@ pub mod Framed
 pub mod ListReading
 pub mod OptionReading
 pub mod Reading
+pub mod RunReading
 pub mod SpecialReading

@@ -11,8 +11,8 @@ use Rattle.pg_base.specs.Formats.{Checks, first_fault_of}
 use Rattle.pg_base.specs.Sameness.{SameList}
 use Rattle.pg_read.specs.Reading.{SameOutcome, ReadsSingle, no_fault}
 
--- what cells give, in their order: the values, or the first fault
-abbrev pub ReadsAll : {A : Type 0} → (Cell → Outcome A → Type 0) → List Cell → Outcome (List A) → Type 0
+-- what cells, or other things that give values, give in their order: the values, or the first fault
+abbrev pub ReadsAll : {A C : Type 0} → (C → Outcome A → Type 0) → List C → Outcome (List A) → Type 0
 ReadsAll reads [] (Ok []) = Unit {0}
 ReadsAll reads [] (Ok (v ∷ vs)) = ⊥
 ReadsAll reads [] (Err r) = ⊥

@@ -1,8 +1,10 @@
 //! What conversions of rows and records are built from: framed cells, read from the front of a
 //! slice.
-ghost use Rattle.std.specs.Prelude.{IsTrue};
+ghost use Rattle.std.specs.Prelude.{◌<◌, ℕ, IsTrue, slice_index};
+ghost use Rattle.pg_base.specs.CellLaws.{FramesSingle, FramesInFrontSingle};
 ghost use Rattle.pg_base.specs.Content.{content};
 ghost use Rattle.pg_read.specs.Framed.{TakesNumber, TakesCell, ReadsFramed};
+ghost use Rattle.pg_read.specs.RunReading.{ReadsRun, ReadsFrames};
 
 use crate::from_sql::{FromSql, from_sql_nullable};
 pub use bytes::BytesMut;
@@ -60,4 +62,42 @@ pub fn read_value<'a, T: FromSql<'a>>(
 {
     let raw = read_cell(buf)?;
     from_sql_nullable(alloc, type_, raw)
+}
+
+/// Each item of a slice of bytes is below 256, which proofs know of arguments alone.
+fn holds_bytes(bytes: &[u8])
+    ensures { (i : ℕ) → slice_index bytes.now i < 256 }
+{}
+
+/// Reads `n` framed cells in a row from the front of the slice, as `n` calls of [`read_value`] do.
+/// The type must be accepted. The list grows as values come, whatever `n` states.
+///
+/// The first cell that is refused gives its fault, and the slice stands after that cell. Where no
+/// cell is refused, but the one behind them is cut before there are `n`, it answers `Size`, and the
+/// slice stands where [`read_value`] leaves it at a cut cell. Where memory runs out it stands after
+/// the values that were read so far, or after one more that was not kept. Otherwise it stands after
+/// the last cell.
+///
+/// Frames determine their cells, and in front of other bytes they do where the number of cells is
+/// known; from the frames of `n` cells that each give a value these values are read.
+#[tactic(auto, using(pg_base::specs::CellLaws::frames_single, pg_base::specs::CellLaws::frames_in_front_single))]
+pub fn read_values<'a, T: FromSql<'a>>(
+    alloc: Global,
+    type_: &PgType,
+    n: usize,
+    buf: &mut &'a [u8],
+) -> Result<Vec<T>, Fault>
+    requires { IsTrue (T.accepted (content type_.now)) }
+    ensures run { ReadsRun (λ v. v.items) (T.reads (content type_.now)) buf.old.now n result buf.new.now }
+    ensures frames { ReadsFrames (λ v. v.items) T.same (T.reads (content type_.now)) buf.old.now n result buf.new.now }
+    ensures frames_single { FramesSingle }
+    ensures frames_in_front_single { FramesInFrontSingle }
+{
+    holds_bytes(*buf);
+    let mut values = Vec::new(alloc);
+    for _ in 0..n {
+        let value: T = read_value(alloc, type_, buf)?;
+        values.push(value)?;
+    }
+    Ok(values)
 }

@@ -5,7 +5,7 @@ use Rattle.std.proofs.lemmas.Bool.Decides.{nat_tests}
 use Rattle.std.proofs.lemmas.List.{take_more, take-append-drop}
 use Rattle.bytes.specs.Filled.{Filled}
 use Rattle.pg_base.specs.Appending.{Appends, Wire, wire_of}
-use Rattle.pg_base.specs.ArrayWriting.{array_bytes, owned_cell}
+use Rattle.pg_base.specs.Arrays.{array_bytes, owned_cell}
 use Rattle.pg_base.specs.Cells.{Cell}
 use Rattle.pg_base.specs.Content.{Content, oid_of}
 use Rattle.pg_base.specs.Faults.{Outcome, Refusal, transmit}

@@ -1,4 +1,6 @@
 mod ElementCells
 mod KeyOrder
-mod Placing
-mod SameEntries
+mod ParamFrames
+mod ParamLists
+pub mod Placing
+pub mod SameEntries

@@ -18,7 +18,8 @@ use Rattle.pg_write.proofs.SameEntries.{sorted_same, below_all}
 abbrev Above : List ℕ → List Entry → Type 0
 Above k es = AllByRecursion (λ y. slice_cmp nat_cmp k y ≡ Less) (keys_of es)
 
-abbrev InOrder : List Entry → Type 0
+-- the keys are in order, and each stands once
+abbrev pub InOrder : List Entry → Type 0
 InOrder es = IsStrictlySortedBy (slice_cmp nat_cmp) (keys_of es)
 
 placed_above_by : (o : Ordering) (k : List ℕ) (e f : Entry) (fs rest : List Entry) → slice_cmp nat_cmp k e.0 ≡ Less → Above k (f ∷ fs) → Above k rest → Above k (placed_by o e f fs rest)
@@ -47,7 +48,8 @@ placed_order e [] h = (tt, tt)
 placed_order e (f ∷ fs) h =
     placed_order_by (slice_cmp nat_cmp e.0 f.0) e f fs (placed e fs) refl h.0 h.1 (placed_order e fs h.1) (λ below. placed_above f.0 e fs below h.0)
 
-in_order : (es : List Entry) → InOrder (in_key_order es)
+-- entries in key order are so
+pub in_order : (es : List Entry) → InOrder (in_key_order es)
 unfolding IsStrictlySortedBy
 in_order [] = tt
 in_order (e ∷ es) = placed_order e (in_key_order es) (in_order es)
@@ -83,7 +85,8 @@ placed_lookup : (q : List ℕ) (e : Entry) (fs : List Entry) → lookup (bytes_e
 placed_lookup q e [] = refl
 placed_lookup q e (f ∷ fs) = placed_lookup_by (slice_cmp nat_cmp e.0 f.0) q e f fs (placed e fs) refl (placed_lookup q e fs)
 
-in_order_lookup : (q : List ℕ) (es : List Entry) → lookup (bytes_eq q) (in_key_order es) ≡ lookup (bytes_eq q) es
+-- and have what the entries have at each key
+pub in_order_lookup : (q : List ℕ) (es : List Entry) → lookup (bytes_eq q) (in_key_order es) ≡ lookup (bytes_eq q) es
 in_order_lookup q [] = refl
 in_order_lookup q (e ∷ es) =
     placed_lookup q e (in_key_order es) ∙ ap (λ (found : Option Cell). cond (bytes_eq q e.0) (Some e.1) found) (in_order_lookup q es)

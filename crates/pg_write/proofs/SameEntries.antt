@@ -14,7 +14,8 @@ use Rattle.pg_base.specs.Hstore.{Entry}
 abbrev Value : Type 0
 Value = Option (List ℕ)
 
-none_above : (k : List ℕ) (es : List Entry) → AllByRecursion (λ y. slice_cmp nat_cmp k y ≡ Less) (keys_of es) → lookup (bytes_eq k) es ≡ None
+-- what is below all keys is none of them
+pub none_above : (k : List ℕ) (es : List Entry) → AllByRecursion (λ y. slice_cmp nat_cmp k y ≡ Less) (keys_of es) → lookup (bytes_eq k) es ≡ None
 none_above k [] h = refl
 none_above k (e ∷ es) h =
     ap (λ (b : Bool). cond b (Some e.1) (lookup (bytes_eq k) es)) (sym (is_eq-slice_cmp k e.0) ∙ ap is_eq h.0) ∙ none_above k es h.1

@@ -1,8 +1,8 @@
 -- Writing lists.
-use Rattle.std.specs.Prelude.{◌≡◌, ℕ, ℤ, pos, List, [], ◌∷◌, length, Option, Some, None, ◌||◌, nat_le, if◌then◌else◌, Ok, Err}
+use Rattle.std.specs.Prelude.{◌≡◌, ℕ, ℤ, pos, List, [], ◌∷◌, length, Option, Some, None, ◌||◌, ◌==◌, nat_le, if◌then◌else◌, Ok, Err}
 use Rattle.pg_base.specs.declared.types.built_in.BuiltIn.TheVariants.{Int2Vector, OidVector}
 use Rattle.pg_base.specs.Appending.{Wire, wire_of}
-use Rattle.pg_base.specs.ArrayWriting.{array_bytes}
+use Rattle.pg_base.specs.Arrays.{array_bytes}
 use Rattle.pg_base.specs.Cells.{Cell, frame}
 use Rattle.pg_base.specs.Content.{Content, is_row, oid_of}
 use Rattle.pg_base.specs.Faults.{Outcome, transmit}
@@ -48,6 +48,10 @@ wire_members wire ty (Some member) vs =
 -- what a list is written as
 abbrev pub wire_list : {A : Type 0} → (Content → A → Wire) → Content → List A → Wire
 wire_list wire ty vs = wire_members wire ty (member_of ty) vs
+
+-- what so many values are written as: a list of another length is none of them
+abbrev pub wire_fixed : {A : Type 0} → ℕ → (Content → A → Wire) → Content → List A → Wire
+wire_fixed expected wire ty vs = if length vs == expected then wire_list wire ty vs else Err transmit
 
 -- what was made is what is told, seen so
 abbrev pub Gives : {A B : Type 0} → (B → A) → Outcome A → Outcome B → Type 0

@@ -18,6 +18,7 @@ mod moments;
 mod network;
 mod numbers;
 mod options;
+pub mod params;
 mod references;
 mod special;
 mod texts;

@@ -2,11 +2,11 @@
 ghost use Rattle.std.specs.Prelude.{◌≡◌, IsTrue, map, true, codes, refl};
 ghost use Rattle.std.specs.Box.{boxed_slice_items};
 ghost use Rattle.pg_base.specs.declared.format.Format.TheVariants.{Binary};
-ghost use Rattle.pg_base.specs.ArrayWriting.{owned_cell};
+ghost use Rattle.pg_base.specs.Arrays.{owned_cell};
 ghost use Rattle.pg_base.specs.Content.{content};
 ghost use Rattle.pg_base.specs.Faults.{Answers};
 ghost use Rattle.pg_base.specs.Lists.{accepted_list};
-ghost use Rattle.pg_write.specs.ListWriting.{Gives, element_cells, framed, lower_bound_of, wire_list};
+ghost use Rattle.pg_write.specs.ListWriting.{Gives, element_cells, framed, lower_bound_of, wire_fixed, wire_list};
 ghost use Rattle.pg_write.specs.Writing.{Writes, checked_by};
 
 use crate::to_sql::{ToSql, wrong_type};
@@ -117,16 +117,16 @@ impl<T: ToSql, const N: usize> ToSql for [T; N] {
 
     ghost name = { codes "[T; N]" };
 
-    ghost wire = { λ ty v. wire_list T.wire ty v };
+    ghost wire = { λ ty v. wire_fixed N T.wire ty v };
 
-    ghost checked = { λ ty v. checked_by (accepted_list T.accepted ty) ty (codes "[T; N]") (wire_list T.wire ty v) };
+    ghost checked = { λ ty v. checked_by (accepted_list T.accepted ty) ty (codes "[T; N]") (wire_fixed N T.wire ty v) };
 
     ghost format = { λ _ _. Binary };
 
     ghost refuses_memory_free = { true };
 
     fn to_sql(&self, alloc: Global, ty: &PgType, out: &mut BytesMut) -> Result<IsNull, Fault> {
-        list_to_sql(alloc, ty, self.as_slice(), out)
+        list_to_sql(alloc, ty, self, out)
     }
 
     fn accepts(ty: &PgType) -> bool {
@@ -168,7 +168,7 @@ impl<T: ToSql> ToSql for BoxedSlice<T> {
     ghost refuses_memory_free = { true };
 
     fn to_sql(&self, alloc: Global, ty: &PgType, out: &mut BytesMut) -> Result<IsNull, Fault> {
-        list_to_sql(alloc, ty, self.as_slice(), out)
+        list_to_sql(alloc, ty, &self[..], out)
     }
 
     fn accepts(ty: &PgType) -> bool {

@@ -1,13 +1,13 @@
 -- Lemmas on what is printed.
-use Rattle.std.proofs.Common.{◌≡◌, ◌==◌, ◌||◌, ℕ, Bool, true, List, ◌++◌, Option, Some, None, Ok, Err, IfSome, ◌⊎◌, inl, inr, String, Global, string_bytes, codes, refl, sym, ap, subst}
-use Rattle.std.specs.Cmp.Lexicographic.{pointwise}
+use Rattle.std.proofs.Common.{◌≡◌, ℕ, List, ◌++◌, Option, Some, None, Result, Ok, Err, IfSome, ◌⊎◌, inl, inr, refl, sym, subst}
 use Rattle.postgres_types.specs.Cells.{Cell}
-use Rattle.postgres_types.specs.Faults.{Outcome, Refusal}
+use Rattle.postgres_types.specs.Faults.{Outcome, Refusal, refusal_of}
 use Rattle.postgres_types.specs.Appending.{Wire}
+use Rattle.postgres_types.specs.Rewriting.{Rewrites}
+use Rattle.pg_base.specs.declared.fault.Fault.{Fault}
+use Rattle.pg_base.specs.declared.format.IsNull.{IsNull}
 use Rattle.pgcell.specs.Answer.{Answer, AnswersRequest}
-use Rattle.postgres_types.specs.Content.{Content, name_of}
-use Rattle.postgres_types.specs.Texts.{ReadsText, has_version, wire_text}
-use Rattle.pgcell.specs.Norm.{AnswersAs, AnswersCell, AnswersText, PrintsRefusal, printed}
+use Rattle.pgcell.specs.Norm.{PrintsRefusal, RewrittenTo, WritesOf, printed}
 use Rattle.pgcell.specs.Request.{Asked, request_of}
 
 -- a request's answer is the line's
@@ -15,22 +15,17 @@ pub answers_line : (line : List ℕ) (request : Option Asked) (text : List ℕ) 
 unfolding Answer
 answers_line line request text e h = subst (λ r. AnswersRequest r text) e h
 
--- what a refusal prints answers the cell that was refused, or whose value was
-pub refusal_answers : {A : Type 0} (reads : Cell → Outcome A → Type 0) (wire : A → Wire) (cell : Cell) (refusal : Option Refusal) (old new : List ℕ)
-    → IfSome refusal (λ r. reads cell (Err r) ⊎ ((v : A) × reads cell (Ok v) × (wire v ≡ Err r)))
-    → PrintsRefusal refusal old new
-    → (text : List ℕ) × AnswersCell reads wire cell text × (new ≡ old ++ text)
-refusal_answers reads wire cell None old new why prints = absurd prints
-refusal_answers reads wire cell (Some r) old new why prints = elim why [
-  | inl read ↦ (printed (Err r), inl (r, read, refl), prints)
-  | inr value ↦ (printed (Err r), inr (value.0, value.1, ap printed (sym value.2)), prints)
-]
+-- what rewriting a cell answers is one of the written forms that the cell is rewritten to
+pub writes_rewritten : {A : Type 0} (reads : Cell → Outcome A → Type 0) (wire : A → Wire) (cell : Cell) (old new : List ℕ) (result : Result IsNull Fault)
+    → Rewrites reads wire cell old new result → WritesOf (RewrittenTo reads wire cell) old new result
+writes_rewritten reads wire cell old new (Ok null) h = (wire h.0, inr (h.0, h.1, refl), h.2)
+writes_rewritten reads wire cell old new (Err f) h = (h.0, refused (refusal_of f) h.1) where
+  refused : (told : Option Refusal) → IfSome told (λ r. reads cell (Err r) ⊎ ((v : _) × reads cell (Ok v) × (wire v ≡ Err r))) → IfSome told (λ r. RewrittenTo reads wire cell (Err r))
+  refused None h = tt
+  refused (Some r) h = elim h [ inl read ↦ inl (r, read, refl) | inr value ↦ inr (value.0, value.1, sym value.2) ]
 
--- a type named ltree has cells with a version
-pub ltree_answers : (ty : Content) (optional : Bool) (cell : Cell) (text : List ℕ) → name_of ty ≡ codes "ltree"
-    → AnswersAs {A = String Global} optional (ReadsText string_bytes (has_version ty)) (λ t. wire_text (has_version ty) (string_bytes t)) cell text
-    → AnswersText true optional cell text
-ltree_answers ty optional cell text named h =
-    let is : has_version ty ≡ true
-    = ap (λ name. pointwise ◌==◌ name (codes "ltree") || (pointwise ◌==◌ name (codes "lquery") || pointwise ◌==◌ name (codes "ltxtquery"))) named in
-    subst (λ versioned. AnswersText versioned optional cell text) is h
+-- how a refusal is printed answers, where it is one of the written forms
+pub refusal_answers : (P : Wire → Type 0) (refusal : Option Refusal) (old new : List ℕ) → IfSome refusal (λ r. P (Err r)) → PrintsRefusal refusal old new
+    → (text : List ℕ) × ((v : Wire) × P v × (text ≡ printed v)) × (new ≡ old ++ text)
+refusal_answers P None old new p prints = absurd prints
+refusal_answers P (Some r) old new p prints = (printed (Err r), (Err r, p, refl), prints)

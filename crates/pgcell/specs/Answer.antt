@@ -3,7 +3,7 @@ use Rattle.std.specs.Prelude.{◌≡◌, ◌≢◌, ℕ, ◌++◌, List, Option,
 use Rattle.postgres_types.specs.BuiltInRows.{row_oid}
 use Rattle.postgres_types.specs.Content.{BuiltInType, shown}
 use Rattle.postgres_types.specs.Lsn.{lsn_of, lsn_text}
-use Rattle.pgcell.specs.Norm.{AnswersBase}
+use Rattle.pgcell.specs.Norm.{AnswersNorm}
 use Rattle.pgcell.specs.Request.{Asked, norm, type_of, lsn, request_of}
 
 -- the built-in type of this OID is shown; where no built-in type has it, the text is `none`
@@ -20,7 +20,7 @@ printed_lsn (Some position) = codes "ok " ++ lsn_text position
 -- a line that is not well formed is answered `bad line`
 abbrev pub AnswersRequest : Option Asked → List ℕ → Type 0
 AnswersRequest None text = text ≡ codes "bad line"
-AnswersRequest (Some (norm conversion cell)) text = AnswersBase conversion.base conversion.optional cell text
+AnswersRequest (Some (norm conversion cell)) text = AnswersNorm conversion cell text
 AnswersRequest (Some (type_of oid)) text = AnswersType oid text
 AnswersRequest (Some (lsn position)) text = text ≡ printed_lsn (lsn_of position)
 

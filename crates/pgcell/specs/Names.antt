@@ -1,20 +1,22 @@
 -- What a name stands for.
-use Rattle.std.specs.Prelude.{ℕ, ◌-◌, ◌==◌, Bool, true, false, List, length, take, Option, Some, None, option_map, if◌then◌else◌, codes, nat_eq}
+use Rattle.std.specs.Prelude.{ℕ, ◌-◌, ◌==◌, Bool, List, length, take, Option, Some, None, option_map, if◌then◌else◌, codes, nat_eq}
 use Rattle.std.specs.Cmp.Lexicographic.{pointwise}
 use Rattle.std.specs.List.{ends_with}
-use Rattle.pg_base.specs.declared.types.built_in.BuiltIn.TheVariants.{Bool as BoolRow, Char as CharRow, Int2 as Int2Row, Int4 as Int4Row, Int8 as Int8Row, Oid as OidRow, Text as TextRow, Varchar as VarcharRow, Bpchar as BpcharRow, Name as NameRow, Unknown as UnknownRow, Bytea as ByteaRow, Bit as BitRow, Varbit as VarbitRow, Inet as InetRow, Cidr as CidrRow, Macaddr as MacaddrRow, Uuid as UuidRow, PgLsn as PgLsnRow, Timestamp as TimestampRow}
-use Rattle.postgres_types.specs.Content.{Content, BuiltInType, MadeType, SimpleKind}
+use Rattle.std.specs.Option.{option_or}
+use Rattle.postgres_types.specs.Content.{Content}
 use Rattle.pgcell.specs.declared.names.Base.{Base}
-use Rattle.pgcell.specs.declared.names.Base.TheVariants.{Bool as BoolName, Char, Int2, Int4, Int8, Oid, Text, Varchar, Bpchar, Name, Unknown, Bytea, Bit, Varbit, Inet, Addr, Cidr, Macaddr, Uuid, PgLsn, Unix, Ltree, Hstore}
+use Rattle.pgcell.specs.declared.names.Base.TheVariants.{Bool as BoolName, Char, Int2, Int4, Int8, Oid, Text, Varchar, Bpchar, Name, Unknown, Bytea, Bit, Varbit, Inet, Addr, Cidr, Macaddr, Uuid, PgLsn, Date, DateInf, Time, Timestamp, TimestampInf, Timestamptz, Unix, UnixInf, Int2Vector, OidVector, Ltree, Hstore}
 use Rattle.pgcell.specs.declared.names.Conversion.{Conversion}
+use Rattle.pgcell.specs.declared.names.Form.{Form}
+use Rattle.pgcell.specs.declared.names.Form.TheVariants.{Plain, Optional, Array, OptionalArray}
 
 -- two words are the same
 abbrev pub same_word : List ℕ → List ℕ → Bool
 same_word = pointwise ◌==◌
 
--- what a base name stands for
-abbrev pub base_of : List ℕ → Option Base
-base_of word =
+-- what the base name of a number or of a text stands for
+abbrev pub number_or_text_of : List ℕ → Option Base
+number_or_text_of word =
     if same_word word (codes "bool") then Some BoolName
     else if same_word word (codes "char") then Some Char
     else if same_word word (codes "int2") then Some Int2
@@ -26,7 +28,13 @@ base_of word =
     else if same_word word (codes "bpchar") then Some Bpchar
     else if same_word word (codes "name") then Some Name
     else if same_word word (codes "unknown") then Some Unknown
-    else if same_word word (codes "bytea") then Some Bytea
+    else if same_word word (codes "ltree") then Some Ltree
+    else None
+
+-- what every other base name stands for: of bytes, bits, an address, an identifier, a log position, a vector or a map
+abbrev pub other_of : List ℕ → Option Base
+other_of word =
+    if same_word word (codes "bytea") then Some Bytea
     else if same_word word (codes "bit") then Some Bit
     else if same_word word (codes "varbit") then Some Varbit
     else if same_word word (codes "inet") then Some Inet
@@ -35,40 +43,43 @@ base_of word =
     else if same_word word (codes "macaddr") then Some Macaddr
     else if same_word word (codes "uuid") then Some Uuid
     else if same_word word (codes "pg_lsn") then Some PgLsn
-    else if same_word word (codes "unix") then Some Unix
-    else if same_word word (codes "ltree") then Some Ltree
+    else if same_word word (codes "int2vector") then Some Int2Vector
+    else if same_word word (codes "oidvector") then Some OidVector
     else if same_word word (codes "hstore") then Some Hstore
     else None
 
--- what a name stands for: a base name, or one and `?`
-abbrev pub conversion_of : List ℕ → Option Conversion
-conversion_of word =
-    if ends_with nat_eq word (codes "?")
-    then option_map (λ base. record { base = base; optional = true }) (base_of (take (length word - 1) word))
-    else option_map (λ base. record { base = base; optional = false }) (base_of word)
+-- what the base name of a date, a time or a moment stands for
+abbrev pub moment_of : List ℕ → Option Base
+moment_of word =
+    if same_word word (codes "date") then Some Date
+    else if same_word word (codes "date_inf") then Some DateInf
+    else if same_word word (codes "time") then Some Time
+    else if same_word word (codes "timestamp") then Some Timestamp
+    else if same_word word (codes "timestamp_inf") then Some TimestampInf
+    else if same_word word (codes "timestamptz") then Some Timestamptz
+    else if same_word word (codes "unix") then Some Unix
+    else if same_word word (codes "unix_inf") then Some UnixInf
+    else None
 
--- the Postgres type that a base name stands for
-abbrev pub type_of_base : Base → Content
-type_of_base BoolName = BuiltInType BoolRow
-type_of_base Char = BuiltInType CharRow
-type_of_base Int2 = BuiltInType Int2Row
-type_of_base Int4 = BuiltInType Int4Row
-type_of_base Int8 = BuiltInType Int8Row
-type_of_base Oid = BuiltInType OidRow
-type_of_base Text = BuiltInType TextRow
-type_of_base Varchar = BuiltInType VarcharRow
-type_of_base Bpchar = BuiltInType BpcharRow
-type_of_base Name = BuiltInType NameRow
-type_of_base Unknown = BuiltInType UnknownRow
-type_of_base Bytea = BuiltInType ByteaRow
-type_of_base Bit = BuiltInType BitRow
-type_of_base Varbit = BuiltInType VarbitRow
-type_of_base Inet = BuiltInType InetRow
-type_of_base Addr = BuiltInType InetRow
-type_of_base Cidr = BuiltInType CidrRow
-type_of_base Macaddr = BuiltInType MacaddrRow
-type_of_base Uuid = BuiltInType UuidRow
-type_of_base PgLsn = BuiltInType PgLsnRow
-type_of_base Unix = BuiltInType TimestampRow
-type_of_base Ltree = MadeType (codes "ltree") 100001 SimpleKind (codes "public")
-type_of_base Hstore = MadeType (codes "hstore") 100002 SimpleKind (codes "public")
+-- what a base name stands for
+abbrev pub base_of : List ℕ → Option Base
+base_of word = option_or (number_or_text_of word) (option_or (moment_of word) (other_of word))
+
+-- the base name and the form of a name: `?`, `[]`, `?[]` or nothing stands behind the base name
+abbrev pub form_of : List ℕ → List ℕ × Form
+form_of word =
+    if ends_with nat_eq word (codes "?[]") then (take (length word - 3) word, OptionalArray)
+    else if ends_with nat_eq word (codes "[]") then (take (length word - 2) word, Array)
+    else if ends_with nat_eq word (codes "?") then (take (length word - 1) word, Optional)
+    else (word, Plain)
+
+-- what a name stands for: a base name in a form
+abbrev pub conversion_of : List ℕ → Option Conversion
+conversion_of word = option_map (λ base. record { base = base; form = (form_of word).1 }) (base_of (form_of word).0)
+
+-- of a type and the type of its arrays, the one that a form stands for
+abbrev pub type_in : Form → Content → Option Content → Option Content
+type_in Plain own arrays = Some own
+type_in Optional own arrays = Some own
+type_in Array own arrays = arrays
+type_in OptionalArray own arrays = arrays

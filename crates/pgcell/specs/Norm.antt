@@ -1,5 +1,5 @@
 -- What `norm` answers.
-use Rattle.std.specs.Prelude.{◌≡◌, ℕ, ◌++◌, Bool, true, false, List, [], ◌∷◌, Option, Some, None, Ok, Err, ◌⊎◌, codes, map, string_bytes, String, Vec}
+use Rattle.std.specs.Prelude.{◌≡◌, ℕ, ◌++◌, Bool, List, [], ◌∷◌, Option, Some, None, Result, Ok, Err, IfSome, ◌⊎◌, codes, map, string_bytes, String, Vec}
 use Rattle.std.specs.Fmt.{decimal}
 use Rattle.std.specs.Int.{w8, w16, w32, w64}
 use Rattle.std.specs.Global.{Global}
@@ -10,18 +10,33 @@ use Rattle.std.specs.declared.hash.FoldHasher.{FoldHasher}
 use Rattle.postgres_types.specs.Bits.{ReadsBits, wire_bits}
 use Rattle.postgres_types.specs.Bytes.{ReadsBytes, wire_bytes}
 use Rattle.postgres_types.specs.Cells.{Cell}
-use Rattle.postgres_types.specs.Faults.{Outcome, Refusal, number_of}
+use Rattle.postgres_types.specs.Civil.{ReadsDate, ReadsDateTime, ReadsInstant, ReadsTime, wire_date, wire_datetime, wire_instant, wire_time}
+use Rattle.postgres_types.specs.Content.{Content, BuiltInType, MadeType, SimpleKind}
+use Rattle.postgres_types.specs.Faults.{Outcome, Refusal, number_of, refusal_of}
 use Rattle.postgres_types.specs.Hstore.{ReadsHstore, owned_entry, wire_hstore}
 use Rattle.postgres_types.specs.Identifiers.{ReadsIdentifier, wire_identifier}
+use Rattle.postgres_types.specs.ListReading.{ReadsList, ReadsMembers}
+use Rattle.postgres_types.specs.ListWriting.{wire_list}
+use Rattle.postgres_types.specs.Lists.{accepted_list, member_of}
 use Rattle.postgres_types.specs.Moments.{ReadsTimestamp, nanos_of, wire_timestamp}
 use Rattle.postgres_types.specs.Network.{ReadsAddress, ReadsCidr, ReadsInet, wire_address, wire_cidr, wire_inet}
 use Rattle.postgres_types.specs.Numbers.{ReadsBool, ReadsSigned, ReadsUnsigned, wire_bool, wire_signed, wire_unsigned}
-use Rattle.postgres_types.specs.Texts.{ReadsText, wire_text}
+use Rattle.postgres_types.specs.Special.{ReadsSpecial, date_seen, timestamp_seen, wire_special}
+use Rattle.postgres_types.specs.Texts.{ReadsText, has_version, wire_text}
 use Rattle.postgres_types.specs.Appending.{Wire}
 use Rattle.postgres_types.specs.OptionReading.{ReadsOption}
 use Rattle.postgres_types.specs.OptionWriting.{wire_option}
+use Rattle.postgres_types.specs.Writing.{Writes}
+use Rattle.pg_base.specs.declared.fault.Fault.{Fault}
+use Rattle.pg_base.specs.declared.format.IsNull.{IsNull}
+use Rattle.pg_base.specs.declared.types.built_in.BuiltIn.{BuiltIn as Row}
+use Rattle.pg_base.specs.declared.types.built_in.BuiltIn.TheVariants.{Bool as BoolRow, BoolArray, Char as CharRow, CharArray, Int2 as Int2Row, Int2Array, Int4 as Int4Row, Int4Array, Int8 as Int8Row, Int8Array, Oid as OidRow, OidArray, Text as TextRow, TextArray, Varchar as VarcharRow, VarcharArray, Bpchar as BpcharRow, BpcharArray, Name as NameRow, NameArray, Bytea as ByteaRow, ByteaArray, Bit as BitRow, BitArray, Varbit as VarbitRow, VarbitArray, Inet as InetRow, InetArray, Cidr as CidrRow, CidrArray, Macaddr as MacaddrRow, MacaddrArray, Uuid as UuidRow, UuidArray, PgLsn as PgLsnRow, PgLsnArray, Date as DateRow, DateArray, Time as TimeRow, TimeArray, Timestamp as TimestampRow, TimestampArray, Timestamptz as TimestamptzRow, TimestamptzArray, Unknown as UnknownRow, Int2Vector as Int2VectorRow, OidVector as OidVectorRow}
+use Rattle.pgcell.specs.Names.{type_in}
 use Rattle.pgcell.specs.declared.names.Base.{Base}
-use Rattle.pgcell.specs.declared.names.Base.TheVariants.{Bool as BoolName, Char, Int2, Int4, Int8, Oid, Text, Varchar, Bpchar, Name, Unknown, Bytea, Bit, Varbit, Inet, Addr, Cidr, Macaddr, Uuid, PgLsn, Unix, Ltree, Hstore}
+use Rattle.pgcell.specs.declared.names.Base.TheVariants.{Bool as BoolName, Char, Int2, Int4, Int8, Oid, Text, Varchar, Bpchar, Name, Unknown, Bytea, Bit, Varbit, Inet, Addr, Cidr, Macaddr, Uuid, PgLsn, Date, DateInf, Time, Timestamp, TimestampInf, Timestamptz, Unix, UnixInf, Int2Vector, OidVector, Ltree, Hstore}
+use Rattle.pgcell.specs.declared.names.Conversion.{Conversion}
+use Rattle.pgcell.specs.declared.names.Form.{Form}
+use Rattle.pgcell.specs.declared.names.Form.TheVariants.{Plain, Optional, Array, OptionalArray}
 
 -- how a written form is printed: `null`, `ok` and the bytes in hexadecimal, `-` where there are none, or `refused` and
 -- the number of the fault
@@ -36,48 +51,103 @@ abbrev pub PrintsRefusal : Option Refusal → List ℕ → List ℕ → Type 0
 PrintsRefusal None old new = ⊥
 PrintsRefusal (Some refusal) old new = new ≡ old ++ printed (Err refusal)
 
--- the cell is refused, and the text says so; or it reads as a value, and the text is how its written form is printed
-abbrev pub AnswersCell : {A : Type 0} → (Cell → Outcome A → Type 0) → (A → Wire) → Cell → List ℕ → Type 0
-AnswersCell {A} reads wire cell text =
-    ((refusal : Refusal) × reads cell (Err refusal) × (text ≡ printed (Err refusal)))
-    ⊎ ((value : A) × reads cell (Ok value) × (text ≡ printed (wire value)))
+-- what a cell is rewritten to: its refusal, or the written form of the value that it reads as
+abbrev pub RewrittenTo : {A : Type 0} → (Cell → Outcome A → Type 0) → (A → Wire) → Cell → Wire → Type 0
+RewrittenTo {A} reads wire cell w =
+    ((refusal : Refusal) × reads cell (Err refusal) × (w ≡ Err refusal)) ⊎ ((value : A) × reads cell (Ok value) × (w ≡ wire value))
 
--- the same of the type, or of an option of it
-abbrev pub AnswersAs : {A : Type 0} → Bool → (Cell → Outcome A → Type 0) → (A → Wire) → Cell → List ℕ → Type 0
-AnswersAs false reads wire = AnswersCell reads wire
-AnswersAs true reads wire = AnswersCell (ReadsOption reads) (wire_option wire)
+-- what a call answered and wrote is a written form of which P holds, unless memory ran out
+abbrev pub WritesOf : (Wire → Type 0) → List ℕ → List ℕ → Result IsNull Fault → Type 0
+WritesOf P old new (Ok null) = (w : Wire) × P w × Writes w old new (Ok null)
+WritesOf P old new (Err f) = (new ≡ old) × IfSome (refusal_of f) (λ r. P (Err r))
 
--- the same of a text, behind a version or not
-abbrev pub AnswersText : Bool → Bool → Cell → List ℕ → Type 0
-AnswersText versioned optional =
-    AnswersAs {A = String Global} optional (ReadsText string_bytes versioned) (λ text. wire_text versioned (string_bytes text))
+-- what an array's cell gives: a list of what its members give by their type
+abbrev pub ReadsVec : {A : Type 0} → (Content → Cell → Outcome A → Type 0) → Content → Cell → Outcome (Vec A Global) → Type 0
+ReadsVec reads ty = ReadsMembers (λ member. ReadsList (λ v. v.items) (reads member)) (member_of ty)
+
+-- what a list is written as
+abbrev pub wire_vec : {A : Type 0} → (Content → A → Wire) → Content → Vec A Global → Wire
+wire_vec wire ty v = wire_list wire ty v.items
+
+-- what a cell is rewritten to in a form of a Rust type: itself, an option, a list or a list of options
+abbrev pub RewrittenAs : {A : Type 0} → (Content → Cell → Outcome A → Type 0) → (Content → A → Wire) → Form → Content → Cell → Wire → Type 0
+RewrittenAs reads wire Plain ty = RewrittenTo (reads ty) (wire ty)
+RewrittenAs reads wire Optional ty = RewrittenTo (ReadsOption (reads ty)) (wire_option (wire ty))
+RewrittenAs reads wire Array ty = RewrittenTo (ReadsVec reads ty) (wire_vec wire ty)
+RewrittenAs reads wire OptionalArray ty =
+    RewrittenTo (ReadsVec (λ member. ReadsOption (reads member)) ty) (wire_vec (λ member. wire_option (wire member)) ty)
+
+-- a form accepts a type that its Rust type accepts, or in a list an array of such a type
+abbrev pub accepted_as : (Content → Bool) → Form → Content → Bool
+accepted_as inside Plain = inside
+accepted_as inside Optional = inside
+accepted_as inside Array = accepted_list inside
+accepted_as inside OptionalArray = accepted_list inside
+
+-- the same of a Rust type with one format, whatever the Postgres type
+abbrev pub RewrittenPlain : {A : Type 0} → (Cell → Outcome A → Type 0) → (A → Wire) → Form → Content → Cell → Wire → Type 0
+RewrittenPlain reads wire = RewrittenAs (λ _. reads) (λ _. wire)
+
+-- the same of a text, behind a version where the Postgres type has one
+abbrev pub RewrittenText : Form → Content → Cell → Wire → Type 0
+RewrittenText = RewrittenAs {A = String Global} (λ ty. ReadsText string_bytes (has_version ty)) (λ ty text. wire_text (has_version ty) (string_bytes text))
+
+-- the text is how a cell is printed that was rewritten by a Postgres type, or `bad line` where there is none
+abbrev pub AnswersAt : Option Content → (Content → Cell → Wire → Type 0) → Cell → List ℕ → Type 0
+AnswersAt None rewritten cell text = text ≡ codes "bad line"
+AnswersAt (Some ty) rewritten cell text = (w : Wire) × rewritten ty cell w × (text ≡ printed w)
+
+-- the same in a form, by the one of a type and the type of its arrays that the form stands for
+abbrev pub AnswersIn : Content → Option Content → (Form → Content → Cell → Wire → Type 0) → Form → Cell → List ℕ → Type 0
+AnswersIn own arrays rewritten form = AnswersAt (type_in form own arrays) (rewritten form)
+
+-- the same of two rows of the table of built-in types
+abbrev pub ByRows : Row → Row → (Form → Content → Cell → Wire → Type 0) → Form → Cell → List ℕ → Type 0
+ByRows own arrays = AnswersIn (BuiltInType own) (Some (BuiltInType arrays))
+
+-- the same of a type without arrays
+abbrev pub Alone : Content → (Form → Content → Cell → Wire → Type 0) → Form → Cell → List ℕ → Type 0
+Alone own = AnswersIn own None
 
 -- a map of texts
 abbrev pub Map : Type 0
 Map = HashMap (String Global) (Option (String Global)) (BuildHasherDefault FoldHasher)
 
--- the same of what a base name stands for
-abbrev pub AnswersBase : Base → Bool → Cell → List ℕ → Type 0
-AnswersBase BoolName optional = AnswersAs optional ReadsBool wire_bool
-AnswersBase Char optional = AnswersAs optional (ReadsSigned w8) (wire_signed w8)
-AnswersBase Int2 optional = AnswersAs optional (ReadsSigned w16) (wire_signed w16)
-AnswersBase Int4 optional = AnswersAs optional (ReadsSigned w32) (wire_signed w32)
-AnswersBase Int8 optional = AnswersAs optional (ReadsSigned w64) (wire_signed w64)
-AnswersBase Oid optional = AnswersAs optional (ReadsUnsigned w32) (wire_unsigned w32)
-AnswersBase Text optional = AnswersText false optional
-AnswersBase Varchar optional = AnswersText false optional
-AnswersBase Bpchar optional = AnswersText false optional
-AnswersBase Name optional = AnswersText false optional
-AnswersBase Unknown optional = AnswersText false optional
-AnswersBase Bytea optional = AnswersAs {A = Vec ℕ Global} optional (ReadsBytes (λ v. v.items)) (λ v. wire_bytes v.items)
-AnswersBase Bit optional = AnswersAs optional (ReadsBits (λ v. v)) wire_bits
-AnswersBase Varbit optional = AnswersAs optional (ReadsBits (λ v. v)) wire_bits
-AnswersBase Inet optional = AnswersAs optional ReadsInet wire_inet
-AnswersBase Addr optional = AnswersAs optional ReadsAddress wire_address
-AnswersBase Cidr optional = AnswersAs optional ReadsCidr wire_cidr
-AnswersBase Macaddr optional = AnswersAs optional (ReadsIdentifier 6) (wire_identifier 6)
-AnswersBase Uuid optional = AnswersAs optional (ReadsIdentifier 16) (wire_identifier 16)
-AnswersBase PgLsn optional = AnswersAs optional (ReadsUnsigned w64) (wire_unsigned w64)
-AnswersBase Unix optional = AnswersAs optional (ReadsTimestamp nanos_of) (λ v. wire_timestamp (nanos_of v))
-AnswersBase Ltree optional = AnswersText true optional
-AnswersBase Hstore optional = AnswersAs {A = Map} optional ReadsHstore (λ m. wire_hstore (map owned_entry m.entries))
+-- what a base name stands for: its Postgres type and the type of its arrays, and how its Rust type reads and writes a cell
+abbrev pub AnswersBase : Base → Form → Cell → List ℕ → Type 0
+AnswersBase BoolName = ByRows BoolRow BoolArray (RewrittenPlain ReadsBool wire_bool)
+AnswersBase Char = ByRows CharRow CharArray (RewrittenPlain (ReadsSigned w8) (wire_signed w8))
+AnswersBase Int2 = ByRows Int2Row Int2Array (RewrittenPlain (ReadsSigned w16) (wire_signed w16))
+AnswersBase Int4 = ByRows Int4Row Int4Array (RewrittenPlain (ReadsSigned w32) (wire_signed w32))
+AnswersBase Int8 = ByRows Int8Row Int8Array (RewrittenPlain (ReadsSigned w64) (wire_signed w64))
+AnswersBase Oid = ByRows OidRow OidArray (RewrittenPlain (ReadsUnsigned w32) (wire_unsigned w32))
+AnswersBase Text = ByRows TextRow TextArray RewrittenText
+AnswersBase Varchar = ByRows VarcharRow VarcharArray RewrittenText
+AnswersBase Bpchar = ByRows BpcharRow BpcharArray RewrittenText
+AnswersBase Name = ByRows NameRow NameArray RewrittenText
+AnswersBase Unknown = Alone (BuiltInType UnknownRow) RewrittenText
+AnswersBase Bytea = ByRows ByteaRow ByteaArray (RewrittenPlain {A = Vec ℕ Global} (ReadsBytes (λ v. v.items)) (λ v. wire_bytes v.items))
+AnswersBase Bit = ByRows BitRow BitArray (RewrittenPlain (ReadsBits (λ v. v)) wire_bits)
+AnswersBase Varbit = ByRows VarbitRow VarbitArray (RewrittenPlain (ReadsBits (λ v. v)) wire_bits)
+AnswersBase Inet = ByRows InetRow InetArray (RewrittenPlain ReadsInet wire_inet)
+AnswersBase Addr = ByRows InetRow InetArray (RewrittenPlain ReadsAddress wire_address)
+AnswersBase Cidr = ByRows CidrRow CidrArray (RewrittenPlain ReadsCidr wire_cidr)
+AnswersBase Macaddr = ByRows MacaddrRow MacaddrArray (RewrittenPlain (ReadsIdentifier 6) (wire_identifier 6))
+AnswersBase Uuid = ByRows UuidRow UuidArray (RewrittenPlain (ReadsIdentifier 16) (wire_identifier 16))
+AnswersBase PgLsn = ByRows PgLsnRow PgLsnArray (RewrittenPlain (ReadsUnsigned w64) (wire_unsigned w64))
+AnswersBase Date = ByRows DateRow DateArray (RewrittenPlain ReadsDate wire_date)
+AnswersBase DateInf = ByRows DateRow DateArray (RewrittenPlain (ReadsSpecial w32 date_seen ReadsDate) (λ v. wire_special w32 wire_date (date_seen v)))
+AnswersBase Time = ByRows TimeRow TimeArray (RewrittenPlain ReadsTime wire_time)
+AnswersBase Timestamp = ByRows TimestampRow TimestampArray (RewrittenPlain ReadsDateTime wire_datetime)
+AnswersBase TimestampInf = ByRows TimestampRow TimestampArray (RewrittenPlain (ReadsSpecial w64 timestamp_seen ReadsDateTime) (λ v. wire_special w64 wire_datetime (timestamp_seen v)))
+AnswersBase Timestamptz = ByRows TimestamptzRow TimestamptzArray (RewrittenPlain ReadsInstant wire_instant)
+AnswersBase Unix = ByRows TimestampRow TimestampArray (RewrittenPlain (ReadsTimestamp nanos_of) (λ v. wire_timestamp (nanos_of v)))
+AnswersBase UnixInf = ByRows TimestampRow TimestampArray (RewrittenPlain (ReadsSpecial w64 timestamp_seen (ReadsTimestamp nanos_of)) (λ v. wire_special w64 (λ u. wire_timestamp (nanos_of u)) (timestamp_seen v)))
+AnswersBase Int2Vector = Alone (BuiltInType Int2VectorRow) (RewrittenAs (ReadsVec (λ _. ReadsSigned w16)) (wire_vec (λ _. wire_signed w16)))
+AnswersBase OidVector = Alone (BuiltInType OidVectorRow) (RewrittenAs (ReadsVec (λ _. ReadsUnsigned w32)) (wire_vec (λ _. wire_unsigned w32)))
+AnswersBase Ltree = Alone (MadeType (codes "ltree") 100001 SimpleKind (codes "public")) RewrittenText
+AnswersBase Hstore = Alone (MadeType (codes "hstore") 100002 SimpleKind (codes "public")) (RewrittenPlain {A = Map} ReadsHstore (λ m. wire_hstore (map owned_entry m.entries)))
+
+-- the text answers `norm` of what a name stands for, and a cell
+abbrev pub AnswersNorm : Conversion → Cell → List ℕ → Type 0
+AnswersNorm conversion = AnswersBase conversion.base conversion.form

@@ -1,68 +1,92 @@
 //! What a name stands for.
-ghost use Rattle.std.specs.Prelude.{◌≡◌, IfOk, codes};
-ghost use Rattle.postgres_types.specs.Content.{MadeType, SimpleKind, content};
-ghost use Rattle.pgcell.specs.Names.{base_of, conversion_of, type_of_base};
+ghost use Rattle.std.specs.Prelude.{◌≡◌, option_map};
+ghost use Rattle.postgres_types.specs.Content.{content};
+ghost use Rattle.pgcell.specs.Names.{base_of, conversion_of, form_of, moment_of, number_or_text_of, other_of, type_in};
 
-use postgres_types::{Kind, Oid, Type};
-use std::alloc::{AllocError, Global};
+use postgres_types::Type;
 
-/// What a base name stands for: a Rust type and a Postgres type.
+/// A base name. The Rust type and the Postgres type that it stands for are its line of `norm`.
 #[derive(Debug, Clone, Copy, PartialEq, Eq)]
 pub enum Base {
-    /// `bool` and BOOL.
     Bool,
-    /// `i8` and CHAR.
     Char,
-    /// `i16` and INT2.
     Int2,
-    /// `i32` and INT4.
     Int4,
-    /// `i64` and INT8.
     Int8,
-    /// `u32` and OID.
     Oid,
-    /// `String` and TEXT.
     Text,
-    /// `String` and VARCHAR.
     Varchar,
-    /// `String` and BPCHAR.
     Bpchar,
-    /// `String` and NAME.
     Name,
-    /// `String` and UNKNOWN.
     Unknown,
-    /// `Vec<u8>` and BYTEA.
     Bytea,
-    /// `BitVec` and BIT.
     Bit,
-    /// `BitVec` and VARBIT.
     Varbit,
-    /// `IpInet` and INET.
     Inet,
-    /// `IpAddr` and INET.
     Addr,
-    /// `IpCidr` and CIDR.
     Cidr,
-    /// `MacAddress` and MACADDR.
     Macaddr,
-    /// `Uuid` and UUID.
     Uuid,
-    /// `PgLsn` and PG_LSN.
     PgLsn,
-    /// `UnixTime` and TIMESTAMP.
+    Date,
+    DateInf,
+    Time,
+    Timestamp,
+    TimestampInf,
+    Timestamptz,
     Unix,
-    /// `String` and the type ltree, of OID 100001, in the schema public.
+    UnixInf,
+    Int2Vector,
+    OidVector,
     Ltree,
-    /// `HashMap` and the type hstore, of OID 100002, in the schema public.
     Hstore,
 }
 
-/// What a name stands for: a base name, or one and `?`.
+/// What may follow a base name. A base name without arrays stands for nothing in the last two forms.
+#[derive(Debug, Clone, Copy, PartialEq, Eq)]
+pub enum Form {
+    /// Nothing: the base name's own types.
+    Plain,
+    /// `?`: an `Option`, of the same Postgres type.
+    Optional,
+    /// `[]`: a `Vec`, and the Postgres type of arrays.
+    Array,
+    /// `?[]`: a `Vec` of `Option`s, and the Postgres type of arrays.
+    OptionalArray,
+}
+
+/// What a name stands for: a base name in a form.
 #[derive(Debug, Clone, Copy, PartialEq, Eq)]
 pub struct Conversion {
     pub base: Base,
-    /// The Rust type is an `Option` of the base name's.
-    pub optional: bool,
+    pub form: Form,
+}
+
+impl Form {
+    /// The form of the name, and the base name in front of it.
+    fn parse(word: &[u8]) -> (&[u8], Form)
+        ensures { (result.0.now, result.1) ≡ form_of word.now }
+    {
+        if word.ends_with(b"?[]") {
+            (&word[..word.len() - 3], Form::OptionalArray)
+        } else if word.ends_with(b"[]") {
+            (&word[..word.len() - 2], Form::Array)
+        } else if word.ends_with(b"?") {
+            (&word[..word.len() - 1], Form::Optional)
+        } else {
+            (word, Form::Plain)
+        }
+    }
+
+    /// Of a type and the type of its arrays, the one that this form stands for.
+    pub fn pick(self, own: Type, arrays: Option<Type>) -> Option<Type>
+        ensures { option_map content result ≡ type_in self (content own) (option_map content arrays) }
+    {
+        match self {
+            Form::Plain | Form::Optional => Some(own),
+            Form::Array | Form::OptionalArray => arrays,
+        }
+    }
 }
 
 impl Conversion {
@@ -70,13 +94,9 @@ impl Conversion {
     pub fn parse(word: &[u8]) -> Option<Conversion>
         ensures { result ≡ conversion_of word.now }
     {
-        let optional = word.ends_with(b"?");
-        let base = if optional {
-            Base::parse(&word[..word.len() - 1])?
-        } else {
-            Base::parse(word)?
-        };
-        Some(Conversion { base, optional })
+        let (name, form) = Form::parse(word);
+        let base = Base::parse(name)?;
+        Some(Conversion { base, form })
     }
 }
 
@@ -84,6 +104,19 @@ impl Base {
     /// What the base name stands for.
     fn parse(word: &[u8]) -> Option<Base>
         ensures { result ≡ base_of word.now }
+    {
+        if let Some(base) = Base::parse_number_or_text(word) {
+            return Some(base);
+        }
+        if let Some(base) = Base::parse_moment(word) {
+            return Some(base);
+        }
+        Base::parse_other(word)
+    }
+
+    /// What the base name of a number or of a text stands for.
+    fn parse_number_or_text(word: &[u8]) -> Option<Base>
+        ensures { result ≡ number_or_text_of word.now }
     {
         match word {
             b"bool" => Some(Base::Bool),
@@ -97,6 +130,17 @@ impl Base {
             b"bpchar" => Some(Base::Bpchar),
             b"name" => Some(Base::Name),
             b"unknown" => Some(Base::Unknown),
+            b"ltree" => Some(Base::Ltree),
+            _ => None,
+        }
+    }
+
+    /// What every other base name stands for: of bytes, bits, an address, an identifier, a log
+    /// position, a vector or a map.
+    fn parse_other(word: &[u8]) -> Option<Base>
+        ensures { result ≡ other_of word.now }
+    {
+        match word {
             b"bytea" => Some(Base::Bytea),
             b"bit" => Some(Base::Bit),
             b"varbit" => Some(Base::Varbit),
@@ -106,49 +150,32 @@ impl Base {
             b"macaddr" => Some(Base::Macaddr),
             b"uuid" => Some(Base::Uuid),
             b"pg_lsn" => Some(Base::PgLsn),
-            b"unix" => Some(Base::Unix),
-            b"ltree" => Some(Base::Ltree),
+            b"int2vector" => Some(Base::Int2Vector),
+            b"oidvector" => Some(Base::OidVector),
             b"hstore" => Some(Base::Hstore),
             _ => None,
         }
     }
 
-    /// The Postgres type that the base name stands for.
-    pub fn postgres_type(self, alloc: Global) -> Result<Type, AllocError>
-        ensures { IfOk result (λ ty. content ty ≡ type_of_base self) }
+    /// What the base name of a date, a time or a moment stands for.
+    fn parse_moment(word: &[u8]) -> Option<Base>
+        ensures { result ≡ moment_of word.now }
     {
-        match self {
-            Base::Bool => Ok(Type::BOOL),
-            Base::Char => Ok(Type::CHAR),
-            Base::Int2 => Ok(Type::INT2),
-            Base::Int4 => Ok(Type::INT4),
-            Base::Int8 => Ok(Type::INT8),
-            Base::Oid => Ok(Type::OID),
-            Base::Text => Ok(Type::TEXT),
-            Base::Varchar => Ok(Type::VARCHAR),
-            Base::Bpchar => Ok(Type::BPCHAR),
-            Base::Name => Ok(Type::NAME),
-            Base::Unknown => Ok(Type::UNKNOWN),
-            Base::Bytea => Ok(Type::BYTEA),
-            Base::Bit => Ok(Type::BIT),
-            Base::Varbit => Ok(Type::VARBIT),
-            Base::Inet | Base::Addr => Ok(Type::INET),
-            Base::Cidr => Ok(Type::CIDR),
-            Base::Macaddr => Ok(Type::MACADDR),
-            Base::Uuid => Ok(Type::UUID),
-            Base::PgLsn => Ok(Type::PG_LSN),
-            Base::Unix => Ok(Type::TIMESTAMP),
-            Base::Ltree => made(alloc, "ltree", 100_001),
-            Base::Hstore => made(alloc, "hstore", 100_002),
+        // The longest names are compared whole: of a pattern the prover follows the first bytes alone.
+        if word == b"timestamptz".as_slice() {
+            return Some(Base::Timestamptz);
+        }
+        if word == b"timestamp_inf".as_slice() {
+            return Some(Base::TimestampInf);
+        }
+        match word {
+            b"date" => Some(Base::Date),
+            b"date_inf" => Some(Base::DateInf),
+            b"time" => Some(Base::Time),
+            b"timestamp" => Some(Base::Timestamp),
+            b"unix" => Some(Base::Unix),
+            b"unix_inf" => Some(Base::UnixInf),
+            _ => None,
         }
     }
-}
-
-/// A made type of that name, of kind Simple and in the schema public.
-fn made(alloc: Global, name: &str, oid: Oid) -> Result<Type, AllocError>
-    ensures { IfOk result (λ ty. content ty ≡ MadeType name.now oid SimpleKind (codes "public")) }
-{
-    let name = String::from_str(alloc, name)?;
-    let schema = String::from_str(alloc, "public")?;
-    Type::new(alloc, name, oid, Kind::Simple, schema).map_err(|_| AllocError)
 }

@@ -1,10 +1,21 @@
 -- The words of reading and writing together, and those of the layers below.
+pub mod BackLaws
+pub mod BoxBack
+pub mod HstoreBack
+pub mod LawfulFormats
+pub mod ListBack
+pub mod MomentBack
+pub mod MomentBackLaws
+pub mod OptionBack
+pub mod PlainLaws
 pub mod ReadingBack
+pub mod RelatedLists
 pub mod Rewriting
+pub mod SpecialBack
+pub mod WrittenArrays
 pub use Rattle.pg_base.specs.Appending
 pub use Rattle.pg_base.specs.ArrayLaws
 pub use Rattle.pg_base.specs.Arrays
-pub use Rattle.pg_base.specs.ArrayWriting
 pub use Rattle.pg_base.specs.Bits
 pub use Rattle.pg_base.specs.BitsLaws
 pub use Rattle.pg_base.specs.BuiltInRows
@@ -47,7 +58,9 @@ pub use Rattle.pg_read.specs.Framed
 pub use Rattle.pg_read.specs.ListReading
 pub use Rattle.pg_read.specs.OptionReading
 pub use Rattle.pg_read.specs.Reading
+pub use Rattle.pg_read.specs.RunReading
 pub use Rattle.pg_read.specs.SpecialReading
 pub use Rattle.pg_write.specs.ListWriting
 pub use Rattle.pg_write.specs.OptionWriting
+pub use Rattle.pg_write.specs.ParamWriting
 pub use Rattle.pg_write.specs.Writing

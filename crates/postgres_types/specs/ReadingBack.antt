@@ -1,13 +1,57 @@
--- What a written value is read back as, by the shape of the value.
-use Rattle.std.specs.Prelude.{Option, Some, None, Ok, Err}
-use Rattle.pg_base.specs.Faults.{Outcome}
+-- Reading back: what a type's reading and its writing have to do with each other.
+use Rattle.std.specs.Prelude.{◌≡◌, ◌++◌, ℕ, List, Option, Some, None, Result, Ok, Err}
+use Rattle.std.specs.Int.{Width}
+use Rattle.pg_base.specs.declared.fault.Fault.{Fault}
+use Rattle.pg_base.specs.declared.format.IsNull.{IsNull}
+use Rattle.pg_base.specs.declared.format.IsNull.TheVariants.{Yes, No}
 use Rattle.pg_base.specs.Appending.{Wire}
+use Rattle.pg_base.specs.Cells.{Cell}
+use Rattle.pg_base.specs.Content.{Content}
+use Rattle.pg_base.specs.Faults.{Outcome, was_null}
+use Rattle.pg_base.specs.Special.{IsFiniteCell, ReadsSpecial, Special, pos_infinity, neg_infinity, value}
+use Rattle.pg_read.specs.ListReading.{ReadsAll}
 use Rattle.pg_read.specs.OptionReading.{IsNoneOutcome}
 
--- a plain value, of numbers and texts: the value itself
-abbrev pub BackSelf : {A : Type 0} → (A → A → Type 0) → A → Outcome A → Type 0
-BackSelf same v (Ok w) = same v w
-BackSelf same v (Err r) = ⊥
+-- ---- laws
+
+-- the value is written as a cell that reads as it, or refused
+abbrev pub WrittenAsCell : {A : Type 0} → (Cell → Outcome A → Type 0) → A → Wire → Type 0
+WrittenAsCell reads v (Ok c) = reads c (Ok v)
+WrittenAsCell reads v (Err r) = Unit {0}
+
+-- the value is written as bytes that read as it, or refused
+abbrev pub WrittenAsBytes : {A : Type 0} → (Cell → Outcome A → Type 0) → A → Wire → Type 0
+WrittenAsBytes reads v (Ok None) = ⊥
+WrittenAsBytes reads v (Ok (Some b)) = reads (Some b) (Ok v)
+WrittenAsBytes reads v (Err r) = Unit {0}
+
+-- Reading, writing and what a written value is read back as belong together: the same values are written as the same
+-- and read back as the same; what bytes give is written as bytes that read as it, and what NULL gives as a cell that
+-- reads as it, or either is refused; and the cell that a value is written as reads as what the value is read back as.
+pub record IsLawful {A : Type 0} (same : A → A → Type 0) (reads : Cell → Outcome A → Type 0) (wire : A → Wire) (back : A → Outcome A → Type 0) : Type 0 where
+  pub same_wire : (v w : A) → same v w → wire v ≡ wire w
+  pub same_back : (v w : A) (o : Outcome A) → same v w → back v o → back w o
+  pub from_bytes : (b : List ℕ) (v : A) → reads (Some b) (Ok v) → WrittenAsBytes reads v (wire v)
+  pub from_null : (v : A) → reads None (Ok v) → WrittenAsCell reads v (wire v)
+  pub back_reads : (v : A) (c : Cell) (o : Outcome A) → wire v ≡ Ok c → back v o → reads c o
+  pub reads_back : (v : A) (c : Cell) (o : Outcome A) → wire v ≡ Ok c → reads c o → back v o
+
+-- a value is written as finite bytes of that width, or refused
+abbrev pub WrittenFinite : Width → Wire → Type 0
+WrittenFinite w (Ok None) = ⊥
+WrittenFinite w (Ok (Some b)) = IsFiniteCell w b
+WrittenFinite w (Err r) = Unit {0}
+
+-- what finite bytes of that width give is written as such bytes, or refused
+abbrev pub KeepsFinite : {A : Type 0} → Width → (Cell → Outcome A → Type 0) → (A → Wire) → Type 0
+KeepsFinite {A} w reads wire = (b : List ℕ) (v : A) → IsFiniteCell w b → reads (Some b) (Ok v) → WrittenFinite w (wire v)
+
+-- ---- what a written value is read back as, by the shape of the value
+
+-- a plain value: one that holds what is kept of the written value, which is all of it but for moments, which are cut
+abbrev pub BackKept : {A : Type 0} → (A → A → Type 0) → A → Outcome A → Type 0
+BackKept kept v (Ok w) = kept v w
+BackKept kept v (Err r) = ⊥
 
 -- P where the value is written as NULL, and otherwise Q
 abbrev pub IfNull : Wire → Type 0 → Type 0 → Type 0
@@ -25,3 +69,64 @@ InSome back (Err r) = back (Err r)
 abbrev pub BackOption : {A : Type 0} → (A → Wire) → (A → Outcome A → Type 0) → Option A → Outcome (Option A) → Type 0
 BackOption wire back None outcome = IsNoneOutcome outcome
 BackOption wire back (Some v) outcome = IfNull (wire v) (IsNoneOutcome outcome) (InSome (back v) outcome)
+
+-- the outcome WasNull
+abbrev pub IsWasNullOutcome : {A : Type 0} → Outcome A → Type 0
+IsWasNullOutcome (Ok v) = ⊥
+IsWasNullOutcome (Err r) = r ≡ was_null
+
+-- a box of what the value inside is read back as, or its fault
+abbrev pub InBox : {A B : Type 0} → (B → A) → (Outcome A → Type 0) → Outcome B → Type 0
+InBox inside back (Ok v) = back (Ok (inside v))
+InBox inside back (Err r) = back (Err r)
+
+-- WasNull where the value inside is written as NULL, and otherwise a box of what that is read back as
+abbrev pub BackBox : {A B : Type 0} → (B → A) → (A → Wire) → (A → Outcome A → Type 0) → B → Outcome B → Type 0
+BackBox inside wire back v outcome = IfNull (wire (inside v)) (IsWasNullOutcome outcome) (InBox inside (back (inside v)) outcome)
+
+-- an infinity
+abbrev pub IsInfinityOutcome : {A B : Type 0} → (B → Special A) → Special A → Outcome B → Type 0
+IsInfinityOutcome seen infinity (Ok v) = seen v ≡ infinity
+IsInfinityOutcome seen infinity (Err r) = ⊥
+
+-- a value of which P holds, and no infinity
+abbrev pub OfValue : {A : Type 0} → (A → Type 0) → Special A → Type 0
+OfValue P pos_infinity = ⊥
+OfValue P neg_infinity = ⊥
+OfValue P (value v) = P v
+
+-- Value of what the value inside is read back as, or its fault
+abbrev pub InValue : {A B : Type 0} → (B → Special A) → (Outcome A → Type 0) → Outcome B → Type 0
+InValue seen back (Ok s) = OfValue (λ v. back (Ok v)) (seen s)
+InValue seen back (Err r) = back (Err r)
+
+-- what a value is read back as: as its cell is read, where what the value inside is read back as stands for its reading.
+-- So it is WasNull where the cell is NULL, Size where it has another width, the infinity where it is one's, and otherwise
+-- Value of what the value inside is read back as, or its fault
+abbrev pub BackValue : {A B : Type 0} → Width → (B → Special A) → Wire → (Outcome A → Type 0) → Outcome B → Type 0
+BackValue w seen (Ok c) back outcome = ReadsSpecial w seen (λ _. back) c outcome
+BackValue w seen (Err r) back outcome = InValue seen back outcome
+
+-- an infinity as itself, and a value as its cell is read back
+abbrev pub BackSpecial : {A B : Type 0} → Width → (B → Special A) → (A → Wire) → (A → Outcome A → Type 0) → Special A → Outcome B → Type 0
+BackSpecial w seen wire back pos_infinity outcome = IsInfinityOutcome seen pos_infinity outcome
+BackSpecial w seen wire back neg_infinity outcome = IsInfinityOutcome seen neg_infinity outcome
+BackSpecial w seen wire back (value v) outcome = BackValue w seen (wire v) (back v) outcome
+
+-- the list of what its elements are read back as, or the first refusal among them
+abbrev pub BackList : {A X : Type 0} → (X → List A) → (A → Outcome A → Type 0) → X → Outcome X → Type 0
+BackList items back x (Ok y) = ReadsAll back (items x) (Ok (items y))
+BackList items back x (Err r) = ReadsAll back (items x) (Err r)
+
+-- what a list is read back as by the type of its elements
+abbrev pub BackMembers : {X : Type 0} → (Content → X → Outcome X → Type 0) → Option Content → X → Outcome X → Type 0
+BackMembers lists None x outcome = ⊥
+BackMembers lists (Some member) x outcome = lists member x outcome
+
+-- ---- rewriting
+
+-- the cell that was made is one of which P holds
+abbrev pub MadeCell : (Cell → Type 0) → List ℕ → List ℕ → Result IsNull Fault → Type 0
+MadeCell P old new (Ok No) = (b : List ℕ) × (new ≡ old ++ b) × P (Some b)
+MadeCell P old new (Ok Yes) = (new ≡ old) × P None
+MadeCell P old new (Err f) = Unit {0}

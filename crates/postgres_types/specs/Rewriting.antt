@@ -13,3 +13,12 @@ abbrev pub Rewrites : {A : Type 0} → (Cell → Outcome A → Type 0) → (A �
 Rewrites {A} reads wire c old new (Ok null) = (v : A) × reads c (Ok v) × Writes (wire v) old new (Ok null)
 Rewrites {A} reads wire c old new (Err f) =
     (new ≡ old) × IfSome (refusal_of f) (λ r. reads c (Err r) ⊎ ((v : A) × reads c (Ok v) × (wire v ≡ Err r)))
+
+-- the cell is what v is written as, and reads as v
+abbrev pub IsCellOf : {A : Type 0} → (Cell → Outcome A → Type 0) → (A → Wire) → A → Cell → Type 0
+IsCellOf reads wire v c = (wire v ≡ Ok c) × reads c (Ok v)
+
+-- where the cell is rewritten it is given again, or memory runs out
+abbrev pub IsRewrittenAsItself : {A : Type 0} → (Cell → Outcome A → Type 0) → (A → Wire) → Cell → Type 0
+IsRewrittenAsItself reads wire c =
+    (old new : List ℕ) (result : Result IsNull Fault) → Rewrites reads wire c old new result → Writes (Ok c) old new result

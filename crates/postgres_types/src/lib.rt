@@ -5,8 +5,10 @@
 //! PostgreSQL's send and receive functions.
 #![tactic(auto)]
 
+mod paired;
 mod rewriting;
 
+pub use paired::{Finite, Paired};
 pub use pg_base::bits::BitVec;
 pub use pg_base::fault::{Fault, REASON_LEN, Reason, WasNull, WrongType};
 pub use pg_base::format::{Format, IsNull};
@@ -18,5 +20,6 @@ pub use pg_base::types::{Field, Kind, KindRef, Oid, PgType as Type};
 pub use pg_base::unix_time::UnixTime;
 pub use pg_read::from_sql::{FromSql, from_sql_nullable};
 pub use pg_read::private;
+pub use pg_write::params::params_to_sql;
 pub use pg_write::to_sql::{ToSql, to_sql_checked_as};
 pub use rewriting::rewrite;

@@ -1,11 +1,13 @@
 //! Reading a cell and writing it again.
-ghost use Rattle.std.specs.Prelude.{◌≡◌, ◌&&◌, Err, IsTrue, false, codes};
-ghost use Rattle.postgres_types.specs.Rewriting.{Rewrites};
+ghost use Rattle.std.specs.Prelude.{◌≡◌, Ok, Err, IsTrue, false, codes};
+ghost use Rattle.postgres_types.specs.ReadingBack.{MadeCell};
+ghost use Rattle.postgres_types.specs.Rewriting.{IsCellOf, IsRewrittenAsItself, Rewrites};
 ghost use Rattle.pg_base.specs.Content.{content, IsBuiltIn};
 ghost use Rattle.pg_base.specs.Faults.{NeverMemory, wrong_type};
 ghost use Rattle.pg_write.specs.Writing.{Writes};
 ghost use Rattle.pg_base.specs.Cells.{cell_of};
 
+use crate::paired::Paired;
 use bytes::BytesMut;
 use pg_base::fault::Fault;
 use pg_base::format::IsNull;
@@ -16,23 +18,28 @@ use std::alloc::Global;
 
 /// Reads the cell, of which `None` is NULL, as a `T`, and appends the value's cell.
 ///
-/// It answers `WrongType` with the name `rewrite` where `T` does not read or does not write the
-/// type, then the reading's fault, then the writing's. Every refusal leaves the buffer as it was.
-pub fn rewrite<'a, T: FromSql<'a> + ToSql>(
+/// It answers `WrongType` with the name `rewrite` where `T` does not accept the type, then the
+/// reading's fault, then the writing's. Every refusal leaves the buffer as it was. The cell that it
+/// makes is read as the value that was read, and is rewritten as itself.
+pub fn rewrite<'a, T: Paired<'a>>(
     alloc: Global,
     ty: &PgType,
     raw: Option<&'a [u8]>,
     out: &mut BytesMut,
 ) -> Result<IsNull, Fault>
-    ensures refuses { (T.FromSql.accepted (content ty.now) && T.ToSql.accepted (content ty.now)) ≡ false
+    ensures refuses { T.FromSql.accepted (content ty.now) ≡ false
         → Writes (Err (wrong_type (content ty.now) (codes "rewrite"))) out.old.items out.new.items result }
-    ensures never_memory { (T.FromSql.accepted (content ty.now) && T.ToSql.accepted (content ty.now)) ≡ false
-        → IsBuiltIn (content ty.now) → NeverMemory result }
-    ensures rewrites { IsTrue (T.FromSql.accepted (content ty.now) && T.ToSql.accepted (content ty.now))
+    ensures never_memory { T.FromSql.accepted (content ty.now) ≡ false → IsBuiltIn (content ty.now) → NeverMemory result }
+    ensures rewrites { IsTrue (T.FromSql.accepted (content ty.now))
         → Rewrites (T.reads (content ty.now)) (T.wire (content ty.now)) (cell_of raw.entry)
         out.old.items out.new.items result }
+    ensures made { IsTrue (T.FromSql.accepted (content ty.now))
+        → (v : T) → T.reads (content ty.now) (cell_of raw.entry) (Ok v)
+        → MadeCell (IsCellOf (T.reads (content ty.now)) (T.wire (content ty.now)) v) out.old.items out.new.items result }
+    ensures again { IsTrue (T.FromSql.accepted (content ty.now))
+        → MadeCell (IsRewrittenAsItself (T.reads (content ty.now)) (T.wire (content ty.now))) out.old.items out.new.items result }
 {
-    if !<T as FromSql<'a>>::accepts(ty) || !<T as ToSql>::accepts(ty) {
+    if !<T as FromSql<'a>>::accepts(ty) {
         return Err(wrong_type(ty, "rewrite"));
     }
     let value: T = from_sql_nullable(alloc, ty, raw)?;

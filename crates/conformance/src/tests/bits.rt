@@ -1,8 +1,8 @@
-use super::{reads, refusal, rewrites, writes};
 use pg_base::bits::laws::same_bits;
 use postgres_types::private::BytesMut;
 use postgres_types::protocol::{varbit_from_sql, varbit_to_sql};
 use postgres_types::{BitVec, Fault, Type};
+use rows::{reads, refusal, rewrites, writes};
 use std::alloc::Global;
 use std::test::Fail;
 
@@ -31,8 +31,8 @@ fn bits_have_their_cells(rt: HostRuntime) -> Result<(), Fail> {
     ];
     for (bits, cell) in &rows {
         for ty in &[Type::BIT, Type::VARBIT] {
-            writes(&rt, alloc, &list(alloc, *bits)?, ty, *cell)?;
-            reads(&rt, alloc, ty, *cell, list(alloc, *bits)?)?;
+            writes(alloc, &list(alloc, *bits)?, ty, *cell)?;
+            reads(alloc, ty, *cell, list(alloc, *bits)?)?;
         }
     }
     Ok(())
@@ -43,13 +43,12 @@ fn what_pads_the_last_byte_is_ignored_and_written_0(rt: HostRuntime) -> Result<(
     let alloc = rt.alloc();
     let cell = [0u8, 0, 0, 3, 0xbf];
     reads(
-        &rt,
         alloc,
         &Type::VARBIT,
         &cell,
         list(alloc, &[true, false, true])?,
     )?;
-    rewrites::<BitVec>(&rt, alloc, &Type::VARBIT, &cell, &[0, 0, 0, 3, 0xa0])?;
+    rewrites::<BitVec>(alloc, &Type::VARBIT, &cell, &[0, 0, 0, 3, 0xa0])?;
     let bits = varbit_from_sql(&cell)?;
     assert_eq!(rt; bits.len(), 3);
     assert_eq!(rt; bits.bytes(), [0xbf].as_slice());

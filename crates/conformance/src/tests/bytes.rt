@@ -1,9 +1,9 @@
 //! Bytes and frames: a table of rows for each format.
 
-use super::{read, refuses, spells, writes};
 use postgres_types::Type;
 use postgres_types::private::BytesMut;
 use postgres_types::protocol::{bytea_from_sql, bytea_to_sql, frame_to_sql};
+use rows::{read, refuses, spells, writes};
 use std::borrow::CowSlice;
 use std::test::Fail;
 
@@ -18,24 +18,24 @@ const FRAMES: [(Option<&[u8]>, &[u8]); 3] = [
 #[test]
 fn bytes_are_themselves(rt: HostRuntime) -> Result<(), Fail> {
     let alloc = rt.alloc();
-    spells(&rt, alloc, &Type::BYTEA, &BYTEA)?;
-    refuses::<&[u8]>(&rt, alloc, &Type::BYTEA, &[(None, 2)])?;
-    refuses::<Vec<u8>>(&rt, alloc, &Type::BYTEA, &[(None, 2)])?;
+    spells(alloc, &Type::BYTEA, &BYTEA)?;
+    refuses::<&[u8]>(alloc, &Type::BYTEA, &[(None, 2)])?;
+    refuses::<Vec<u8>>(alloc, &Type::BYTEA, &[(None, 2)])?;
     for (value, cell) in BYTEA {
         assert_eq!(rt; bytea_from_sql(cell), value);
         let owned = Vec::from_slice(alloc, value)?;
-        writes(&rt, alloc, &owned, &Type::BYTEA, cell)?;
+        writes(alloc, &owned, &Type::BYTEA, cell)?;
         assert!(rt; read::<Vec<u8>>(alloc, &Type::BYTEA, Some(cell))? == owned);
-        writes(&rt, alloc, &CowSlice::Borrowed(value), &Type::BYTEA, cell)?;
+        writes(alloc, &CowSlice::Borrowed(value), &Type::BYTEA, cell)?;
     }
-    writes(&rt, alloc, &[0u8, 0xff, 7], &Type::BYTEA, &[0, 0xff, 7])
+    writes(alloc, &[0u8, 0xff, 7], &Type::BYTEA, &[0, 0xff, 7])
 }
 
 #[test]
 fn no_bytes_are_not_null(rt: HostRuntime) -> Result<(), Fail> {
     let alloc = rt.alloc();
     let none: [u8; 0] = [];
-    writes(&rt, alloc, &none, &Type::BYTEA, &[])?;
+    writes(alloc, &none, &Type::BYTEA, &[])?;
     assert!(rt; read::<Vec<u8>>(alloc, &Type::BYTEA, Some(&[]))?.is_empty());
     Ok(())
 }

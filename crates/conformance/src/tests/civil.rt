@@ -1,11 +1,11 @@
 //! Dates, times of day and moments of `jiff`.
 
-use super::{made, read, reads, refuses, spells, writes};
 use jiff::Timestamp;
 use jiff::civil::{Date, DateTime, Time};
 use postgres_types::private::BytesMut;
 use postgres_types::protocol::{date_from_sql, date_to_sql, time_from_sql, time_to_sql};
 use postgres_types::{FromSql, ToSql, Type};
+use rows::{made, read, reads, refuses, spells, writes};
 use std::test::Fail;
 
 /// The last microsecond of a day, as a cell and as a time.
@@ -28,7 +28,7 @@ fn dates_are_days_from_2000(rt: HostRuntime) -> Result<(), Fail> {
         (Date::new(-9999, 1, 1)?, b"\xff\xbd\x20\xb0".as_slice()),
         (Date::new(9999, 12, 31)?, b"\x00\x2c\x95\xd3".as_slice()),
     ];
-    spells(&rt, alloc, &Type::DATE, rows.as_slice())?;
+    spells(alloc, &Type::DATE, rows.as_slice())?;
     let refused = [
         (Some(b"\xff\xbd\x20\xaf".as_slice()), 11),
         (Some(b"\x00\x2c\x95\xd4".as_slice()), 11),
@@ -38,7 +38,7 @@ fn dates_are_days_from_2000(rt: HostRuntime) -> Result<(), Fail> {
         (Some(b"\x00\x00\x03\xe8\x00".as_slice()), 4),
         (None, 2),
     ];
-    refuses::<Date>(&rt, alloc, &Type::DATE, refused.as_slice())
+    refuses::<Date>(alloc, &Type::DATE, refused.as_slice())
 }
 
 #[test]
@@ -49,9 +49,9 @@ fn times_are_microseconds_from_midnight(rt: HostRuntime) -> Result<(), Fail> {
         (Time::new(0, 0, 0, 1_000)?, &[0, 0, 0, 0, 0, 0, 0, 1]),
         (Time::new(23, 59, 59, 999_999_000)?, LAST.as_slice()),
     ];
-    spells(&rt, alloc, &Type::TIME, rows.as_slice())?;
+    spells(alloc, &Type::TIME, rows.as_slice())?;
     let finest = Time::new(23, 59, 59, 999_999_999)?;
-    writes(&rt, alloc, &finest, &Type::TIME, &LAST)?;
+    writes(alloc, &finest, &Type::TIME, &LAST)?;
     let refused = [
         (Some(b"\x00\x00\x00\x14\x1d\xd7\x60\x00".as_slice()), 11),
         (Some([0xffu8; 8].as_slice()), 11),
@@ -60,7 +60,7 @@ fn times_are_microseconds_from_midnight(rt: HostRuntime) -> Result<(), Fail> {
         (Some([0u8; 9].as_slice()), 4),
         (None, 2),
     ];
-    refuses::<Time>(&rt, alloc, &Type::TIME, refused.as_slice())
+    refuses::<Time>(alloc, &Type::TIME, refused.as_slice())
 }
 
 #[test]
@@ -77,7 +77,7 @@ fn datetimes_are_microseconds_from_2000(rt: HostRuntime) -> Result<(), Fail> {
             last.as_slice(),
         ),
     ];
-    spells(&rt, alloc, &Type::TIMESTAMP, rows.as_slice())?;
+    spells(alloc, &Type::TIMESTAMP, rows.as_slice())?;
     let before = (-378_651_801_600_000_001i64).to_be_bytes();
     let after = 252_455_616_000_000_000i64.to_be_bytes();
     let refused = [
@@ -89,7 +89,7 @@ fn datetimes_are_microseconds_from_2000(rt: HostRuntime) -> Result<(), Fail> {
         (Some([0u8; 7].as_slice()), 4),
         (None, 2),
     ];
-    refuses::<DateTime>(&rt, alloc, &Type::TIMESTAMP, refused.as_slice())
+    refuses::<DateTime>(alloc, &Type::TIMESTAMP, refused.as_slice())
 }
 
 #[test]
@@ -104,7 +104,7 @@ fn finer_datetimes_are_cut_toward_2000(rt: HostRuntime) -> Result<(), Fail> {
     ];
     for (date, time, cell) in rows {
         let moment = datetime(date, time)?;
-        writes(&rt, alloc, &moment, &Type::TIMESTAMP, &cell)?;
+        writes(alloc, &moment, &Type::TIMESTAMP, &cell)?;
     }
     Ok(())
 }
@@ -123,12 +123,12 @@ fn instants_are_microseconds_from_2000(rt: HostRuntime) -> Result<(), Fail> {
         (base, [0u8; 8].as_slice()),
         (Timestamp::MIN, first.as_slice()),
     ];
-    spells(&rt, alloc, &Type::TIMESTAMPTZ, rows.as_slice())?;
-    writes(&rt, alloc, &Timestamp::MAX, &Type::TIMESTAMPTZ, &last)?;
+    spells(alloc, &Type::TIMESTAMPTZ, rows.as_slice())?;
+    writes(alloc, &Timestamp::MAX, &Type::TIMESTAMPTZ, &last)?;
     let greatest = Timestamp::from_nanosecond(253_402_207_200_999_999_000)?;
-    reads(&rt, alloc, &Type::TIMESTAMPTZ, &last, greatest)?;
+    reads(alloc, &Type::TIMESTAMPTZ, &last, greatest)?;
     let early = Timestamp::from_nanosecond(946_684_799_999_998_500)?;
-    writes(&rt, alloc, &early, &Type::TIMESTAMPTZ, &[0xff; 8])?;
+    writes(alloc, &early, &Type::TIMESTAMPTZ, &[0xff; 8])?;
     let before = (-378_651_708_001_000_001i64).to_be_bytes();
     let after = 252_455_522_401_000_000i64.to_be_bytes();
     let refused = [
@@ -139,7 +139,7 @@ fn instants_are_microseconds_from_2000(rt: HostRuntime) -> Result<(), Fail> {
         (Some([0u8; 9].as_slice()), 4),
         (None, 2),
     ];
-    refuses::<Timestamp>(&rt, alloc, &Type::TIMESTAMPTZ, refused.as_slice())
+    refuses::<Timestamp>(alloc, &Type::TIMESTAMPTZ, refused.as_slice())
 }
 
 #[test]

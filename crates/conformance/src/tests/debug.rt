@@ -1,11 +1,11 @@
 //! The forms of Debug.
 
-use super::made;
 use postgres_types::protocol::{inet_from_sql, varbit_from_sql};
 use postgres_types::{
     BitVec, Field, Format, IpCidr, IpInet, IsNull, Kind, MacAddress, PgLsn, Type, UnixTime,
     WrongType,
 };
+use rows::made;
 use std::alloc::Global;
 use std::fmt::Debug;
 use std::net::{IpAddr, Ipv4Addr};

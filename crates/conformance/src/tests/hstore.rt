@@ -1,7 +1,7 @@
-use super::{made, read, refusal, rewrites, writes};
 use postgres_types::private::BytesMut;
 use postgres_types::protocol::{hstore_from_sql, hstore_to_sql};
 use postgres_types::{Fault, Type};
+use rows::{made, read, refusal, rewrites, writes};
 use std::alloc::Global;
 use std::collections::HashMap;
 use std::hash::{BuildHasherDefault, DefaultHasher};
@@ -50,8 +50,8 @@ fn the_last_of_equal_keys_stays(rt: HostRuntime) -> Result<(), Fail> {
     let map: Map = read(alloc, &ty, Some(&TWICE))?;
     assert_eq!(rt; map.len(), 1);
     assert_eq!(rt; value_of(&map, "a"), Some(None));
-    rewrites::<Map>(&rt, alloc, &ty, &TWICE, &NULL)?;
-    rewrites::<SipMap>(&rt, alloc, &ty, &TWICE, &NULL)
+    rewrites::<Map>(alloc, &ty, &TWICE, &NULL)?;
+    rewrites::<SipMap>(alloc, &ty, &TWICE, &NULL)
 }
 
 #[test]
@@ -59,14 +59,14 @@ fn maps_are_written_in_key_order(rt: HostRuntime) -> Result<(), Fail> {
     let alloc = rt.alloc();
     let ty = hstore(alloc)?;
     let mut map = Map::new(alloc);
-    writes(&rt, alloc, &map, &ty, &[0, 0, 0, 0])?;
+    writes(alloc, &map, &ty, &[0, 0, 0, 0])?;
     put(alloc, &mut map, "c", None)?;
     put(alloc, &mut map, "a", Some("b"))?;
-    writes(&rt, alloc, &map, &ty, &TWO)?;
+    writes(alloc, &map, &ty, &TWO)?;
     let mut map = Map::new(alloc);
     put(alloc, &mut map, "a", Some("b"))?;
     put(alloc, &mut map, "c", None)?;
-    writes(&rt, alloc, &map, &ty, &TWO)?;
+    writes(alloc, &map, &ty, &TWO)?;
     let map: Map = read(alloc, &ty, Some(&TWO))?;
     assert_eq!(rt; map.len(), 2);
     assert_eq!(rt; value_of(&map, "a"), Some(Some("b")));

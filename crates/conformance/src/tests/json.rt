@@ -1,8 +1,8 @@
 //! Documents, as `serde_json::Value`.
 
-use super::{read, reads, refusal, refuses, rewrites, writes};
 use postgres_types::private::BytesMut;
 use postgres_types::{FromSql, ToSql, Type};
+use rows::{made, read, reads, refusal, refuses, writes};
 use serde::{Deserialize, Serialize};
 use serde_json::{Value, json};
 use std::alloc::Global;
@@ -55,9 +55,9 @@ fn a_text_is_read_as_its_document(rt: HostRuntime) -> Result<(), Fail> {
         ("{\"a\":1.5,\"a\":2}", json!(in alloc; {"a": 2})?),
     ];
     for (text, value) in rows {
-        reads(&rt, alloc, &Type::JSON, text.as_bytes(), value.clone()?)?;
+        reads(alloc, &Type::JSON, text.as_bytes(), value.clone()?)?;
         let cell = jsonb(alloc, text.as_bytes())?;
-        reads(&rt, alloc, &Type::JSONB, cell.as_slice(), value)?;
+        reads(alloc, &Type::JSONB, cell.as_slice(), value)?;
     }
     Ok(())
 }
@@ -77,23 +77,18 @@ fn a_document_is_written_as_its_compact_text(rt: HostRuntime) -> Result<(), Fail
         (json!(in alloc; "\u{e9}\"\n")?, "\"\u{e9}\\\"\\n\""),
     ];
     for (value, text) in rows {
-        writes(&rt, alloc, &value, &Type::JSON, text.as_bytes())?;
+        writes(alloc, &value, &Type::JSON, text.as_bytes())?;
         let cell = jsonb(alloc, text.as_bytes())?;
-        writes(&rt, alloc, &value, &Type::JSONB, cell.as_slice())?;
+        writes(alloc, &value, &Type::JSONB, cell.as_slice())?;
     }
-    writes(
-        &rt,
-        alloc,
-        &Value::Null,
-        &Type::JSON,
-        &[0x6e, 0x75, 0x6c, 0x6c],
-    )?;
+    writes(alloc, &Value::Null, &Type::JSON, &[0x6e, 0x75, 0x6c, 0x6c])?;
     let written = b"\x01{\"a\":[true,null],\"b\":1}";
     for cell in [
         b"\x01{\"b\":1,\"a\":[true,null]}".as_slice(),
         b"\x01 { \"b\" : 1, \"a\" : [ true, null ] } ",
     ] {
-        rewrites::<Value>(&rt, alloc, &Type::JSONB, cell, written)?;
+        let document: Value = read(alloc, &Type::JSONB, Some(cell))?;
+        writes(alloc, &document, &Type::JSONB, written)?;
     }
     Ok(())
 }
@@ -119,7 +114,7 @@ fn a_damaged_cell_is_refused_by_its_first_check(rt: HostRuntime) -> Result<(), F
         (Some(&[1]), 15),
         (None, 2),
     ];
-    refuses::<Value>(&rt, alloc, &Type::JSONB, &versions)?;
+    refuses::<Value>(alloc, &Type::JSONB, &versions)?;
     assert_eq!(rt;
         refusal::<Value>(alloc, &Type::JSON, Some(&[1, 0x7b, 0x7d])),
         15
@@ -179,7 +174,7 @@ fn documents_accept_json_and_jsonb(rt: HostRuntime) -> Result<(), Fail> {
         (Type::JSONB, true),
         (Type::TEXT, false),
         (Type::JSON_ARRAY, false),
-        (super::made(alloc, "json", 114, "pg_catalog")?, false),
+        (rows::made(alloc, "json", 114, "pg_catalog")?, false),
     ] {
         assert_eq!(rt; <Value as FromSql>::accepts(&ty), accepted);
         assert_eq!(rt; <Value as ToSql>::accepts(&ty), accepted);

@@ -1,8 +1,8 @@
-use super::{reads, refusal, writes};
 use pg_base::lsn::laws::{position_order, printed_position_parses, same_position};
 use postgres_types::private::BytesMut;
 use postgres_types::protocol::{lsn_from_sql, lsn_to_sql};
 use postgres_types::{ParseLsnError, PgLsn, Type};
+use rows::{reads, refusal, writes};
 use std::cmp::Ordering;
 use std::test::Fail;
 
@@ -61,10 +61,10 @@ fn positions_are_their_numbers(rt: HostRuntime) -> Result<(), Fail> {
     assert!(rt; !same_position(&low, &high));
     let cell = [0u8, 0, 0, 0x16, 0xB3, 0x74, 0xD8, 0x48];
     let lsn = PgLsn::from(0x16_B374_D848);
-    writes(&rt, alloc, &lsn, &Type::PG_LSN, &cell)?;
-    reads(&rt, alloc, &Type::PG_LSN, &cell, lsn)?;
+    writes(alloc, &lsn, &Type::PG_LSN, &cell)?;
+    reads(alloc, &Type::PG_LSN, &cell, lsn)?;
     let last = [0xffu8; 8];
-    reads(&rt, alloc, &Type::PG_LSN, &last, PgLsn::from(u64::MAX))?;
+    reads(alloc, &Type::PG_LSN, &last, PgLsn::from(u64::MAX))?;
     assert_eq!(rt; refusal::<PgLsn>(alloc, &Type::PG_LSN, Some(&cell[1..])), 4);
     assert_eq!(rt; refusal::<PgLsn>(alloc, &Type::PG_LSN, None), 2);
     assert_eq!(rt; refusal::<PgLsn>(alloc, &Type::INT8, Some(&cell)), 21);

@@ -1,17 +1,10 @@
-use super::{reads, refusal, writes};
 use pg_base::unix_time::laws::{moment_order, same_moment};
 use postgres_types::private::BytesMut;
 use postgres_types::protocol::{timestamp_from_sql, timestamp_to_sql};
 use postgres_types::{ToSql, Type, UnixTime};
+use rows::{reads, refusal, unix, writes};
 use std::cmp::Ordering;
 use std::test::Fail;
-
-fn unix(secs: i64, nanos: u32) -> Result<UnixTime, Fail> {
-    match UnixTime::new(secs, nanos) {
-        Some(moment) => Ok(moment),
-        None => Err(Fail::from("no moment")),
-    }
-}
 
 #[test]
 fn moments_are_microseconds(rt: HostRuntime) -> Result<(), Fail> {
@@ -28,8 +21,8 @@ fn moments_are_microseconds(rt: HostRuntime) -> Result<(), Fail> {
     for (secs, nanos, cell) in rows {
         let moment = unix(secs, nanos)?;
         for ty in [Type::TIMESTAMP, Type::TIMESTAMPTZ] {
-            writes(&rt, alloc, &moment, &ty, &cell)?;
-            reads(&rt, alloc, &ty, &cell, moment)?;
+            writes(alloc, &moment, &ty, &cell)?;
+            reads(alloc, &ty, &cell, moment)?;
         }
     }
     let mut out = BytesMut::new(alloc);
@@ -54,7 +47,7 @@ fn finer_moments_are_cut_toward_2000(rt: HostRuntime) -> Result<(), Fail> {
         (946_684_800, 1_999, [0, 0, 0, 0, 0, 0, 0, 1]),
     ];
     for (secs, nanos, cell) in rows {
-        writes(&rt, alloc, &unix(secs, nanos)?, &Type::TIMESTAMP, &cell)?;
+        writes(alloc, &unix(secs, nanos)?, &Type::TIMESTAMP, &cell)?;
     }
     let far = [
         (9_224_318_721_654, 775_808_000),

@@ -1,10 +1,9 @@
 //! The names of Rust types in the fault of a type that is not accepted.
 
-use super::made;
 use jiff::Timestamp;
 use jiff::civil::{Date, DateTime, Time};
-use postgres_types::private::BytesMut;
-use postgres_types::{BitVec, IpCidr, IpInet, MacAddress, PgLsn, ToSql, Type, UnixTime};
+use postgres_types::{BitVec, IpCidr, IpInet, MacAddress, PgLsn, ToSql, UnixTime};
+use rows::{made, refuses_type};
 use serde_json::Value;
 use std::alloc::Global;
 use std::borrow::{CowSlice, CowStr};
@@ -22,18 +21,7 @@ fn refuses_odd<T: ToSql>(
     name: &str,
 ) -> Result<(), Fail> {
     let odd = made(alloc, "odd", 99_999, "public")?;
-    let mut out = BytesMut::new(alloc);
-    let Err(fault) = value.to_sql_checked(alloc, &odd, &mut out) else {
-        return Err(Fail::from("accepted"));
-    };
-    assert_eq!(rt; fault.code(), 3);
-    let text = format!(in alloc; "{fault}")?;
-    let expected = format!(in alloc;
-        "cannot convert between the Rust type `{name}` and the Postgres type `odd`"
-    )?;
-    assert_eq!(rt; text.as_str(), expected.as_str());
-    assert!(rt; out.is_empty());
-    Ok(())
+    refuses_type(alloc, value, &odd, name)
 }
 
 #[test]

@@ -1,10 +1,10 @@
-use super::{reads, refusal, rewrites, writes};
 use pg_base::network::laws::{same_cidr, same_inet, same_mac_address};
 use postgres_types::private::BytesMut;
 use postgres_types::protocol::{
     inet_from_sql, inet_to_sql, macaddr_from_sql, macaddr_to_sql, uuid_from_sql, uuid_to_sql,
 };
 use postgres_types::{Fault, IpCidr, IpInet, MacAddress, Type};
+use rows::{reads, refusal, rewrites, writes};
 use std::net::{IpAddr, Ipv4Addr, Ipv6Addr};
 use std::test::Fail;
 use uuid::Uuid;
@@ -36,52 +36,34 @@ fn addresses_have_their_bytes(rt: HostRuntime) -> Result<(), Fail> {
         3u8, 0x80, 0, 0x10, 0, 0, 0, 0, 0, 0, 0, 0, 0, 0, 0, 0, 0, 0, 0, 1,
     ];
     let local = IpAddr::V6(Ipv6Addr::LOCALHOST);
-    writes(&rt, alloc, &local, &Type::INET, &one)?;
-    reads(&rt, alloc, &Type::INET, &one, local)?;
+    writes(alloc, &local, &Type::INET, &one)?;
+    reads(alloc, &Type::INET, &one, local)?;
     let distinct = [
         3u8, 65, 0, 16, 1, 2, 3, 4, 5, 6, 7, 8, 9, 10, 11, 12, 13, 14, 15, 16,
     ];
     let far = Ipv6Addr::new(0x102, 0x304, 0x506, 0x708, 0x90a, 0xb0c, 0xd0e, 0xf10);
     let far = IpInet::new(IpAddr::V6(far), 65)?;
-    writes(&rt, alloc, &far, &Type::INET, &distinct)?;
-    reads(&rt, alloc, &Type::INET, &distinct, far)?;
+    writes(alloc, &far, &Type::INET, &distinct)?;
+    reads(alloc, &Type::INET, &distinct, far)?;
 
     let host = [2u8, 8, 0, 4, 10, 1, 2, 3];
-    reads(&rt, alloc, &Type::INET, &host, ten(1, 2, 3))?;
-    reads(
-        &rt,
-        alloc,
-        &Type::INET,
-        &host,
-        IpInet::new(ten(1, 2, 3), 8)?,
-    )?;
+    reads(alloc, &Type::INET, &host, ten(1, 2, 3))?;
+    reads(alloc, &Type::INET, &host, IpInet::new(ten(1, 2, 3), 8)?)?;
     let alone = [2u8, 0x20, 0, 4, 10, 1, 2, 3];
-    rewrites::<IpAddr>(&rt, alloc, &Type::INET, &host, &alone)?;
-    rewrites::<IpInet>(&rt, alloc, &Type::INET, &host, &host)?;
+    rewrites::<IpAddr>(alloc, &Type::INET, &host, &alone)?;
+    rewrites::<IpInet>(alloc, &Type::INET, &host, &host)?;
 
     let flagged = [2u8, 8, 1, 4, 10, 0, 0, 0];
     let network = [2u8, 8, 0, 4, 10, 0, 0, 0];
-    reads(
-        &rt,
-        alloc,
-        &Type::CIDR,
-        &flagged,
-        IpCidr::new(ten(0, 0, 0), 8)?,
-    )?;
-    rewrites::<IpCidr>(&rt, alloc, &Type::CIDR, &flagged, &network)?;
-    writes(
-        &rt,
-        alloc,
-        &IpCidr::new(ten(0, 0, 0), 8)?,
-        &Type::CIDR,
-        &network,
-    )?;
+    reads(alloc, &Type::CIDR, &flagged, IpCidr::new(ten(0, 0, 0), 8)?)?;
+    rewrites::<IpCidr>(alloc, &Type::CIDR, &flagged, &network)?;
+    writes(alloc, &IpCidr::new(ten(0, 0, 0), 8)?, &Type::CIDR, &network)?;
 
     let cell = v6_cell(64, 0);
     let first = Ipv6Addr::new(0x2001, 0xdb8, 0, 0, 0, 0, 0, 0);
     let network = IpCidr::new(IpAddr::V6(first), 64)?;
-    writes(&rt, alloc, &network, &Type::CIDR, &cell)?;
-    reads(&rt, alloc, &Type::CIDR, &cell, network)
+    writes(alloc, &network, &Type::CIDR, &cell)?;
+    reads(alloc, &Type::CIDR, &cell, network)
 }
 
 #[test]
@@ -157,8 +139,8 @@ fn hardware_addresses_are_their_bytes(rt: HostRuntime) -> Result<(), Fail> {
     let alloc = rt.alloc();
     let cell = [8u8, 0, 0x2b, 1, 2, 3];
     let address = MacAddress::new([8, 0, 0x2b, 1, 2, 3]);
-    writes(&rt, alloc, &address, &Type::MACADDR, &cell)?;
-    reads(&rt, alloc, &Type::MACADDR, &cell, address)?;
+    writes(alloc, &address, &Type::MACADDR, &cell)?;
+    reads(alloc, &Type::MACADDR, &cell, address)?;
     assert_eq!(rt;
         refusal::<MacAddress>(alloc, &Type::MACADDR, Some(&cell[1..])),
         4
@@ -175,8 +157,8 @@ fn uuids_are_their_bytes(rt: HostRuntime) -> Result<(), Fail> {
         0x11,
     ];
     let uuid = Uuid::from_u128(0xa0eebc99_9c0b_4ef8_bb6d_6bb9bd380a11);
-    writes(&rt, alloc, &uuid, &Type::UUID, &cell)?;
-    reads(&rt, alloc, &Type::UUID, &cell, uuid)?;
+    writes(alloc, &uuid, &Type::UUID, &cell)?;
+    reads(alloc, &Type::UUID, &cell, uuid)?;
     assert_eq!(rt; refusal::<Uuid>(alloc, &Type::UUID, Some(&cell[1..])), 4);
     assert_eq!(rt; refusal::<Uuid>(alloc, &Type::UUID, None), 2);
     Ok(())

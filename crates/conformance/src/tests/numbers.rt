@@ -1,11 +1,11 @@
 //! Whole numbers and truth values: a table of rows for each format.
 
-use super::{made, read, refuses, rewrites, spells, writes};
 use postgres_types::private::BytesMut;
 use postgres_types::protocol::{
     bool_from_sql, bool_to_sql, char_to_sql, int2_to_sql, int4_to_sql, int8_to_sql, oid_to_sql,
 };
 use postgres_types::{FromSql, ToSql, Type, rewrite, to_sql_checked_as};
+use rows::{made, read, refuses, rewrites, spells, writes};
 use std::test::Fail;
 
 const BOOL: [(bool, &[u8]); 2] = [(false, &[0]), (true, &[1])];
@@ -42,50 +42,44 @@ const OID: [(u32, &[u8]); 3] = [
 #[test]
 fn numbers_have_their_bytes(rt: HostRuntime) -> Result<(), Fail> {
     let alloc = rt.alloc();
-    spells(&rt, alloc, &Type::BOOL, &BOOL)?;
-    spells(&rt, alloc, &Type::CHAR, &CHAR)?;
-    spells(&rt, alloc, &Type::INT2, &INT2)?;
-    spells(&rt, alloc, &Type::INT4, &INT4)?;
-    spells(&rt, alloc, &Type::INT8, &INT8)?;
-    spells(&rt, alloc, &Type::OID, &OID)?;
-    writes(&rt, alloc, &&&7i32, &Type::INT4, &[0, 0, 0, 7])
+    spells(alloc, &Type::BOOL, &BOOL)?;
+    spells(alloc, &Type::CHAR, &CHAR)?;
+    spells(alloc, &Type::INT2, &INT2)?;
+    spells(alloc, &Type::INT4, &INT4)?;
+    spells(alloc, &Type::INT8, &INT8)?;
+    spells(alloc, &Type::OID, &OID)?;
+    writes(alloc, &&&7i32, &Type::INT4, &[0, 0, 0, 7])
 }
 
 #[test]
 fn another_length_is_size_and_null_is_was_null(rt: HostRuntime) -> Result<(), Fail> {
     let alloc = rt.alloc();
     refuses::<bool>(
-        &rt,
         alloc,
         &Type::BOOL,
         &[(Some(&[]), 4), (Some(&[0, 1]), 4), (None, 2)],
     )?;
     refuses::<i8>(
-        &rt,
         alloc,
         &Type::CHAR,
         &[(Some(&[]), 4), (Some(&[0, 1]), 4), (None, 2)],
     )?;
     refuses::<i16>(
-        &rt,
         alloc,
         &Type::INT2,
         &[(Some(&[1]), 4), (Some(&[0, 0, 1]), 4), (None, 2)],
     )?;
     refuses::<i32>(
-        &rt,
         alloc,
         &Type::INT4,
         &[(Some(&[0, 0, 1]), 4), (Some(&[0; 5]), 4), (None, 2)],
     )?;
     refuses::<i64>(
-        &rt,
         alloc,
         &Type::INT8,
         &[(Some(&[0, 0, 0, 1]), 4), (Some(&[0; 9]), 4), (None, 2)],
     )?;
     refuses::<u32>(
-        &rt,
         alloc,
         &Type::OID,
         &[(Some(&[]), 4), (Some(&[0; 8]), 4), (None, 2)],
@@ -139,7 +133,7 @@ fn any_byte_but_zero_is_true(rt: HostRuntime) -> Result<(), Fail> {
     let alloc = rt.alloc();
     for byte in [1u8, 2, 0x80, 0xff] {
         assert!(rt; bool_from_sql(&[byte])?);
-        rewrites::<bool>(&rt, alloc, &Type::BOOL, &[byte], &[1])?;
+        rewrites::<bool>(alloc, &Type::BOOL, &[byte], &[1])?;
     }
     Ok(())
 }

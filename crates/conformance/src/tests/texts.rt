@@ -1,12 +1,12 @@
 //! Texts: a table of rows for each format.
 
-use super::{made, made_of, read, refusal, refuses, spells, writes};
 use postgres_types::private::BytesMut;
 use postgres_types::protocol::{
     lquery_from_sql, lquery_to_sql, ltree_from_sql, ltree_to_sql, ltxtquery_from_sql,
     ltxtquery_to_sql, text_from_sql, text_to_sql,
 };
 use postgres_types::{FromSql, Kind, Type};
+use rows::{made, made_of, read, refusal, refuses, spells, writes};
 use std::borrow::CowStr;
 use std::boxed::BoxedStr;
 use std::test::Fail;
@@ -49,21 +49,15 @@ fn texts_are_their_bytes(rt: HostRuntime) -> Result<(), Fail> {
         Type::NAME,
         Type::UNKNOWN,
     ] {
-        spells(&rt, alloc, &ty, &TEXT)?;
-        refuses::<&str>(&rt, alloc, &ty, &DAMAGED_TEXT)?;
+        spells(alloc, &ty, &TEXT)?;
+        refuses::<&str>(alloc, &ty, &DAMAGED_TEXT)?;
     }
     let citext = made(alloc, "citext", 100_004, "app")?;
-    spells(&rt, alloc, &citext, &TEXT)?;
+    spells(alloc, &citext, &TEXT)?;
     let text = String::from_str(alloc, "\u{e9}")?;
-    writes(&rt, alloc, &text, &Type::TEXT, &[0xc3, 0xa9])?;
-    writes(
-        &rt,
-        alloc,
-        &text.into_boxed_str(),
-        &Type::NAME,
-        &[0xc3, 0xa9],
-    )?;
-    writes(&rt, alloc, &CowStr::Borrowed("x"), &Type::BPCHAR, b"x")
+    writes(alloc, &text, &Type::TEXT, &[0xc3, 0xa9])?;
+    writes(alloc, &text.into_boxed_str(), &Type::NAME, &[0xc3, 0xa9])?;
+    writes(alloc, &CowStr::Borrowed("x"), &Type::BPCHAR, b"x")
 }
 
 #[test]
@@ -71,8 +65,8 @@ fn some_texts_have_a_version(rt: HostRuntime) -> Result<(), Fail> {
     let alloc = rt.alloc();
     for name in ["ltree", "lquery", "ltxtquery"] {
         let ty = made(alloc, name, 100_001, "app")?;
-        spells(&rt, alloc, &ty, &VERSIONED)?;
-        refuses::<String>(&rt, alloc, &ty, &DAMAGED_VERSIONED)?;
+        spells(alloc, &ty, &VERSIONED)?;
+        refuses::<String>(alloc, &ty, &DAMAGED_VERSIONED)?;
     }
     Ok(())
 }

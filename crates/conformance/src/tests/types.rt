@@ -1,5 +1,5 @@
-use super::made;
 use postgres_types::{Field, Kind, KindRef, Type};
+use rows::made;
 use std::test::Fail;
 
 #[test]

@@ -1,12 +1,17 @@
 //! Arrays.
-ghost use Rattle.std.specs.Prelude.{suc, zero};
-ghost use Rattle.pg_base.specs.Arrays.{SpellsDimensions, SpellsHead, TakesElement, dimension_checks, head_checks};
+ghost use Rattle.std.specs.Prelude.{suc, zero, ◌≡◌, ◌≤◌, ◌*◌, length, map, IfOk};
+ghost use Rattle.pg_base.specs.Arrays.{SpellsDimensions, SpellsHead, TakesElement, dimension_checks, head_checks, array_bytes, array_head, flags_of, owned_cell};
 ghost use Rattle.pg_base.specs.Counts.{ToRead};
 ghost use Rattle.pg_base.specs.Faults.{Answers, NeverMemory};
 ghost use Rattle.pg_base.specs.Formats.{Decodes, first_fault_of};
+ghost use Rattle.pg_base.specs.Appending.{Appends, Extends, HasRoomFor, Measures};
+ghost use Rattle.pg_base.specs.Cells.{cell_of, frames};
 
 use super::counts::{split_cell, split_count};
+use super::frames::{extend_by_frame, frame_len};
 use crate::fault::Fault;
+use crate::types::Oid;
+use bytes::BytesMut;
 use std::alloc::Global;
 use std::marker::Model;
 
@@ -90,4 +95,88 @@ impl<'a> ArrayCells<'a> {
             }
         }
     }
+}
+
+/// The most cells of an array.
+const MAX_CELLS: usize = 2_147_483_647;
+
+/// The bytes in front of the cells' frames.
+const HEAD_LEN: usize = 20;
+
+/// Appends an array of one dimension (`array_send`): in 4 bytes each, highest first, the number 1
+/// of dimensions, the flags, which are 1 where a cell is NULL and else 0, the OID of the members'
+/// type, the number of cells, and the lower bound; and then the frames of the cells, in the order
+/// of the list. Where the number of cells or the length of a cell passes 2,147,483,647 it answers
+/// `Transmit`.
+pub fn array_to_sql(
+    _alloc: Global,
+    lower_bound: i32,
+    oid: Oid,
+    cells: &[Option<Vec<u8>>],
+    out: &mut BytesMut,
+) -> Result<(), Fault>
+    ensures { Appends (array_bytes lower_bound oid (map owned_cell cells.now)) out.old out.new result }
+{
+    if cells.len() > MAX_CELLS {
+        return Err(Fault::Transmit);
+    }
+    out.reserve(HEAD_LEN + frames_len(cells)?)?;
+    extend_by_head(lower_bound, oid, cells, out);
+    extend_by_frames(cells, out);
+    Ok(())
+}
+
+/// How many bytes the frames of so few cells take.
+fn frames_len(cells: &[Option<Vec<u8>>]) -> Result<usize, Fault>
+    requires { length cells.now ≤ 2147483647 }
+    ensures len { Measures (frames (map owned_cell cells.now)) result }
+    ensures short { IfOk result (λ n. n ≤ 2147483647 * 2147483651) }
+{
+    let mut len = 0;
+    for cell in cells {
+        len += frame_len(bytes_of(cell))?;
+    }
+    Ok(len)
+}
+
+/// Appends what stands in front of the frames of so few cells. There is room for it.
+fn extend_by_head(lower_bound: i32, oid: Oid, cells: &[Option<Vec<u8>>], out: &mut BytesMut)
+    requires few { length cells.now ≤ 2147483647 }
+    requires room { 20 ≤ out.now.spare }
+    ensures { Extends (array_head lower_bound oid (map owned_cell cells.now)) out.old out.new }
+{
+    out.extend_reserved(&1i32.to_be_bytes());
+    out.extend_reserved(&flags_of(cells).to_be_bytes());
+    out.extend_reserved(&oid.to_be_bytes());
+    out.extend_reserved(&(cells.len() as i32).to_be_bytes());
+    out.extend_reserved(&lower_bound.to_be_bytes());
+}
+
+/// The flags of an array of the cells.
+fn flags_of(cells: &[Option<Vec<u8>>]) -> i32
+    ensures { result ≡ flags_of (map owned_cell cells.now) }
+{
+    for cell in cells {
+        if cell.is_none() {
+            return 1;
+        }
+    }
+    0
+}
+
+/// Appends the frames of the cells. Each has one, and there is room for them.
+fn extend_by_frames(cells: &[Option<Vec<u8>>], out: &mut BytesMut)
+    requires { HasRoomFor (frames (map owned_cell cells.now)) out.now.spare }
+    ensures { Extends (frames (map owned_cell cells.now)) out.old out.new }
+{
+    for cell in cells {
+        extend_by_frame(bytes_of(cell), out);
+    }
+}
+
+/// The bytes of the cell, lent.
+fn bytes_of(cell: &Option<Vec<u8>>) -> Option<&[u8]>
+    ensures { cell_of result ≡ owned_cell cell.now }
+{
+    cell.as_ref().map(|bytes| bytes.as_slice())
 }

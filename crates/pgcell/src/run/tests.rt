@@ -1,7 +1,9 @@
 mod rows;
 
 use super::{BLOCK, RunFault, run};
-use rows::{NUMBERS_AND_TEXTS, POSITIONS, SMALL_TYPES, TYPES, WORDS};
+use rows::{
+    ALONE, ARRAYS, LISTED, MOMENTS, NUMBERS_AND_TEXTS, POSITIONS, SMALL_TYPES, TYPES, WORDS,
+};
 use std::alloc::Global;
 use std::io;
 use std::io::{Error, ErrorKind, Read, Write};
@@ -161,7 +163,65 @@ fn each_line_has_its_answer(rt: HostRuntime) -> Result<(), Fail> {
     answers_rows(&rt, alloc, &NUMBERS_AND_TEXTS)?;
     answers_rows(&rt, alloc, &TYPES)?;
     answers_rows(&rt, alloc, &SMALL_TYPES)?;
+    answers_rows(&rt, alloc, &MOMENTS)?;
+    answers_rows(&rt, alloc, &ARRAYS)?;
     answers_rows(&rt, alloc, &POSITIONS)
+}
+
+/// What `norm` answers to a name and digits, with a byte 10 behind it.
+fn rewritten(alloc: Global, name: &[u8], form: &[u8], digits: &[u8]) -> Result<Vec<u8>, Fail> {
+    let mut line = Vec::new(alloc);
+    line.extend_from_slice(b"norm ")?;
+    line.extend_from_slice(name)?;
+    line.extend_from_slice(form)?;
+    line.push(b' ')?;
+    line.extend_from_slice(digits)?;
+    answers_to(alloc, line.as_slice(), ROOM)
+}
+
+/// The cell is rewritten, and what comes of that is rewritten as it is.
+fn stays_when_rewritten(
+    rt: &impl Abort,
+    alloc: Global,
+    name: &[u8],
+    form: &[u8],
+    digits: &[u8],
+) -> Result<(), Fail> {
+    let first = rewritten(alloc, name, form, digits)?;
+    let Some(digits) = first.as_slice().strip_prefix(b"ok ") else {
+        return Err(Fail::from("a refused cell"));
+    };
+    let again = rewritten(alloc, name, form, digits)?;
+    assert!(rt; again == first);
+    Ok(())
+}
+
+/// The digits of an array of one member, whose digits these are.
+fn array_of(alloc: Global, digits: &[u8]) -> Result<Vec<u8>, Fail> {
+    let mut array = Vec::new(alloc);
+    array.extend_from_slice(b"0000000100000000000000000000000100000007")?;
+    let length = digits.len() / 2;
+    let length = format!(in alloc; "{length:08x}")?;
+    array.extend_from_slice(length.as_bytes())?;
+    array.extend_from_slice(digits)?;
+    Ok(array)
+}
+
+#[test]
+fn what_was_rewritten_stays(rt: HostRuntime) -> Result<(), Fail> {
+    let alloc = rt.alloc();
+    for (name, digits) in ALONE {
+        stays_when_rewritten(&rt, alloc, name, b"", digits)?;
+        stays_when_rewritten(&rt, alloc, name, b"?", digits)?;
+    }
+    for (name, digits) in LISTED {
+        stays_when_rewritten(&rt, alloc, name, b"", digits)?;
+        stays_when_rewritten(&rt, alloc, name, b"?", digits)?;
+        let array = array_of(alloc, digits)?;
+        stays_when_rewritten(&rt, alloc, name, b"[]", array.as_slice())?;
+        stays_when_rewritten(&rt, alloc, name, b"?[]", array.as_slice())?;
+    }
+    Ok(())
 }
 
 #[test]

@@ -2,7 +2,7 @@ use Rattle.std.proofs.Common.{map, sym, ap, ◌∙◌}
 use Rattle.std.proofs.lemmas.Int.{to_z-of_z}
 use Rattle.std.specs.Cow.{cow_value}
 use Rattle.std.specs.Int.{w32}
-use Rattle.pg_base.specs.ArrayWriting.{owned_cell}
+use Rattle.pg_base.specs.Arrays.{owned_cell}
 use Rattle.pg_base.specs.Content.{content, oid_of}
 use Rattle.pg_base.specs.Lists.{member_of_kind}
 use Rattle.pg_base.specs.Seen.{seen}

@@ -3,7 +3,7 @@ use Rattle.postgres_types.specs.Lsn.{lsn_of}
 use Rattle.pgcell.proofs.Outcomes.{ok_weaker, on_ok}
 use Rattle.pgcell.proofs.Printing.{answers_line}
 use Rattle.pgcell.specs.Answer.{AnswersType, printed_lsn}
-use Rattle.pgcell.specs.Norm.{AnswersBase}
+use Rattle.pgcell.specs.Norm.{AnswersNorm}
 use Rattle.pgcell.specs.Request.{norm, type_of, lsn, seen_bytes}
 use Rattle.pgcell.proofs.answer.answer.Goals as goal
 
@@ -24,7 +24,7 @@ returns-in-Some-Norm-clause-ok c =
     let new = c.norm.new.pending.items in
     let asked = rw c.in-Some-Norm.field-0-is at (rw c.in-Some-Norm.is at c.in_ok-parse.ensures) in
     let told = rw c.lent.ensures at c.norm.ensures.ok in
-    ok_weaker {P = (text : List ℕ) × AnswersBase conversion.base conversion.optional cell text × (new ≡ old ++ text)} c.norm.result
+    ok_weaker {P = (text : List ℕ) × AnswersNorm conversion cell text × (new ≡ old ++ text)} c.norm.result
     (λ answer. (answer.0, answers_line c.args.line.now (Some (norm conversion cell)) answer.0 asked answer.1, answer.2)) told
 
 pub returns-in-Some-TypeOf-clause-ok : goal.returns-in-Some-TypeOf-clause-ok

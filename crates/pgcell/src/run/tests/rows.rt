@@ -34,7 +34,7 @@ pub const WORDS: [(&[u8], &[u8]); 29] = [
 ];
 
 /// Numbers, texts and bytes.
-pub const NUMBERS_AND_TEXTS: [(&[u8], &[u8]); 24] = [
+pub const NUMBERS_AND_TEXTS: [(&[u8], &[u8]); 23] = [
     (b"norm bool 02", b"ok 01"),
     (b"norm bool? NULL", b"null"),
     (b"norm bool -", b"refused 4"),
@@ -58,7 +58,6 @@ pub const NUMBERS_AND_TEXTS: [(&[u8], &[u8]); 24] = [
     (b"norm ltree 01612E62", b"ok 01612e62"),
     (b"norm ltree 01ff", b"refused 5"),
     (b"norm ltree? NULL", b"null"),
-    (b"norm hstore[] -", b"bad line"),
 ];
 
 /// Types by their OID.
@@ -117,6 +116,138 @@ pub const SMALL_TYPES: [(&[u8], &[u8]); 26] = [
     ),
     (b"norm hstore ffffffff", b"refused 6"),
     (b"norm hstore? NULL", b"null"),
+];
+
+/// Dates, times and moments.
+pub const MOMENTS: [(&[u8], &[u8]); 30] = [
+    (b"norm date 000003E8", b"ok 000003e8"),
+    (b"norm date FFBD20B0", b"ok ffbd20b0"),
+    (b"norm date FFBD20AF", b"refused 11"),
+    (b"norm date 002c95d3", b"ok 002c95d3"),
+    (b"norm date 7fffffff", b"refused 11"),
+    (b"norm date 0000", b"refused 4"),
+    (b"norm date? NULL", b"null"),
+    (b"norm date_inf 7FFFFFFF", b"ok 7fffffff"),
+    (b"norm date_inf 80000000", b"ok 80000000"),
+    (b"norm date_inf 000003e8", b"ok 000003e8"),
+    (b"norm date_inf 002c95d4", b"refused 11"),
+    (b"norm date_inf 0000", b"refused 4"),
+    (b"norm date_inf NULL", b"refused 2"),
+    (b"norm date_inf? NULL", b"null"),
+    (b"norm time 000000141dd75fff", b"ok 000000141dd75fff"),
+    (b"norm time 000000141dd76000", b"refused 11"),
+    (b"norm time ffffffffffffffff", b"refused 11"),
+    (b"norm timestamp ffffffffffffffff", b"ok ffffffffffffffff"),
+    (b"norm timestamp 7CE66C50E2840000", b"refused 11"),
+    (
+        b"norm timestamp_inf 7fffffffffffffff",
+        b"ok 7fffffffffffffff",
+    ),
+    (b"norm timestamp_inf 7CE66C50E2840000", b"refused 11"),
+    (b"norm timestamp_inf? NULL", b"null"),
+    (b"norm timestamptz 0000000000000001", b"ok 0000000000000001"),
+    (b"norm timestamptz 7fffffffffffffff", b"refused 11"),
+    (b"norm unix 7fffffffffffffff", b"ok 7fffffffffffffff"),
+    (b"norm unix_inf 7fffffffffffffff", b"ok 7fffffffffffffff"),
+    (b"norm unix_inf 8000000000000000", b"ok 8000000000000000"),
+    (b"norm unix_inf? 00", b"refused 4"),
+    (b"norm timestamp_in 7fffffffffffffff", b"bad line"),
+    (b"norm time_inf 7fffffffffffffff", b"bad line"),
+];
+
+/// Arrays and the two vectors.
+pub const ARRAYS: [(&[u8], &[u8]); 24] = [
+    (
+        b"norm int4[] 000000000000000000000017",
+        b"ok 0000000100000000000000170000000000000001",
+    ),
+    (
+        b"norm int4?[] 0000000100000000000000170000000100000001ffffffff",
+        b"ok 0000000100000001000000170000000100000001ffffffff",
+    ),
+    (
+        b"norm int4[] 0000000100000000000000170000000100000001ffffffff",
+        b"refused 2",
+    ),
+    (b"norm int4[] 000000020000000000000017", b"refused 8"),
+    (b"norm int4?[] ffffffff", b"refused 6"),
+    (b"norm int4[] NULL", b"refused 2"),
+    (b"norm int4?[] NULL", b"refused 2"),
+    (
+        b"norm date_inf?[] 00000001000000000000043a0000000200000005000000047fffffffffffffff",
+        b"ok 00000001000000010000043a0000000200000001000000047fffffffffffffff",
+    ),
+    (
+        b"norm int2vector 00000001000000000000001500000001000000010000000200 05",
+        b"bad line",
+    ),
+    (
+        b"norm int2vector 0000000100000000000000150000000100000001000000020005",
+        b"ok 0000000100000000000000150000000100000000000000020005",
+    ),
+    (
+        b"norm oidvector 00000001000000000000001a0000000100000001000000040000000a",
+        b"ok 00000001000000000000001a0000000100000000000000040000000a",
+    ),
+    (b"norm int2vector? NULL", b"null"),
+    (b"norm int4?? 00000007", b"bad line"),
+    (b"norm int4[]? NULL", b"bad line"),
+    (b"norm int4[][] 000000000000000000000017", b"bad line"),
+    (b"norm int4?[]? NULL", b"bad line"),
+    (b"norm [] -", b"bad line"),
+    (b"norm ?[] -", b"bad line"),
+    (b"norm hstore[] -", b"bad line"),
+    (b"norm ltree?[] -", b"bad line"),
+    (b"norm unknown[] -", b"bad line"),
+    (b"norm int2vector[] -", b"bad line"),
+    (b"norm oidvector?[] -", b"bad line"),
+    (b"norm json 31", b"bad line"),
+];
+
+/// Each base name that has arrays, and a cell that it accepts.
+pub const LISTED: [(&[u8], &[u8]); 27] = [
+    (b"bool", b"02"),
+    (b"char", b"ff"),
+    (b"int2", b"fffe"),
+    (b"int4", b"00000007"),
+    (b"int8", b"0000000000000007"),
+    (b"oid", b"ffffffff"),
+    (b"text", b"c3a9"),
+    (b"varchar", b"6162"),
+    (b"bpchar", b"6120"),
+    (b"name", b"61"),
+    (b"bytea", b"00FF"),
+    (b"bit", b"00000003bf"),
+    (b"varbit", b"00000003bf"),
+    (b"inet", b"020801040a010203"),
+    (b"addr", b"020800040a010203"),
+    (b"cidr", b"020801040a000000"),
+    (b"macaddr", b"0102030405ff"),
+    (b"uuid", b"000102030405060708090A0B0C0D0E0F"),
+    (b"pg_lsn", b"00000016b374d848"),
+    (b"date", b"000003e8"),
+    (b"date_inf", b"80000000"),
+    (b"time", b"000000141dd75fff"),
+    (b"timestamp", b"ffffffffffffffff"),
+    (b"timestamp_inf", b"7fffffffffffffff"),
+    (b"timestamptz", b"0000000000000001"),
+    (b"unix", b"8000000000000000"),
+    (b"unix_inf", b"8000000000000000"),
+];
+
+/// Each base name that has none, and a cell that it accepts.
+pub const ALONE: [(&[u8], &[u8]); 5] = [
+    (b"unknown", b"c3a9"),
+    (b"ltree", b"01612e62"),
+    (b"hstore", b"00000002000000016100000001310000000161ffffffff"),
+    (
+        b"int2vector",
+        b"0000000100000000000000150000000100000001000000020005",
+    ),
+    (
+        b"oidvector",
+        b"00000001000000000000001a0000000100000001000000040000000a",
+    ),
 ];
 
 /// Log positions.

@@ -1,5 +1,5 @@
 use Rattle.std.proofs.Common.{◌∙◌}
-use Rattle.pg_base.proofs.CellLemmas.{spelt}
+use Rattle.pg_base.proofs.BitCells.{spelt}
 use Rattle.pg_base.proofs.protocol.bits.varbit_from_sql.Goals as goal
 
 pub returns-clause-outcome : goal.returns-clause-outcome

@@ -2,7 +2,7 @@ use Rattle.std.proofs.Common.{◌≡◌, ◌∙◌, ◌++◌, length, ap, refl, 
 use Rattle.std.specs.Int.{w32, to_be_bytes}
 use Rattle.std.proofs.lemmas.Int.{of_z-to_z}
 use Rattle.pg_base.specs.Bits.{first_bits, packed}
-use Rattle.pg_base.proofs.CellLemmas.{appended, cell_past, refused}
+use Rattle.pg_base.proofs.BitCells.{appended, cell_past, refused}
 use Rattle.pg_base.proofs.protocol.bits.varbit_to_sql.Goals as goal
 
 pub returns-then-len-gt-MAX_BITS : goal.returns-then-len-gt-MAX_BITS

@@ -1,0 +1,14 @@
+mod boxes;
+mod copy;
+mod days;
+mod formats;
+mod list_writing;
+mod lists;
+mod nested;
+mod nested_moments;
+mod params;
+mod reading_back;
+mod row_reader;
+mod special;
+mod user;
+mod values;

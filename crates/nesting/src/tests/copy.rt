@@ -1,0 +1,49 @@
+//! A binary COPY, as a program would write it.
+
+use postgres_types::private::BytesMut;
+use postgres_types::protocol::{frame_to_sql, int2_to_sql, int4_to_sql};
+use postgres_types::{Fault, IsNull, ToSql, Type};
+use std::alloc::Global;
+use std::test::Fail;
+
+/// Appends a field of a tuple: the frame of the value's cell. `cell` is scratch room.
+fn copy_field<T: ToSql>(
+    alloc: Global,
+    value: &T,
+    ty: &Type,
+    cell: &mut BytesMut,
+    out: &mut BytesMut,
+) -> Result<(), Fault> {
+    cell.clear();
+    match value.to_sql_checked(alloc, ty, cell)? {
+        IsNull::Yes => frame_to_sql(alloc, None, out),
+        IsNull::No => frame_to_sql(alloc, Some(cell.as_slice()), out),
+    }
+}
+
+#[test]
+fn a_binary_copy_is_written(rt: HostRuntime) -> Result<(), Fail> {
+    let alloc = rt.alloc();
+    let mut cell = BytesMut::new(alloc);
+    let mut out = BytesMut::copy_from_slice(alloc, b"PGCOPY\n\xff\r\n\0")?;
+    // No flags, and no header extension.
+    int4_to_sql(alloc, 0, &mut out)?;
+    int4_to_sql(alloc, 0, &mut out)?;
+    for (number, text) in [(1i32, Some("ab")), (-2, None)] {
+        // A tuple of two fields.
+        int2_to_sql(alloc, 2, &mut out)?;
+        copy_field(alloc, &number, &Type::INT4, &mut cell, &mut out)?;
+        copy_field(alloc, &text, &Type::TEXT, &mut cell, &mut out)?;
+    }
+    // The trailer.
+    int2_to_sql(alloc, -1, &mut out)?;
+    let written = [
+        0x50u8, 0x47, 0x43, 0x4f, 0x50, 0x59, 0x0a, 0xff, 0x0d, 0x0a, 0, //
+        0, 0, 0, 0, 0, 0, 0, 0, //
+        0, 2, 0, 0, 0, 4, 0, 0, 0, 1, 0, 0, 0, 2, 0x61, 0x62, //
+        0, 2, 0, 0, 0, 4, 0xff, 0xff, 0xff, 0xfe, 0xff, 0xff, 0xff, 0xff, //
+        0xff, 0xff,
+    ];
+    assert_eq!(rt; out.as_slice(), written.as_slice());
+    Ok(())
+}

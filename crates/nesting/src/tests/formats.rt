@@ -1,0 +1,94 @@
+//! The format of a value, over a user's type that is sent as text.
+
+use postgres_types::private::BytesMut;
+use postgres_types::{Fault, Format, IsNull, ToSql, Type, WrongType};
+use std::alloc::Global;
+use std::boxed::BoxedSlice;
+use std::test::Fail;
+
+/// A word of a language, which is sent as text.
+#[derive(Debug, Drop)]
+pub struct Word(pub &'static str);
+
+impl ToSql for Word {
+    ghost use Rattle.std.specs.Prelude.{Ok, Some, codes, refl};
+    ghost use Rattle.pg_base.specs.declared.format.Format.TheVariants.{Text as TextFormat};
+    ghost use Rattle.pg_base.specs.declared.types.built_in.BuiltIn.TheVariants.{Text};
+    ghost use Rattle.postgres_types.specs.Content.{is_row};
+    ghost use Rattle.postgres_types.specs.Writing.{checked_by};
+
+    ghost accepted = { is_row Text };
+
+    ghost name = { codes "Word" };
+
+    ghost wire = { λ _ v. Ok (Some v.0.now) };
+
+    ghost checked = { λ ty v. checked_by (is_row Text ty) ty (codes "Word") (Ok (Some v.0.now)) };
+
+    ghost format = { λ _ _. TextFormat };
+
+    fn to_sql(&self, _alloc: Global, _ty: &Type, out: &mut BytesMut) -> Result<IsNull, Fault> {
+        out.extend_from_slice(self.0.as_bytes())?;
+        Ok(IsNull::No)
+    }
+
+    #[tactic(auto, using(pg_base::proofs::DerivedTypes::eq_content))]
+    fn accepts(ty: &Type) -> bool {
+        *ty == Type::TEXT
+    }
+
+    fn to_sql_checked(
+        &self,
+        alloc: Global,
+        ty: &Type,
+        out: &mut BytesMut,
+    ) -> Result<IsNull, Fault> {
+        if <Word as ToSql>::accepts(ty) {
+            self.to_sql(alloc, ty, out)
+        } else {
+            Err(Fault::WrongType(WrongType::new(ty.try_clone()?, "Word")))
+        }
+    }
+
+    fn encode_format(&self, _ty: &Type) -> Format {
+        Format::Text
+    }
+
+    ghost checks = { λ _ _. refl };
+}
+
+/// The format of the value for TEXT.
+fn format_of<T: ToSql>(value: &T) -> Format {
+    value.encode_format(&Type::TEXT)
+}
+
+#[test]
+fn references_and_some_have_the_format_of_the_value(rt: HostRuntime) -> Result<(), Fail> {
+    let word = Word("ja");
+    assert_eq!(rt; format_of(&word), Format::Text);
+    assert_eq!(rt; format_of(&&word), Format::Text);
+    assert_eq!(rt; format_of(&Some(&word)), Format::Text);
+    assert_eq!(rt; format_of(&Some(word)), Format::Text);
+    assert_eq!(rt; format_of(&Some(Some(Word("nein")))), Format::Text);
+    let object: &dyn ToSql = &Word("doch");
+    assert_eq!(rt; object.encode_format(&Type::TEXT), Format::Text);
+    Ok(())
+}
+
+#[test]
+fn none_boxes_and_lists_are_binary(rt: HostRuntime) -> Result<(), Fail> {
+    let alloc = rt.alloc();
+    assert_eq!(rt; format_of(&None::<Word>), Format::Binary);
+    assert_eq!(rt; format_of(&Some(None::<Word>)), Format::Binary);
+    let boxed = Box::new(alloc, Word("ja"))?;
+    assert_eq!(rt; format_of(&boxed), Format::Binary);
+    assert_eq!(rt; format_of(&Some(boxed)), Format::Binary);
+    let mut words = Vec::new(alloc);
+    words.push(Word("ja"))?;
+    assert_eq!(rt; format_of(&words), Format::Binary);
+    assert_eq!(rt; format_of(&words.as_slice()), Format::Binary);
+    assert_eq!(rt; format_of(&[Word("ja")]), Format::Binary);
+    let boxed: BoxedSlice<Word> = words.into_boxed_slice();
+    assert_eq!(rt; format_of(&boxed), Format::Binary);
+    Ok(())
+}

@@ -1,0 +1,145 @@
+//! A conversion of a user's own inside the wrapper of moments.
+
+use super::params::binds;
+use postgres_types::private::BytesMut;
+use postgres_types::protocol::{timestamp_from_sql, timestamp_to_sql};
+use postgres_types::{Fault, Format, FromSql, IsNull, Timestamp, ToSql, Type, WrongType};
+use rows::{reads, writes};
+use std::alloc::Global;
+use std::test::Fail;
+
+/// A moment, by its microseconds from 2000-01-01.
+#[derive(Debug, Clone, Copy, PartialEq)]
+struct Micros(i64);
+
+impl<'a> FromSql<'a> for Micros {
+    ghost use Rattle.std.specs.Prelude.{◌≡◌};
+    ghost use Rattle.std.specs.Int.{w64};
+    ghost use Rattle.pg_base.specs.declared.types.built_in.BuiltIn.TheVariants.{Timestamp as TimestampRow};
+    ghost use Rattle.postgres_types.specs.Content.{is_row};
+    ghost use Rattle.postgres_types.specs.FormatLaws.{int8_grammar};
+    ghost use Rattle.postgres_types.specs.Formats.{ReadsPlain};
+    ghost use Rattle.postgres_types.specs.Numbers.{FormSigned, first_fault_number};
+    ghost use Rattle.postgres_types.specs.Reading.{EveryCell, plain_single};
+    ghost use Rattle.postgres_types.specs.Sameness.{content_equivalence};
+
+    ghost same = { λ v w. v.0 ≡ w.0 };
+
+    ghost accepted = { is_row TimestampRow };
+
+    ghost reads = { λ _. ReadsPlain (λ b v. FormSigned w64 b v.0) (first_fault_number 8) };
+
+    ghost memory_free = { EveryCell };
+
+    ghost equivalence = { content_equivalence (λ v. v.0) };
+
+    ghost single = { λ _ _. plain_single (λ v w. v.0 ≡ w.0) (λ b v. FormSigned w64 b v.0) (first_fault_number 8)
+        (record { passes = λ b v h. int8_grammar.passes b v.0 h; single = λ b v w h k. int8_grammar.single b v.0 w.0 h k }) };
+
+    fn from_sql(_alloc: Global, _ty: &Type, raw: &'a [u8]) -> Result<Micros, Fault> {
+        match timestamp_from_sql(raw) {
+            Ok(micros) => Ok(Micros(micros)),
+            Err(fault) => Err(fault),
+        }
+    }
+
+    fn from_sql_null(_alloc: Global, _ty: &Type) -> Result<Micros, Fault> {
+        Err(Fault::WasNull)
+    }
+
+    #[tactic(auto, using(pg_base::proofs::DerivedTypes::eq_content))]
+    fn accepts(ty: &Type) -> bool {
+        *ty == Type::TIMESTAMP
+    }
+}
+
+impl ToSql for Micros {
+    ghost use Rattle.std.specs.Prelude.{codes, refl};
+    ghost use Rattle.std.specs.Int.{w64};
+    ghost use Rattle.pg_base.specs.declared.format.Format.TheVariants.{Binary};
+    ghost use Rattle.pg_base.specs.declared.types.built_in.BuiltIn.TheVariants.{Timestamp as TimestampRow};
+    ghost use Rattle.postgres_types.specs.Content.{is_row};
+    ghost use Rattle.postgres_types.specs.Numbers.{wire_signed};
+    ghost use Rattle.postgres_types.specs.Writing.{checked_by};
+
+    ghost accepted = { is_row TimestampRow };
+
+    ghost name = { codes "Micros" };
+
+    ghost wire = { λ _ v. wire_signed w64 v.0 };
+
+    ghost checked = { λ ty v. checked_by (is_row TimestampRow ty) ty (codes "Micros") (wire_signed w64 v.0) };
+
+    ghost format = { λ _ _. Binary };
+
+    fn to_sql(&self, alloc: Global, _ty: &Type, out: &mut BytesMut) -> Result<IsNull, Fault> {
+        timestamp_to_sql(alloc, self.0, out)?;
+        Ok(IsNull::No)
+    }
+
+    #[tactic(auto, using(pg_base::proofs::DerivedTypes::eq_content))]
+    fn accepts(ty: &Type) -> bool {
+        *ty == Type::TIMESTAMP
+    }
+
+    fn to_sql_checked(
+        &self,
+        alloc: Global,
+        ty: &Type,
+        out: &mut BytesMut,
+    ) -> Result<IsNull, Fault> {
+        if <Micros as ToSql>::accepts(ty) {
+            self.to_sql(alloc, ty, out)
+        } else {
+            Err(Fault::WrongType(WrongType::new(ty.try_clone()?, "Micros")))
+        }
+    }
+
+    fn encode_format(&self, _ty: &Type) -> Format {
+        Format::Binary
+    }
+
+    ghost checks = { λ _ _. refl };
+}
+
+/// A second after 2000-01-01.
+const SECOND: [u8; 8] = [0, 0, 0, 0, 0, 0x0f, 0x42, 0x40];
+
+/// The greatest number of 8 bytes.
+const LAST: [u8; 8] = [0x7f, 0xff, 0xff, 0xff, 0xff, 0xff, 0xff, 0xff];
+
+/// An array of infinity and NULL.
+const LAST_AND_NULL: [u8; 36] = [
+    0, 0, 0, 1, 0, 0, 0, 1, 0, 0, 4, 0x5a, 0, 0, 0, 2, 0, 0, 0, 1, 0, 0, 0, 8, 0x7f, 0xff, 0xff,
+    0xff, 0xff, 0xff, 0xff, 0xff, 0xff, 0xff, 0xff, 0xff,
+];
+
+#[test]
+fn a_users_moment_has_infinities(rt: HostRuntime) -> Result<(), Fail> {
+    let alloc = rt.alloc();
+    let ty = &Type::TIMESTAMP;
+    let second = Timestamp::Value(Micros(1_000_000));
+    writes(alloc, &second, ty, &SECOND)?;
+    reads(alloc, ty, &SECOND, second)?;
+    writes(alloc, &Timestamp::<Micros>::PosInfinity, ty, &LAST)?;
+    reads(alloc, ty, &LAST, Timestamp::<Micros>::PosInfinity)?;
+    reads(alloc, ty, &LAST, Micros(i64::MAX))?;
+    let list = [Some(Timestamp::<Micros>::PosInfinity), None];
+    writes(alloc, &list, &Type::TIMESTAMP_ARRAY, &LAST_AND_NULL)?;
+    reads(alloc, &Type::TIMESTAMP_ARRAY, &LAST_AND_NULL, list)
+}
+
+#[test]
+fn a_users_moment_is_bound(rt: HostRuntime) -> Result<(), Fail> {
+    let alloc = rt.alloc();
+    let params: [Box<dyn ToSql>; 2] = [
+        Box::new(alloc, Timestamp::Value(Micros(1_000_000)))?,
+        Box::new(alloc, Some(Micros(-1)))?,
+    ];
+    let frames = [
+        0u8, 0, 0, 8, 0, 0, 0, 0, 0, 0x0f, 0x42, 0x40, //
+        0, 0, 0, 8, 0xff, 0xff, 0xff, 0xff, 0xff, 0xff, 0xff, 0xff,
+    ];
+    let types = [Type::TIMESTAMP, Type::TIMESTAMP];
+    binds(&rt, alloc, &params, &types, &frames)
+}

@@ -1,7 +1,0 @@
-use Rattle.std.proofs.Common.{◌≡◌, false, map, take}
-use Rattle.pg_base.specs.ArrayWriting.{has_null, owned_cell}
-use Rattle.pg_base.proofs.protocol.array_writing.flags_of.Given as goal
-
--- no cell so far is NULL
-abbrev pub invariant-loop-cell : goal.invariant-loop-cell
-invariant-loop-cell l = has_null (map owned_cell (take l.cell-index l.cells)) ≡ false

@@ -1,0 +1,69 @@
+//! Dates are read back as themselves, and times and the moments of `jiff` cut to microseconds.
+ghost use Rattle.std.specs.Prelude.{◌≡◌, refl};
+ghost use Rattle.std.specs.Int.{w32, w64};
+ghost use Rattle.jiff.specs.Words.{civil_nanos, epoch_day};
+ghost use Rattle.pg_base.specs.Civil.{instant_nanos};
+ghost use Rattle.postgres_types.specs.MomentBack.{KeptMicros, KeptMicrosOfDay};
+ghost use Rattle.postgres_types.specs.MomentBackLaws.{date_finite, date_lawful, datetime_finite, datetime_lawful, instant_finite, instant_lawful, time_lawful};
+ghost use Rattle.postgres_types.specs.ReadingBack.{BackKept};
+
+use crate::paired::{Finite, Paired};
+use jiff::Timestamp;
+use jiff::civil::{Date, DateTime, Time};
+
+/// A date is read back as itself.
+impl<'a> Paired<'a> for Date {
+    ghost back = { λ _. BackKept (λ v w. epoch_day v ≡ epoch_day w) };
+
+    ghost types = { λ _. refl };
+
+    ghost lawful = { λ _ _. date_lawful };
+}
+
+/// What is read from a count that is no infinity is written as that count.
+impl<'a> Finite<'a> for Date {
+    ghost dates = { λ _ _ _. date_finite w32 };
+
+    ghost moments = { λ _ _ _. date_finite w64 };
+}
+
+/// A time is read back cut to whole microseconds, toward midnight.
+impl<'a> Paired<'a> for Time {
+    ghost back = { λ _. BackKept KeptMicrosOfDay };
+
+    ghost types = { λ _. refl };
+
+    ghost lawful = { λ _ _. time_lawful };
+}
+
+/// A civil datetime is read back cut to whole microseconds, toward 2000-01-01 00:00:00 on both sides.
+impl<'a> Paired<'a> for DateTime {
+    ghost back = { λ _. BackKept (KeptMicros civil_nanos) };
+
+    ghost types = { λ _. refl };
+
+    ghost lawful = { λ _ _. datetime_lawful };
+}
+
+/// What is read from a count that is no infinity is written as that count.
+impl<'a> Finite<'a> for DateTime {
+    ghost dates = { λ _ _ _. datetime_finite w32 };
+
+    ghost moments = { λ _ _ _. datetime_finite w64 };
+}
+
+/// An instant is read back cut to whole microseconds, toward 2000-01-01 00:00:00 UTC on both sides.
+impl<'a> Paired<'a> for Timestamp {
+    ghost back = { λ _. BackKept (KeptMicros instant_nanos) };
+
+    ghost types = { λ _. refl };
+
+    ghost lawful = { λ _ _. instant_lawful };
+}
+
+/// What is read from a count that is no infinity is written as that count.
+impl<'a> Finite<'a> for Timestamp {
+    ghost dates = { λ _ _ _. instant_finite w32 };
+
+    ghost moments = { λ _ _ _. instant_finite w64 };
+}

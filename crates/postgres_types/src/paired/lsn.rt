@@ -1,0 +1,18 @@
+//! Log positions are read back as themselves.
+ghost use Rattle.std.specs.Prelude.{◌≡◌, refl};
+ghost use Rattle.std.specs.Int.{w64};
+ghost use Rattle.pg_base.specs.LsnLaws.{lsn_grammar};
+ghost use Rattle.postgres_types.specs.LawfulFormats.{unsigned_lawful};
+ghost use Rattle.postgres_types.specs.ReadingBack.{BackKept};
+
+use crate::paired::Paired;
+use pg_base::lsn::PgLsn;
+
+/// A log position is read back as itself.
+impl<'a> Paired<'a> for PgLsn {
+    ghost back = { λ _. BackKept (λ v w. v ≡ w) };
+
+    ghost types = { λ _. refl };
+
+    ghost lawful = { λ _ _. unsigned_lawful w64 lsn_grammar };
+}

@@ -1,0 +1,23 @@
+//! Reading options back.
+ghost use Rattle.std.specs.Int.{w32, w64};
+ghost use Rattle.postgres_types.specs.OptionBack.{option_finite, option_lawful};
+ghost use Rattle.postgres_types.specs.ReadingBack.{BackOption};
+
+use crate::paired::{Finite, Paired};
+
+/// `None` is read back as `None`, and `Some` as `None` where the value inside is written as NULL,
+/// and otherwise as `Some` of what that is read back as.
+impl<'a, T: Paired<'a>> Paired<'a> for Option<T> {
+    ghost back = { λ ty. BackOption (T.wire ty) (T.back ty) };
+
+    ghost types = { T.types };
+
+    ghost lawful = { λ ty ok. option_lawful T.same (T.reads ty) (T.wire ty) (T.back ty) (T.lawful ty ok) };
+}
+
+/// Finite bytes give `Some` of a value that stays finite.
+impl<'a, T: Finite<'a>> Finite<'a> for Option<T> {
+    ghost dates = { λ ty date ok. option_finite w32 (T.reads ty) (T.wire ty) (T.dates ty date ok) };
+
+    ghost moments = { λ ty moment ok. option_finite w64 (T.reads ty) (T.wire ty) (T.moments ty moment ok) };
+}

@@ -1,0 +1,50 @@
+//! Rows of reading.
+
+use crate::same;
+use postgres_types::{Fault, FromSql, Type, from_sql_nullable};
+use std::alloc::Global;
+use std::fmt::Debug;
+use std::test::Fail;
+
+/// What reading the cell answers; a type that is not accepted is not read.
+pub fn read<'a, T: FromSql<'a>>(
+    alloc: Global,
+    ty: &Type,
+    cell: Option<&'a [u8]>,
+) -> Result<T, Fault> {
+    if !T::accepts(ty) {
+        return Err(Fault::user("not accepted"));
+    }
+    from_sql_nullable(alloc, ty, cell)
+}
+
+/// The cell is read as the value.
+pub fn reads<'a, T: FromSql<'a> + PartialEq + Debug>(
+    alloc: Global,
+    ty: &Type,
+    cell: &'a [u8],
+    value: T,
+) -> Result<(), Fail> {
+    let found: T = read(alloc, ty, Some(cell))?;
+    same(found, value)
+}
+
+/// The number of the fault that the cell is refused with; 0 where it is read.
+pub fn refusal<'a, T: FromSql<'a>>(alloc: Global, ty: &Type, cell: Option<&'a [u8]>) -> u32 {
+    match read::<T>(alloc, ty, cell) {
+        Ok(_) => 0,
+        Err(fault) => fault.code(),
+    }
+}
+
+/// A table of a format: each cell is refused with the fault of that number.
+pub fn refuses<'a, T: FromSql<'a>>(
+    alloc: Global,
+    ty: &Type,
+    rows: &'a [(Option<&'a [u8]>, u32)],
+) -> Result<(), Fail> {
+    for (cell, code) in rows {
+        same(refusal::<T>(alloc, ty, *cell), *code)?;
+    }
+    Ok(())
+}

@@ -1,0 +1,91 @@
+//! Rows of writing.
+
+use crate::{read, reads, same};
+use postgres_types::private::BytesMut;
+use postgres_types::{FromSql, IsNull, Paired, ToSql, Type, rewrite};
+use std::alloc::Global;
+use std::fmt::Debug;
+use std::test::Fail;
+
+/// What stands in a buffer before a value is written to it.
+const BEFORE: &[u8] = b"before";
+
+/// The value is written as the cell, by both calls, after what was there.
+pub fn writes<T: ToSql>(alloc: Global, value: &T, ty: &Type, cell: &[u8]) -> Result<(), Fail> {
+    let mut out = BytesMut::copy_from_slice(alloc, BEFORE)?;
+    same(value.to_sql_checked(alloc, ty, &mut out)?, IsNull::No)?;
+    same(out.strip_prefix(BEFORE), Some(cell))?;
+    if T::accepts(ty) {
+        out.clear();
+        same(value.to_sql(alloc, ty, &mut out)?, IsNull::No)?;
+        same(out.as_slice(), cell)?;
+    }
+    Ok(())
+}
+
+/// The value is written as NULL, which appends nothing.
+pub fn writes_null<T: ToSql>(alloc: Global, value: &T, ty: &Type) -> Result<(), Fail> {
+    let mut out = BytesMut::copy_from_slice(alloc, BEFORE)?;
+    same(value.to_sql_checked(alloc, ty, &mut out)?, IsNull::Yes)?;
+    same(out.as_slice(), BEFORE)
+}
+
+/// Writing the value to that type is refused with the fault of that number, and appends nothing.
+pub fn refuses_value<T: ToSql>(alloc: Global, value: &T, ty: &Type, code: u32) -> Result<(), Fail> {
+    let mut out = BytesMut::copy_from_slice(alloc, BEFORE)?;
+    let refused = value.to_sql_checked(alloc, ty, &mut out);
+    same(refused.err().map(|fault| fault.code()), Some(code))?;
+    same(out.as_slice(), BEFORE)
+}
+
+/// The type is refused, under that name, and nothing is written.
+pub fn refuses_type<T: ToSql>(alloc: Global, value: &T, ty: &Type, rust: &str) -> Result<(), Fail> {
+    refuses_value(alloc, value, ty, 3)?;
+    let mut out = BytesMut::new(alloc);
+    let Err(fault) = value.to_sql_checked(alloc, ty, &mut out) else {
+        return Err(Fail::from("accepted"));
+    };
+    let text = format!(in alloc; "{fault}")?;
+    let expected = format!(in alloc;
+        "cannot convert between the Rust type `{rust}` and the Postgres type `{ty}`"
+    )?;
+    same(text.as_str(), expected.as_str())
+}
+
+/// The cell is read as a `T` and written as that other cell.
+pub fn rewrites<'a, T: Paired<'a>>(
+    alloc: Global,
+    ty: &Type,
+    cell: &'a [u8],
+    written: &[u8],
+) -> Result<(), Fail> {
+    let mut out = BytesMut::new(alloc);
+    same(rewrite::<T>(alloc, ty, Some(cell), &mut out)?, IsNull::No)?;
+    same(out.as_slice(), written)
+}
+
+/// The value is written as the cell, which is read back as that other value.
+pub fn reads_back<'a, T: Paired<'a> + PartialEq + Debug>(
+    alloc: Global,
+    ty: &Type,
+    value: &T,
+    cell: &'a [u8],
+    back: T,
+) -> Result<(), Fail> {
+    writes(alloc, value, ty, cell)?;
+    reads(alloc, ty, cell, back)
+}
+
+/// A table of a format: each value is written as its cell, and the cell is read as the value.
+pub fn spells<'a, T: FromSql<'a> + ToSql + PartialEq>(
+    alloc: Global,
+    ty: &Type,
+    rows: &'a [(T, &'a [u8])],
+) -> Result<(), Fail> {
+    for (value, cell) in rows {
+        writes(alloc, value, ty, cell)?;
+        let found: T = read(alloc, ty, Some(*cell))?;
+        same(found == *value, true)?;
+    }
+    Ok(())
+}
