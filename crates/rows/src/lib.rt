@@ -2,12 +2,14 @@
 //! public names. Each call fails with what was found and what was expected.
 #![tactic(auto)]
 
+mod memory;
 mod reading;
 #[cfg(test)]
 mod tests;
 mod types;
 mod writing;
 
+pub use memory::hoard;
 pub use reading::{read, reads, refusal, refuses};
 use std::fmt::Debug;
 use std::test::Fail;

@@ -1,9 +1,10 @@
-mod rows;
+mod lines;
 
 use super::{BLOCK, RunFault, run};
-use rows::{
+use lines::{
     ALONE, ARRAYS, LISTED, MOMENTS, NUMBERS_AND_TEXTS, POSITIONS, SMALL_TYPES, TYPES, WORDS,
 };
+use rows::hoard;
 use std::alloc::Global;
 use std::io;
 use std::io::{Error, ErrorKind, Read, Write};
@@ -343,31 +344,6 @@ fn what_was_interrupted_is_tried_again(rt: HostRuntime) -> Result<(), Fail> {
     Ok(())
 }
 
-/// All the memory that the heap gives, in blocks that nothing touches, the smallest last. Later
-/// growths are refused until some of it is let go.
-fn hoard(alloc: Global) -> Result<Vec<Vec<u8>>, Fail> {
-    let mut blocks: Vec<Vec<u8>> = Vec::with_capacity(alloc, 2_000_000)?;
-    let mut size = 1usize << 40;
-    for _ in 0..40 {
-        for _ in 0..100_000 {
-            if blocks.len() == blocks.capacity() {
-                break;
-            }
-            let Ok(block) = Vec::with_capacity(alloc, size) else {
-                break;
-            };
-            let Ok(()) = blocks.push(block) else {
-                break;
-            };
-        }
-        size /= 2;
-        if size < 8 {
-            break;
-        }
-    }
-    Ok(blocks)
-}
-
 #[test]
 fn refused_memory_leaves_whole_answers(rt: HostRuntime) -> Result<(), Fail> {
     // The first line needs little memory, and what is there of the second one much.
@@ -379,15 +355,18 @@ fn refused_memory_leaves_whole_answers(rt: HostRuntime) -> Result<(), Fail> {
         step: BLOCK,
         room: ROOM,
     };
+    // A run before all address space is taken, since the stack cannot grow after that.
+    let mut outcome = run(rt.alloc(), &mut text.as_slice(), &mut output);
+    assert_eq!(rt; outcome, Ok(()));
+    let answers = Vec::from_slice(rt.alloc(), output.taken.as_slice())?;
+    assert_eq!(rt; answers.len(), text.len() - 13);
     let mut stopped_before = 0u32;
     let mut stopped_between = 0u32;
-    let mut outcome = Err(RunFault::Read);
     let mut hoarded = hoard(rt.alloc())?;
     for _ in 0..100_000 {
         output.taken.clear();
         output.room = ROOM;
-        let mut input = text.as_slice();
-        outcome = run(rt.alloc(), &mut input, &mut output);
+        outcome = run(rt.alloc(), &mut text.as_slice(), &mut output);
         if outcome != Err(RunFault::Memory) {
             break;
         }
@@ -399,7 +378,7 @@ fn refused_memory_leaves_whole_answers(rt: HostRuntime) -> Result<(), Fail> {
         let _ = hoarded.pop();
     }
     assert_eq!(rt; outcome, Ok(()));
-    assert_eq!(rt; output.taken.len(), text.len() - 13);
+    assert!(rt; output.taken == answers);
     assert!(rt; stopped_before > 0);
     assert!(rt; stopped_between > 0);
     println!(rt;
