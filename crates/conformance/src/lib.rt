@@ -1,5 +1,5 @@
-//! Rows whose values come from PostgreSQL's formats, run through the library's public names; and the
-//! laws of `pg_base`, each called once.
+//! Rows whose values come from PostgreSQL's formats, run through the library's public names; and
+//! the laws of `pg_base`, each called once.
 #![tactic(auto)]
 
 #[cfg(test)]

@@ -14,7 +14,7 @@ use crate::protocol::{Varbit, without_pad};
 use std::alloc::Global;
 use std::marker::Model;
 
-/// A list of bits. They lie packed, eight to a byte.
+/// A list of bits, packed eight to a byte.
 #[derive(Debug, Drop)]
 pub struct BitVec {
     /// The first bit is the top one of the first byte; what pads the last byte is 0.
@@ -96,7 +96,7 @@ impl BitVec {
         }
     }
 
-    /// Puts the bit behind the others. Where there are `usize::MAX` of them it is refused with
+    /// Appends the bit. Where there are `usize::MAX` of them it is refused with
     /// [`Fault::Transmit`]. A refused one leaves the bits as they were.
     pub fn push(&mut self, bit: bool) -> Result<(), Fault>
         ensures { Pushes self.old bit self.new result }
@@ -114,7 +114,7 @@ impl BitVec {
         Ok(())
     }
 
-    /// Takes the last bit, or answers `None` where there is none.
+    /// Removes the last bit and answers it, or `None` where there is none.
     pub fn pop(&mut self) -> Option<bool>
         ensures { Pops self.old result self.new }
     {

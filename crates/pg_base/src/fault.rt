@@ -117,7 +117,7 @@ pub enum Fault {
     /// An array has more elements than the Rust array.
     #[error("excess elements in array (expected {expected}, got more than that)")]
     Excess { expected: usize },
-    /// The cell's date or moment lies outside the Rust type's range.
+    /// The cell's date, time or moment lies outside the Rust type's range.
     #[error("value too large to decode")]
     Decode,
     /// The value is too large for its cell.

@@ -2,8 +2,8 @@
 
 pub mod laws;
 
-/// A date, or PostgreSQL's `infinity` or `-infinity`, which are the greatest and the least number of
-/// the 4 bytes of DATE (`date_recv`, `date_send`).
+/// A date, or PostgreSQL's `infinity` or `-infinity`, which are the greatest and the least number
+/// of the 4 bytes of DATE (`date_recv`, `date_send`).
 #[derive(Debug, Clone, Copy, PartialEq, Eq, Drop)]
 pub enum Date<T> {
     /// `infinity`, which is later than every other date.
@@ -15,7 +15,8 @@ pub enum Date<T> {
 }
 
 /// A moment, or PostgreSQL's `infinity` or `-infinity`, which are the greatest and the least number
-/// of the 8 bytes of TIMESTAMP and TIMESTAMPTZ (`timestamp_recv`, `timestamptz_recv` and their sends).
+/// of the 8 bytes of TIMESTAMP and TIMESTAMPTZ (`timestamp_recv`, `timestamptz_recv` and their
+/// sends).
 #[derive(Debug, Clone, Copy, PartialEq, Eq, Drop)]
 pub enum Timestamp<T> {
     /// `infinity`, which is later than every other moment.

@@ -58,7 +58,7 @@ impl UnixTime {
     }
 
     /// The microseconds from 2000-01-01 00:00:00 UTC to the moment, cut toward 2000 on both sides;
-    /// `None` where they leave an `i64`.
+    /// `None` where an `i64` does not hold them.
     pub fn to_postgres_micros(&self) -> Option<i64>
         ensures { MatchOption result (fits_signed w64 (cut_micros (nanos_of self.now)) ≡ false)
             (λ micros. micros ≡ cut_micros (nanos_of self.now)) }

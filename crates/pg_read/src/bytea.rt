@@ -13,7 +13,7 @@ use pg_base::protocol::bytea_from_sql;
 use pg_base::types::PgType;
 use std::alloc::Global;
 
-/// BYTEA: the bytes, in place. NULL is `WasNull`.
+/// BYTEA: the bytes, in place (`bytearecv`). NULL is `WasNull`.
 impl<'a> FromSql<'a> for &'a [u8] {
     ghost same = { λ s t. s.now ≡ t.now };
 
@@ -43,7 +43,7 @@ impl<'a> FromSql<'a> for &'a [u8] {
     }
 }
 
-/// BYTEA: a copy of the bytes. NULL is `WasNull`.
+/// BYTEA: a copy of the bytes (`bytearecv`). NULL is `WasNull`.
 impl<'a> FromSql<'a> for Vec<u8> {
     ghost same = { λ s t. s.items ≡ t.items };
 

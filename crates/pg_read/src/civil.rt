@@ -71,8 +71,8 @@ fn instant_of(micros: i64) -> Result<Timestamp, Fault>
 }
 
 /// DATE: 4 bytes, highest first, in two's complement, the days from 2000-01-01 (`date_recv`). Any
-/// other length is `Size`, a date before -9999-01-01 or after 9999-12-31 is `Decode`, the two counts
-/// that PostgreSQL takes for infinities included, and NULL is `WasNull`.
+/// other length is `Size`, a date before -9999-01-01 or after 9999-12-31 is `Decode`, the two
+/// counts that PostgreSQL takes for infinities included, and NULL is `WasNull`.
 impl<'a> FromSql<'a> for Date {
     ghost same = { λ v w. epoch_day v ≡ epoch_day w };
 
@@ -102,8 +102,8 @@ impl<'a> FromSql<'a> for Date {
 }
 
 /// TIME: 8 bytes, highest first, in two's complement, the microseconds from midnight (`time_recv`).
-/// Any other length is `Size`, what lies outside 0 to 86,399,999,999 is `Decode`, 24:00:00 included,
-/// and NULL is `WasNull`.
+/// Any other length is `Size`, what lies outside 0 to 86,399,999,999 is `Decode`, 24:00:00
+/// included, and NULL is `WasNull`.
 impl<'a> FromSql<'a> for Time {
     ghost same = { λ v w. time_nanos v ≡ time_nanos w };
 
@@ -132,10 +132,10 @@ impl<'a> FromSql<'a> for Time {
     }
 }
 
-/// TIMESTAMP: 8 bytes, highest first, in two's complement, the microseconds from 2000-01-01 00:00:00
-/// (`timestamp_recv`). Any other length is `Size`, a moment before -9999-01-01 00:00:00 or after
-/// 9999-12-31 23:59:59.999999 is `Decode`, the two counts that PostgreSQL takes for infinities included, and NULL is
-/// `WasNull`.
+/// TIMESTAMP: 8 bytes, highest first, in two's complement, the microseconds from 2000-01-01
+/// 00:00:00 (`timestamp_recv`). Any other length is `Size`, a moment before -9999-01-01 00:00:00 or
+/// after 9999-12-31 23:59:59.999999 is `Decode`, the two counts that PostgreSQL takes for
+/// infinities included, and NULL is `WasNull`.
 impl<'a> FromSql<'a> for DateTime {
     ghost same = { λ v w. civil_nanos v ≡ civil_nanos w };
 
@@ -164,10 +164,10 @@ impl<'a> FromSql<'a> for DateTime {
     }
 }
 
-/// TIMESTAMPTZ: 8 bytes, highest first, in two's complement, the microseconds from 2000-01-01 00:00:00
-/// UTC (`timestamptz_recv`). Any other length is `Size`, an instant before [`Timestamp::MIN`] or after
-/// [`Timestamp::MAX`] is `Decode`, the two counts that PostgreSQL takes for infinities included, and
-/// NULL is `WasNull`.
+/// TIMESTAMPTZ: 8 bytes, highest first, in two's complement, the microseconds from 2000-01-01
+/// 00:00:00 UTC (`timestamptz_recv`). Any other length is `Size`, an instant before
+/// [`Timestamp::MIN`] or after [`Timestamp::MAX`] is `Decode`, the two counts that PostgreSQL takes
+/// for infinities included, and NULL is `WasNull`.
 impl<'a> FromSql<'a> for Timestamp {
     ghost same = { λ v w. instant_nanos v ≡ instant_nanos w };
 

@@ -13,8 +13,8 @@ use std::alloc::Global;
 /// A type that is read from a cell in PostgreSQL's binary format.
 ///
 /// An implementation says by its ghost members what it reads, and proves that its functions answer
-/// so; it writes all three functions. What a call answers apart from
-/// `Memory` depends on the type and the cell alone.
+/// so; it writes all three functions. Apart from `Memory`, what a call answers depends on the type
+/// and the cell alone.
 pub trait FromSql<'a>: Sized + Drop {
     /// Two values have the same content.
     ghost same: { Self → Self → Type 0 };
@@ -28,13 +28,15 @@ pub trait FromSql<'a>: Sized + Drop {
     /// The cell is read without memory. An implementation that says nothing claims it of no cell.
     ghost memory_free: { Cell → Type 0 } = { λ _. ⊥ };
 
-    /// Reads the bytes of a cell that is not NULL. The type must be accepted.
+    /// Reads the bytes of a cell that is not NULL, and answers the value, the fault of the first
+    /// check that they fail, or `Memory`. The type must be accepted.
     fn from_sql(alloc: Global, ty: &PgType, raw: &'a [u8]) -> Result<Self, Fault>
         requires { IsTrue (accepted (content ty.now)) }
         ensures outcome { Answers (reads (content ty.now) (Some raw.entry.now)) result }
         ensures never_memory { memory_free (Some raw.entry.now) → NeverMemory result };
 
-    /// Reads NULL. The type must be accepted.
+    /// Reads NULL, and answers the value or the fault that it is for this Rust type, most often
+    /// `WasNull`. The type must be accepted.
     fn from_sql_null(alloc: Global, ty: &PgType) -> Result<Self, Fault>
         requires { IsTrue (accepted (content ty.now)) }
         ensures outcome { Answers (reads (content ty.now) None) result }
@@ -51,7 +53,8 @@ pub trait FromSql<'a>: Sized + Drop {
     ghost single: { (ty : Content) → IsTrue (accepted ty) → ReadsSingle same (reads ty) };
 }
 
-/// Reads a cell, of which `None` is NULL. The type must be accepted.
+/// Reads a cell, of which `None` is NULL: answers what `from_sql` or `from_sql_null` does. The type
+/// must be accepted.
 pub fn from_sql_nullable<'a, T: FromSql<'a>>(
     alloc: Global,
     ty: &PgType,

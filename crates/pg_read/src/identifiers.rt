@@ -16,7 +16,8 @@ use pg_base::types::PgType;
 use std::alloc::Global;
 use uuid::Uuid;
 
-/// MACADDR: 6 bytes. Any other length is `Size`, and NULL is `WasNull`.
+/// MACADDR: 6 bytes, in the order in which they are printed (`macaddr_recv`). Any other length is
+/// `Size`, and NULL is `WasNull`.
 impl<'a> FromSql<'a> for MacAddress {
     ghost same = { λ v w. v ≡ w };
 
@@ -44,7 +45,8 @@ impl<'a> FromSql<'a> for MacAddress {
     }
 }
 
-/// UUID: 16 bytes. Any other length is `Size`, and NULL is `WasNull`.
+/// UUID: 16 bytes, in the order in which they are printed (`uuid_recv`). Any other length is
+/// `Size`, and NULL is `WasNull`.
 impl<'a> FromSql<'a> for Uuid {
     ghost same = { λ v w. v ≡ w };
 

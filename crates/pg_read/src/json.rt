@@ -18,11 +18,11 @@ use serde_json::Value;
 use std::alloc::Global;
 
 /// JSON: the document's text (`json_recv`). JSONB: the version 1 and the text (`jsonb_recv`); no
-/// bytes are `Size`, and another first byte is `JsonVersion`. A text from which `serde_json` reads no
-/// document is `JsonText`: it is no JSON or no UTF-8, it nests more than 127 deep, or a number passes
-/// the greatest `f64`. A document that holds, at any depth, a number that is kept as neither `i64`
-/// nor `u64` is `JsonNumber`: a fraction, an exponent, `-0`, or a whole number outside both. NULL is
-/// `WasNull`.
+/// bytes are `Size`, and another first byte is `JsonVersion`. A text from which `serde_json` reads
+/// no document is `JsonText`: it is not JSON or not UTF-8, it nests more than 127 deep, or a number
+/// passes the greatest `f64`. A document that holds, at any depth, a number that is kept as neither
+/// `i64` nor `u64` is `JsonNumber`: a fraction, an exponent, `-0`, or a whole number outside both.
+/// NULL is `WasNull`.
 impl<'a> FromSql<'a> for Value {
     ghost same = { λ v w. view v ≡ view w };
 

@@ -1,7 +1,7 @@
 //! Reading: a type and a cell to a value.
 //!
-//! [`from_sql_nullable`](from_sql::from_sql_nullable) answers what the type's reading gives the
-//! cell.
+//! [`from_sql_nullable`](from_sql::from_sql_nullable) reads a cell, of which `None` is NULL: it
+//! answers the value, or the fault that refuses the cell.
 #![tactic(auto)]
 
 mod arrays;

@@ -15,8 +15,8 @@ use pg_base::protocol::lsn_from_sql;
 use pg_base::types::PgType;
 use std::alloc::Global;
 
-/// PG_LSN: 8 bytes without a sign, highest first. Any other length is `Size`, and NULL is
-/// `WasNull`.
+/// PG_LSN: 8 bytes, unsigned, highest first (`pg_lsn_recv`). Any other length is `Size`, and NULL
+/// is `WasNull`.
 impl<'a> FromSql<'a> for PgLsn {
     ghost same = { λ v w. v ≡ w };
 

@@ -15,11 +15,11 @@ use pg_base::types::PgType;
 use std::alloc::Global;
 use std::net::IpAddr;
 
-/// INET: the family's number, 2 or 3, the length of the netmask, a flag of any value, the number of
-/// octets, and the octets, 4 or 16, which alone are the value. Fewer than 4 bytes are `Size`; then
-/// another family is `Family`, a netmask that is longer than the address `Netmask`, another number of
-/// octets than the family's `AddressLength`, and octets of another length than that `Size`. NULL is
-/// `WasNull`.
+/// INET (`inet_recv`), in one byte each: the family's number, 2 or 3, the length of the netmask, a
+/// flag of any value, the number of octets, and the octets, 4 or 16, which alone are the value.
+/// Fewer than 4 bytes are `Size`; then another family is `Family`, a netmask that is longer than
+/// the address `Netmask`, another number of octets than the family's `AddressLength`, and octets of
+/// another length than that `Size`. NULL is `WasNull`.
 impl<'a> FromSql<'a> for IpAddr {
     ghost same = { λ v w. v ≡ w };
 
@@ -47,7 +47,7 @@ impl<'a> FromSql<'a> for IpAddr {
     }
 }
 
-/// INET: as for `IpAddr`, with the netmask. NULL is `WasNull`.
+/// INET (`inet_recv`): as for `IpAddr`, with the netmask. NULL is `WasNull`.
 impl<'a> FromSql<'a> for IpInet {
     ghost same = { λ v w. v ≡ w };
 
@@ -76,8 +76,8 @@ impl<'a> FromSql<'a> for IpInet {
     }
 }
 
-/// CIDR: as INET for `IpInet`, and then, where a bit of the address after the netmask is 1, `HostBits`.
-/// NULL is `WasNull`.
+/// CIDR (`cidr_recv`): as INET for `IpInet`, and then, where a bit of the address after the netmask
+/// is 1, `HostBits`. NULL is `WasNull`.
 impl<'a> FromSql<'a> for IpCidr {
     ghost same = { λ v w. v ≡ w };
 

@@ -16,8 +16,8 @@ use pg_base::protocol::{
 use pg_base::types::PgType;
 use std::alloc::Global;
 
-/// BOOL: 1 byte, of which 0 is false and any other true. Any other length is `Size`, and NULL is
-/// `WasNull`.
+/// BOOL: 1 byte, of which 0 is false and any other true (`boolrecv`). Any other length is `Size`,
+/// and NULL is `WasNull`.
 impl<'a> FromSql<'a> for bool {
     ghost same = { λ v w. v ≡ w };
 
@@ -45,7 +45,8 @@ impl<'a> FromSql<'a> for bool {
     }
 }
 
-/// CHAR: 1 byte. Any other length is `Size`, and NULL is `WasNull`.
+/// CHAR: 1 byte, in two's complement (`charrecv`). Any other length is `Size`, and NULL is
+/// `WasNull`.
 impl<'a> FromSql<'a> for i8 {
     ghost same = { λ v w. v ≡ w };
 
@@ -73,7 +74,8 @@ impl<'a> FromSql<'a> for i8 {
     }
 }
 
-/// INT2: 2 bytes, highest first. Any other length is `Size`, and NULL is `WasNull`.
+/// INT2: 2 bytes, highest first, in two's complement (`int2recv`). Any other length is `Size`, and
+/// NULL is `WasNull`.
 impl<'a> FromSql<'a> for i16 {
     ghost same = { λ v w. v ≡ w };
 
@@ -101,7 +103,8 @@ impl<'a> FromSql<'a> for i16 {
     }
 }
 
-/// INT4: 4 bytes, highest first. Any other length is `Size`, and NULL is `WasNull`.
+/// INT4: 4 bytes, highest first, in two's complement (`int4recv`). Any other length is `Size`, and
+/// NULL is `WasNull`.
 impl<'a> FromSql<'a> for i32 {
     ghost same = { λ v w. v ≡ w };
 
@@ -129,7 +132,8 @@ impl<'a> FromSql<'a> for i32 {
     }
 }
 
-/// INT8: 8 bytes, highest first. Any other length is `Size`, and NULL is `WasNull`.
+/// INT8: 8 bytes, highest first, in two's complement (`int8recv`). Any other length is `Size`, and
+/// NULL is `WasNull`.
 impl<'a> FromSql<'a> for i64 {
     ghost same = { λ v w. v ≡ w };
 
@@ -157,7 +161,8 @@ impl<'a> FromSql<'a> for i64 {
     }
 }
 
-/// OID: 4 bytes without a sign, highest first. Any other length is `Size`, and NULL is `WasNull`.
+/// OID: 4 bytes, unsigned, highest first (`oidrecv`). Any other length is `Size`, and NULL is
+/// `WasNull`.
 impl<'a> FromSql<'a> for u32 {
     ghost same = { λ v w. v ≡ w };
 

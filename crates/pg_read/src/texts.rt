@@ -30,9 +30,10 @@ fn text_of<'a>(ty: &PgType, raw: &'a [u8]) -> Result<&'a str, Fault>
     }
 }
 
-/// The text's bytes, in place. A type that is named ltree, lquery or ltxtquery has the version 1
-/// first, and another first byte, or none, is `TextVersion`. What is no UTF-8 is `Utf8`, and NULL
-/// is `WasNull`.
+/// VARCHAR, TEXT, BPCHAR, NAME, UNKNOWN, and any type named citext, ltree, lquery or ltxtquery: the
+/// text's bytes, in place (`textrecv`). A type that is named ltree, lquery or ltxtquery has the
+/// version 1 first (`ltree_recv`), and another first byte, or none, is `TextVersion`. What is not
+/// UTF-8 is `Utf8`, and NULL is `WasNull`.
 impl<'a> FromSql<'a> for &'a str {
     ghost same = { λ s t. s.now ≡ t.now };
 
@@ -61,9 +62,10 @@ impl<'a> FromSql<'a> for &'a str {
     }
 }
 
-/// The text's bytes, always borrowed. A type that is named ltree, lquery or ltxtquery has the
-/// version 1 first, and another first byte, or none, is `TextVersion`. What is no UTF-8 is `Utf8`,
-/// and NULL is `WasNull`.
+/// VARCHAR, TEXT, BPCHAR, NAME, UNKNOWN, and any type named citext, ltree, lquery or ltxtquery: the
+/// text's bytes, always borrowed (`textrecv`). A type that is named ltree, lquery or ltxtquery has
+/// the version 1 first (`ltree_recv`), and another first byte, or none, is `TextVersion`. What is
+/// not UTF-8 is `Utf8`, and NULL is `WasNull`.
 impl<'a> FromSql<'a> for CowStr<'a> {
     ghost same = { λ s t. cow_str_bytes s ≡ cow_str_bytes t };
 
@@ -92,9 +94,10 @@ impl<'a> FromSql<'a> for CowStr<'a> {
     }
 }
 
-/// A copy of the text's bytes. A type that is named ltree, lquery or ltxtquery has the version 1
-/// first, and another first byte, or none, is `TextVersion`. What is no UTF-8 is `Utf8`, and NULL
-/// is `WasNull`.
+/// VARCHAR, TEXT, BPCHAR, NAME, UNKNOWN, and any type named citext, ltree, lquery or ltxtquery: a
+/// copy of the text's bytes (`textrecv`). A type that is named ltree, lquery or ltxtquery has the
+/// version 1 first (`ltree_recv`), and another first byte, or none, is `TextVersion`. What is not
+/// UTF-8 is `Utf8`, and NULL is `WasNull`.
 impl<'a> FromSql<'a> for String {
     ghost same = { λ s t. string_bytes s ≡ string_bytes t };
 
@@ -121,9 +124,10 @@ impl<'a> FromSql<'a> for String {
     }
 }
 
-/// A copy of the text's bytes. A type that is named ltree, lquery or ltxtquery has the version 1
-/// first, and another first byte, or none, is `TextVersion`. What is no UTF-8 is `Utf8`, and NULL
-/// is `WasNull`.
+/// VARCHAR, TEXT, BPCHAR, NAME, UNKNOWN, and any type named citext, ltree, lquery or ltxtquery: a
+/// copy of the text's bytes (`textrecv`). A type that is named ltree, lquery or ltxtquery has the
+/// version 1 first (`ltree_recv`), and another first byte, or none, is `TextVersion`. What is not
+/// UTF-8 is `Utf8`, and NULL is `WasNull`.
 impl<'a> FromSql<'a> for BoxedStr {
     ghost same = { λ s t. boxed_str_bytes s ≡ boxed_str_bytes t };
 

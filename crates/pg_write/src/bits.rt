@@ -14,8 +14,9 @@ use pg_base::protocol::varbit_to_sql;
 use pg_base::types::PgType;
 use std::alloc::Global;
 
-/// BIT and VARBIT: the number of bits in 4 bytes, and as many bytes as they take, with 0 for what
-/// pads the last one. More than 2,147,483,647 bits are `Transmit`.
+/// BIT and VARBIT: the number of bits in 4 bytes, highest first, and as many bytes as they take,
+/// the first bit on top of the first byte, with 0 for what pads the last one (`bit_send`,
+/// `varbit_send`). More than 2,147,483,647 bits are `Transmit`.
 impl ToSql for BitVec {
     ghost accepted = { accepted_bits };
 
@@ -46,7 +47,7 @@ impl ToSql for BitVec {
         ty: &PgType,
         out: &mut BytesMut,
     ) -> Result<IsNull, Fault> {
-        if <BitVec as ToSql>::accepts(ty) {
+        if Self::accepts(ty) {
             self.to_sql(alloc, ty, out)
         } else {
             Err(wrong_type(ty, "BitVec"))

@@ -16,7 +16,7 @@ use pg_base::types::PgType;
 use std::alloc::Global;
 use std::borrow::CowSlice;
 
-/// BYTEA: the bytes. They are never NULL, even where there are none.
+/// BYTEA: the bytes (`byteasend`). They are never NULL, even where there are none.
 impl<'b> ToSql for &'b [u8] {
     ghost accepted = { is_row Bytea };
 
@@ -50,7 +50,7 @@ impl<'b> ToSql for &'b [u8] {
         ty: &PgType,
         out: &mut BytesMut,
     ) -> Result<IsNull, Fault> {
-        if <&'b [u8] as ToSql>::accepts(ty) {
+        if Self::accepts(ty) {
             self.to_sql(alloc, ty, out)
         } else {
             Err(wrong_type(ty, "&[u8]"))
@@ -64,7 +64,7 @@ impl<'b> ToSql for &'b [u8] {
     ghost checks = { λ _ _. refl };
 }
 
-/// BYTEA: the bytes. They are never NULL, even where there are none.
+/// BYTEA: the bytes (`byteasend`). They are never NULL, even where there are none.
 impl ToSql for Vec<u8> {
     ghost accepted = { is_row Bytea };
 
@@ -96,7 +96,7 @@ impl ToSql for Vec<u8> {
         ty: &PgType,
         out: &mut BytesMut,
     ) -> Result<IsNull, Fault> {
-        if <Vec<u8> as ToSql>::accepts(ty) {
+        if Self::accepts(ty) {
             self.to_sql(alloc, ty, out)
         } else {
             Err(wrong_type(ty, "Vec<u8>"))
@@ -110,7 +110,7 @@ impl ToSql for Vec<u8> {
     ghost checks = { λ _ _. refl };
 }
 
-/// BYTEA: the bytes. They are never NULL, even where there are none.
+/// BYTEA: the bytes (`byteasend`). They are never NULL, even where there are none.
 impl<const N: usize> ToSql for [u8; N] {
     ghost accepted = { is_row Bytea };
 
@@ -142,7 +142,7 @@ impl<const N: usize> ToSql for [u8; N] {
         ty: &PgType,
         out: &mut BytesMut,
     ) -> Result<IsNull, Fault> {
-        if <[u8; N] as ToSql>::accepts(ty) {
+        if Self::accepts(ty) {
             self.to_sql(alloc, ty, out)
         } else {
             Err(wrong_type(ty, "[u8; N]"))
@@ -156,7 +156,7 @@ impl<const N: usize> ToSql for [u8; N] {
     ghost checks = { λ _ _. refl };
 }
 
-/// BYTEA: the bytes. They are never NULL, even where there are none.
+/// BYTEA: the bytes (`byteasend`). They are never NULL, even where there are none.
 impl<'b> ToSql for CowSlice<'b, u8> {
     ghost accepted = { is_row Bytea };
 
@@ -190,7 +190,7 @@ impl<'b> ToSql for CowSlice<'b, u8> {
         ty: &PgType,
         out: &mut BytesMut,
     ) -> Result<IsNull, Fault> {
-        if <CowSlice<'b, u8> as ToSql>::accepts(ty) {
+        if Self::accepts(ty) {
             self.to_sql(alloc, ty, out)
         } else {
             Err(wrong_type(ty, "Cow<[u8]>"))

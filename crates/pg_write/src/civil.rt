@@ -47,8 +47,9 @@ fn micros_of_instant(instant: Timestamp) -> i64
     ((instant.as_nanosecond() - POSTGRES_EPOCH_NANOS) / 1_000) as i64
 }
 
-/// DATE: 4 bytes, highest first, in two's complement, the days from 2000-01-01 (`date_send`). No date
-/// is refused, and none is written as one of the two counts that PostgreSQL takes for infinities.
+/// DATE: 4 bytes, highest first, in two's complement, the days from 2000-01-01 (`date_send`). No
+/// date is refused, and none is written as one of the two counts that PostgreSQL takes for
+/// infinities.
 impl ToSql for Date {
     ghost accepted = { is_row DateRow };
 
@@ -80,7 +81,7 @@ impl ToSql for Date {
         ty: &PgType,
         out: &mut BytesMut,
     ) -> Result<IsNull, Fault> {
-        if <Date as ToSql>::accepts(ty) {
+        if Self::accepts(ty) {
             self.to_sql(alloc, ty, out)
         } else {
             Err(wrong_type(ty, "jiff::civil::Date"))
@@ -127,7 +128,7 @@ impl ToSql for Time {
         ty: &PgType,
         out: &mut BytesMut,
     ) -> Result<IsNull, Fault> {
-        if <Time as ToSql>::accepts(ty) {
+        if Self::accepts(ty) {
             self.to_sql(alloc, ty, out)
         } else {
             Err(wrong_type(ty, "jiff::civil::Time"))
@@ -141,9 +142,9 @@ impl ToSql for Time {
     ghost checks = { λ _ _. refl };
 }
 
-/// TIMESTAMP: 8 bytes, highest first, in two's complement, the microseconds from 2000-01-01 00:00:00,
-/// cut toward it on both sides (`timestamp_send`). No moment is refused, and none is written as one of
-/// the two counts that PostgreSQL takes for infinities.
+/// TIMESTAMP: 8 bytes, highest first, in two's complement, the microseconds from 2000-01-01
+/// 00:00:00, cut toward it on both sides (`timestamp_send`). No moment is refused, and none is
+/// written as one of the two counts that PostgreSQL takes for infinities.
 impl ToSql for DateTime {
     ghost accepted = { is_row TimestampRow };
 
@@ -175,7 +176,7 @@ impl ToSql for DateTime {
         ty: &PgType,
         out: &mut BytesMut,
     ) -> Result<IsNull, Fault> {
-        if <DateTime as ToSql>::accepts(ty) {
+        if Self::accepts(ty) {
             self.to_sql(alloc, ty, out)
         } else {
             Err(wrong_type(ty, "jiff::civil::DateTime"))
@@ -189,9 +190,9 @@ impl ToSql for DateTime {
     ghost checks = { λ _ _. refl };
 }
 
-/// TIMESTAMPTZ: 8 bytes, highest first, in two's complement, the microseconds from 2000-01-01 00:00:00
-/// UTC, cut toward it on both sides (`timestamptz_send`). No instant is refused, and none is written
-/// as one of the two counts that PostgreSQL takes for infinities.
+/// TIMESTAMPTZ: 8 bytes, highest first, in two's complement, the microseconds from 2000-01-01
+/// 00:00:00 UTC, cut toward it on both sides (`timestamptz_send`). No instant is refused, and none
+/// is written as one of the two counts that PostgreSQL takes for infinities.
 impl ToSql for Timestamp {
     ghost accepted = { is_row Timestamptz };
 
@@ -223,7 +224,7 @@ impl ToSql for Timestamp {
         ty: &PgType,
         out: &mut BytesMut,
     ) -> Result<IsNull, Fault> {
-        if <Timestamp as ToSql>::accepts(ty) {
+        if Self::accepts(ty) {
             self.to_sql(alloc, ty, out)
         } else {
             Err(wrong_type(ty, "jiff::Timestamp"))

@@ -17,10 +17,10 @@ use std::alloc::Global;
 use std::collections::HashMap;
 use std::hash::BuildHasher;
 
-/// Any type that is named hstore: the number of entries, and the frames of each key and its value,
-/// in the order of the keys' bytes. Where the number of entries, a key or a value passes
-/// 2,147,483,647 it is `Transmit`. The entries are sorted in memory of their own, which may be
-/// refused.
+/// Any type that is named hstore (`hstore_send`): the number of entries in 4 bytes, highest first,
+/// and the frames of each key and its value, in the order of the keys' bytes. Where the number of
+/// entries, a key or a value passes 2,147,483,647 it is `Transmit`. The entries are sorted in
+/// memory of their own, which may be refused.
 impl<S: BuildHasher + Drop> ToSql for HashMap<String, Option<String>, S> {
     ghost accepted = { is_named (codes "hstore") };
 

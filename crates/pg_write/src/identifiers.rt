@@ -16,7 +16,7 @@ use pg_base::types::PgType;
 use std::alloc::Global;
 use uuid::Uuid;
 
-/// MACADDR: 6 bytes.
+/// MACADDR: 6 bytes, in the order in which they are printed (`macaddr_send`).
 impl ToSql for MacAddress {
     ghost accepted = { is_row Macaddr };
 
@@ -48,7 +48,7 @@ impl ToSql for MacAddress {
         ty: &PgType,
         out: &mut BytesMut,
     ) -> Result<IsNull, Fault> {
-        if <MacAddress as ToSql>::accepts(ty) {
+        if Self::accepts(ty) {
             self.to_sql(alloc, ty, out)
         } else {
             Err(wrong_type(ty, "MacAddress"))
@@ -62,7 +62,7 @@ impl ToSql for MacAddress {
     ghost checks = { λ _ _. refl };
 }
 
-/// UUID: 16 bytes.
+/// UUID: 16 bytes, in the order in which they are printed (`uuid_send`).
 impl ToSql for Uuid {
     ghost accepted = { is_row UuidRow };
 
@@ -94,7 +94,7 @@ impl ToSql for Uuid {
         ty: &PgType,
         out: &mut BytesMut,
     ) -> Result<IsNull, Fault> {
-        if <Uuid as ToSql>::accepts(ty) {
+        if Self::accepts(ty) {
             self.to_sql(alloc, ty, out)
         } else {
             Err(wrong_type(ty, "Uuid"))

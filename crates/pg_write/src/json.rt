@@ -59,7 +59,7 @@ impl ToSql for Value {
         ty: &PgType,
         out: &mut BytesMut,
     ) -> Result<IsNull, Fault> {
-        if <Value as ToSql>::accepts(ty) {
+        if Self::accepts(ty) {
             self.to_sql(alloc, ty, out)
         } else {
             Err(wrong_type(ty, "serde_json::Value"))

@@ -1,7 +1,7 @@
 //! Writing: a type and a value to a cell.
 //!
-//! [`to_sql`](to_sql::ToSql::to_sql) appends the cell that the type's writing gives the value, or
-//! answers its NULL, its fault, or Memory, and then leaves the buffer's bytes as they were.
+//! [`to_sql`](to_sql::ToSql::to_sql) appends the bytes of a value's cell; a NULL and an error leave
+//! the buffer's bytes as they were.
 #![tactic(auto)]
 
 mod bits;

@@ -11,10 +11,11 @@ ghost use Rattle.pg_write.specs.Writing.{Writes, checked_by};
 
 use crate::to_sql::{ToSql, wrong_type};
 use bytes::BytesMut;
+use pg_base::acceptance::member_type;
 use pg_base::fault::Fault;
 use pg_base::format::{Format, IsNull};
 use pg_base::protocol::array_to_sql;
-use pg_base::types::{KindRef, PgType};
+use pg_base::types::PgType;
 use std::alloc::Global;
 use std::boxed::BoxedSlice;
 
@@ -53,7 +54,7 @@ impl<T: ToSql> ToSql for Vec<T> {
         ty: &PgType,
         out: &mut BytesMut,
     ) -> Result<IsNull, Fault> {
-        if <Vec<T> as ToSql>::accepts(ty) {
+        if Self::accepts(ty) {
             self.to_sql(alloc, ty, out)
         } else {
             Err(wrong_type(ty, "Vec"))
@@ -97,7 +98,7 @@ impl<'b, T: ToSql> ToSql for &'b [T] {
         ty: &PgType,
         out: &mut BytesMut,
     ) -> Result<IsNull, Fault> {
-        if <&'b [T] as ToSql>::accepts(ty) {
+        if Self::accepts(ty) {
             self.to_sql(alloc, ty, out)
         } else {
             Err(wrong_type(ty, "&[T]"))
@@ -139,7 +140,7 @@ impl<T: ToSql, const N: usize> ToSql for [T; N] {
         ty: &PgType,
         out: &mut BytesMut,
     ) -> Result<IsNull, Fault> {
-        if <[T; N] as ToSql>::accepts(ty) {
+        if Self::accepts(ty) {
             self.to_sql(alloc, ty, out)
         } else {
             Err(wrong_type(ty, "[T; N]"))
@@ -181,7 +182,7 @@ impl<T: ToSql> ToSql for BoxedSlice<T> {
         ty: &PgType,
         out: &mut BytesMut,
     ) -> Result<IsNull, Fault> {
-        if <BoxedSlice<T> as ToSql>::accepts(ty) {
+        if Self::accepts(ty) {
             self.to_sql(alloc, ty, out)
         } else {
             Err(wrong_type(ty, "Box<[T]>"))
@@ -199,9 +200,9 @@ impl<T: ToSql> ToSql for BoxedSlice<T> {
 fn accepts_list<T: ToSql>(ty: &PgType) -> bool
     ensures { result ≡ accepted_list T.accepted (content ty.now) }
 {
-    match ty.kind() {
-        KindRef::Array(member) => T::accepts(&*member),
-        _ => false,
+    match member_type(ty) {
+        Some(member) => T::accepts(&member),
+        None => false,
     }
 }
 
@@ -215,13 +216,13 @@ fn list_to_sql<T: ToSql>(
     requires { IsTrue (accepted_list T.accepted (content ty.now)) }
     ensures { Writes (wire_list T.wire (content ty.now) values.now) out.old.items out.new.items result }
 {
-    let KindRef::Array(member) = ty.kind() else {
-        return Err(Fault::Transmit);
+    let Some(member) = member_type(ty) else {
+        unreachable!()
     };
     if values.len() > MAX_LEN {
         return Err(Fault::Transmit);
     }
-    let cells = element_cells(alloc, &*member, values)?;
+    let cells = element_cells(alloc, &member, values)?;
     array_to_sql(alloc, lower_bound(ty), member.oid(), cells.as_slice(), out)?;
     Ok(IsNull::No)
 }
@@ -259,10 +260,7 @@ fn element_cell<T: ToSql>(
     if bytes.len() > MAX_LEN {
         return Err(Fault::Transmit);
     }
-    match bytes.into_vec() {
-        Ok(bytes) => Ok(Some(bytes)),
-        Err(_) => Err(Fault::Memory),
-    }
+    Ok(Some(bytes.into_vec()?))
 }
 
 /// The number of the first member of an array of that type.

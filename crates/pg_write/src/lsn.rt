@@ -16,7 +16,7 @@ use pg_base::protocol::lsn_to_sql;
 use pg_base::types::PgType;
 use std::alloc::Global;
 
-/// PG_LSN: 8 bytes without a sign, highest first.
+/// PG_LSN: 8 bytes, unsigned, highest first (`pg_lsn_send`).
 impl ToSql for PgLsn {
     ghost accepted = { is_row PgLsnRow };
 
@@ -48,7 +48,7 @@ impl ToSql for PgLsn {
         ty: &PgType,
         out: &mut BytesMut,
     ) -> Result<IsNull, Fault> {
-        if <PgLsn as ToSql>::accepts(ty) {
+        if Self::accepts(ty) {
             self.to_sql(alloc, ty, out)
         } else {
             Err(wrong_type(ty, "PgLsn"))

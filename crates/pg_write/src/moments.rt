@@ -15,8 +15,8 @@ use pg_base::unix_time::UnixTime;
 use std::alloc::Global;
 
 /// TIMESTAMP, TIMESTAMPTZ: 8 bytes, highest first, in two's complement, the microseconds from
-/// 2000-01-01 00:00:00 UTC, cut toward it (`timestamp_send`, `timestamptz_send`). Where they leave 8
-/// bytes the moment is `Transmit`.
+/// 2000-01-01 00:00:00 UTC, cut toward it (`timestamp_send`, `timestamptz_send`). Where they leave
+/// 8 bytes the moment is `Transmit`.
 impl ToSql for UnixTime {
     ghost accepted = { accepted_moment };
 
@@ -48,7 +48,7 @@ impl ToSql for UnixTime {
         ty: &PgType,
         out: &mut BytesMut,
     ) -> Result<IsNull, Fault> {
-        if <UnixTime as ToSql>::accepts(ty) {
+        if Self::accepts(ty) {
             self.to_sql(alloc, ty, out)
         } else {
             Err(wrong_type(ty, "UnixTime"))

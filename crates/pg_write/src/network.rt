@@ -16,8 +16,8 @@ use pg_base::types::PgType;
 use std::alloc::Global;
 use std::net::IpAddr;
 
-/// INET: the family's number, 2 or 3, a netmask of all the address's bits, 32 or 128, the flag 0, the
-/// number of octets, and the octets, 4 or 16.
+/// INET (`inet_send`), in one byte each: the family's number, 2 or 3, a netmask of all the
+/// address's bits, 32 or 128, the flag 0, the number of octets, and the octets, 4 or 16.
 impl ToSql for IpAddr {
     ghost accepted = { is_row Inet };
 
@@ -49,7 +49,7 @@ impl ToSql for IpAddr {
         ty: &PgType,
         out: &mut BytesMut,
     ) -> Result<IsNull, Fault> {
-        if <IpAddr as ToSql>::accepts(ty) {
+        if Self::accepts(ty) {
             self.to_sql(alloc, ty, out)
         } else {
             Err(wrong_type(ty, "IpAddr"))
@@ -63,7 +63,7 @@ impl ToSql for IpAddr {
     ghost checks = { λ _ _. refl };
 }
 
-/// INET: as for `IpAddr`, with the netmask of the value.
+/// INET (`inet_send`): as for `IpAddr`, with the netmask of the value.
 impl ToSql for IpInet {
     ghost accepted = { is_row Inet };
 
@@ -95,7 +95,7 @@ impl ToSql for IpInet {
         ty: &PgType,
         out: &mut BytesMut,
     ) -> Result<IsNull, Fault> {
-        if <IpInet as ToSql>::accepts(ty) {
+        if Self::accepts(ty) {
             self.to_sql(alloc, ty, out)
         } else {
             Err(wrong_type(ty, "IpInet"))
@@ -109,7 +109,7 @@ impl ToSql for IpInet {
     ghost checks = { λ _ _. refl };
 }
 
-/// CIDR: as INET for `IpInet`.
+/// CIDR (`cidr_send`): as INET for `IpInet`.
 impl ToSql for IpCidr {
     ghost accepted = { is_row Cidr };
 
@@ -141,7 +141,7 @@ impl ToSql for IpCidr {
         ty: &PgType,
         out: &mut BytesMut,
     ) -> Result<IsNull, Fault> {
-        if <IpCidr as ToSql>::accepts(ty) {
+        if Self::accepts(ty) {
             self.to_sql(alloc, ty, out)
         } else {
             Err(wrong_type(ty, "IpCidr"))

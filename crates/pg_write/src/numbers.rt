@@ -17,7 +17,7 @@ use pg_base::protocol::{
 use pg_base::types::PgType;
 use std::alloc::Global;
 
-/// BOOL: 1 byte, 0 or 1.
+/// BOOL: 1 byte, 0 or 1 (`boolsend`).
 impl ToSql for bool {
     ghost accepted = { is_row Bool };
 
@@ -49,7 +49,7 @@ impl ToSql for bool {
         ty: &PgType,
         out: &mut BytesMut,
     ) -> Result<IsNull, Fault> {
-        if <bool as ToSql>::accepts(ty) {
+        if Self::accepts(ty) {
             self.to_sql(alloc, ty, out)
         } else {
             Err(wrong_type(ty, "bool"))
@@ -63,7 +63,7 @@ impl ToSql for bool {
     ghost checks = { λ _ _. refl };
 }
 
-/// CHAR: 1 byte.
+/// CHAR: 1 byte, in two's complement (`charsend`).
 impl ToSql for i8 {
     ghost accepted = { is_row Char };
 
@@ -95,7 +95,7 @@ impl ToSql for i8 {
         ty: &PgType,
         out: &mut BytesMut,
     ) -> Result<IsNull, Fault> {
-        if <i8 as ToSql>::accepts(ty) {
+        if Self::accepts(ty) {
             self.to_sql(alloc, ty, out)
         } else {
             Err(wrong_type(ty, "i8"))
@@ -109,7 +109,7 @@ impl ToSql for i8 {
     ghost checks = { λ _ _. refl };
 }
 
-/// INT2: 2 bytes, highest first.
+/// INT2: 2 bytes, highest first, in two's complement (`int2send`).
 impl ToSql for i16 {
     ghost accepted = { is_row Int2 };
 
@@ -141,7 +141,7 @@ impl ToSql for i16 {
         ty: &PgType,
         out: &mut BytesMut,
     ) -> Result<IsNull, Fault> {
-        if <i16 as ToSql>::accepts(ty) {
+        if Self::accepts(ty) {
             self.to_sql(alloc, ty, out)
         } else {
             Err(wrong_type(ty, "i16"))
@@ -155,7 +155,7 @@ impl ToSql for i16 {
     ghost checks = { λ _ _. refl };
 }
 
-/// INT4: 4 bytes, highest first.
+/// INT4: 4 bytes, highest first, in two's complement (`int4send`).
 impl ToSql for i32 {
     ghost accepted = { is_row Int4 };
 
@@ -187,7 +187,7 @@ impl ToSql for i32 {
         ty: &PgType,
         out: &mut BytesMut,
     ) -> Result<IsNull, Fault> {
-        if <i32 as ToSql>::accepts(ty) {
+        if Self::accepts(ty) {
             self.to_sql(alloc, ty, out)
         } else {
             Err(wrong_type(ty, "i32"))
@@ -201,7 +201,7 @@ impl ToSql for i32 {
     ghost checks = { λ _ _. refl };
 }
 
-/// INT8: 8 bytes, highest first.
+/// INT8: 8 bytes, highest first, in two's complement (`int8send`).
 impl ToSql for i64 {
     ghost accepted = { is_row Int8 };
 
@@ -233,7 +233,7 @@ impl ToSql for i64 {
         ty: &PgType,
         out: &mut BytesMut,
     ) -> Result<IsNull, Fault> {
-        if <i64 as ToSql>::accepts(ty) {
+        if Self::accepts(ty) {
             self.to_sql(alloc, ty, out)
         } else {
             Err(wrong_type(ty, "i64"))
@@ -247,7 +247,7 @@ impl ToSql for i64 {
     ghost checks = { λ _ _. refl };
 }
 
-/// OID: 4 bytes without a sign, highest first.
+/// OID: 4 bytes, unsigned, highest first (`oidsend`).
 impl ToSql for u32 {
     ghost accepted = { is_row Oid };
 
@@ -279,7 +279,7 @@ impl ToSql for u32 {
         ty: &PgType,
         out: &mut BytesMut,
     ) -> Result<IsNull, Fault> {
-        if <u32 as ToSql>::accepts(ty) {
+        if Self::accepts(ty) {
             self.to_sql(alloc, ty, out)
         } else {
             Err(wrong_type(ty, "u32"))

@@ -31,8 +31,9 @@ fn append_text(alloc: Global, ty: &PgType, text: &str, out: &mut BytesMut) -> Re
     }
 }
 
-/// The text's bytes, after the version 1 where the type is named ltree, lquery or ltxtquery. No
-/// text is NULL, the empty one included.
+/// VARCHAR, TEXT, BPCHAR, NAME, UNKNOWN, and any type named citext, ltree, lquery or ltxtquery: the
+/// text's bytes (`textsend`), after the version 1 where the type is named ltree, lquery or
+/// ltxtquery (`ltree_send`). No text is NULL, the empty one included.
 impl<'b> ToSql for &'b str {
     ghost accepted = { accepted_text };
 
@@ -67,7 +68,7 @@ impl<'b> ToSql for &'b str {
         ty: &PgType,
         out: &mut BytesMut,
     ) -> Result<IsNull, Fault> {
-        if <&'b str as ToSql>::accepts(ty) {
+        if Self::accepts(ty) {
             self.to_sql(alloc, ty, out)
         } else {
             Err(wrong_type(ty, "&str"))
@@ -81,8 +82,9 @@ impl<'b> ToSql for &'b str {
     ghost checks = { λ _ _. refl };
 }
 
-/// The text's bytes, after the version 1 where the type is named ltree, lquery or ltxtquery. No
-/// text is NULL, the empty one included.
+/// VARCHAR, TEXT, BPCHAR, NAME, UNKNOWN, and any type named citext, ltree, lquery or ltxtquery: the
+/// text's bytes (`textsend`), after the version 1 where the type is named ltree, lquery or
+/// ltxtquery (`ltree_send`). No text is NULL, the empty one included.
 impl ToSql for String {
     ghost accepted = { accepted_text };
 
@@ -115,7 +117,7 @@ impl ToSql for String {
         ty: &PgType,
         out: &mut BytesMut,
     ) -> Result<IsNull, Fault> {
-        if <String as ToSql>::accepts(ty) {
+        if Self::accepts(ty) {
             self.to_sql(alloc, ty, out)
         } else {
             Err(wrong_type(ty, "String"))
@@ -129,8 +131,9 @@ impl ToSql for String {
     ghost checks = { λ _ _. refl };
 }
 
-/// The text's bytes, after the version 1 where the type is named ltree, lquery or ltxtquery. No
-/// text is NULL, the empty one included.
+/// VARCHAR, TEXT, BPCHAR, NAME, UNKNOWN, and any type named citext, ltree, lquery or ltxtquery: the
+/// text's bytes (`textsend`), after the version 1 where the type is named ltree, lquery or
+/// ltxtquery (`ltree_send`). No text is NULL, the empty one included.
 impl ToSql for BoxedStr {
     ghost accepted = { accepted_text };
 
@@ -163,7 +166,7 @@ impl ToSql for BoxedStr {
         ty: &PgType,
         out: &mut BytesMut,
     ) -> Result<IsNull, Fault> {
-        if <BoxedStr as ToSql>::accepts(ty) {
+        if Self::accepts(ty) {
             self.to_sql(alloc, ty, out)
         } else {
             Err(wrong_type(ty, "Box<str>"))
@@ -177,8 +180,9 @@ impl ToSql for BoxedStr {
     ghost checks = { λ _ _. refl };
 }
 
-/// The text's bytes, after the version 1 where the type is named ltree, lquery or ltxtquery. No
-/// text is NULL, the empty one included.
+/// VARCHAR, TEXT, BPCHAR, NAME, UNKNOWN, and any type named citext, ltree, lquery or ltxtquery: the
+/// text's bytes (`textsend`), after the version 1 where the type is named ltree, lquery or
+/// ltxtquery (`ltree_send`). No text is NULL, the empty one included.
 impl<'b> ToSql for CowStr<'b> {
     ghost accepted = { accepted_text };
 
@@ -213,7 +217,7 @@ impl<'b> ToSql for CowStr<'b> {
         ty: &PgType,
         out: &mut BytesMut,
     ) -> Result<IsNull, Fault> {
-        if <CowStr<'b> as ToSql>::accepts(ty) {
+        if Self::accepts(ty) {
             self.to_sql(alloc, ty, out)
         } else {
             Err(wrong_type(ty, "Cow<str>"))

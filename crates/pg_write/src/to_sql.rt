@@ -41,7 +41,9 @@ pub trait ToSql: fmt::Debug + Drop {
     /// implementation that says nothing does not claim it.
     ghost refuses_memory_free: { Bool } = { false };
 
-    /// Appends the bytes of the value's cell, without its length. The type must be accepted.
+    /// Appends the bytes of the value's cell, without its length, and answers [`IsNull::No`]; where
+    /// the value is NULL it appends nothing and answers [`IsNull::Yes`]. The type must be accepted.
+    /// An error leaves the buffer's bytes as they were.
     fn to_sql(&self, alloc: Global, ty: &PgType, out: &mut BytesMut) -> Result<IsNull, Fault>
     where
         Self: Sized,
@@ -69,7 +71,8 @@ pub trait ToSql: fmt::Debug + Drop {
         ensures never_memory { IsTrue refuses_memory_free → accepted (content ty.now) ≡ false
             → IsBuiltIn (content ty.now) → NeverMemory result };
 
-    /// The format of the value's cell.
+    /// The format of the value's cell, as a Bind message states it: [`Format::Binary`] for every
+    /// type of this library but a reference or a `Some` around a user's own.
     fn encode_format(&self, ty: &PgType) -> Format
         ensures { result ≡ format (content ty.now) self.now };
 

@@ -4,8 +4,8 @@ use rows::hoard;
 use std::alloc::Global;
 use std::test::Fail;
 
-/// The numbers of the faults of five calls: a write into `room`, a write into `full`, a write of NULL,
-/// a reading that takes memory, and a write that is refused for its type.
+/// The numbers of the faults of five calls: a write into `room`, a write into `full`, a write of
+/// NULL, a reading that takes memory, and a write that is refused for its type.
 fn codes(alloc: Global, room: &mut BytesMut, full: &mut BytesMut) -> [Option<u32>; 5] {
     let written = 7i32.to_sql(alloc, &Type::INT4, room).err();
     let refused = 7i32.to_sql(alloc, &Type::INT4, full).err();

@@ -9,17 +9,11 @@ use std::alloc::Global;
 use std::borrow::{CowSlice, CowStr};
 use std::collections::HashMap;
 use std::net::{IpAddr, Ipv4Addr};
-use std::process::Abort;
 use std::test::Fail;
 use uuid::Uuid;
 
 /// The made type odd is refused with that name, and nothing is written.
-fn refuses_odd<T: ToSql>(
-    rt: &impl Abort,
-    alloc: Global,
-    value: &T,
-    name: &str,
-) -> Result<(), Fail> {
+fn refuses_odd<T: ToSql>(alloc: Global, value: &T, name: &str) -> Result<(), Fail> {
     let odd = made(alloc, "odd", 99_999, "public")?;
     refuses_type(alloc, value, &odd, name)
 }
@@ -27,63 +21,63 @@ fn refuses_odd<T: ToSql>(
 #[test]
 fn numbers_are_named(rt: HostRuntime) -> Result<(), Fail> {
     let alloc = rt.alloc();
-    refuses_odd(&rt, alloc, &true, "bool")?;
-    refuses_odd(&rt, alloc, &1i8, "i8")?;
-    refuses_odd(&rt, alloc, &1i16, "i16")?;
-    refuses_odd(&rt, alloc, &1i32, "i32")?;
-    refuses_odd(&rt, alloc, &1u32, "u32")?;
-    refuses_odd(&rt, alloc, &1i64, "i64")?;
-    refuses_odd(&rt, alloc, &Some(1i32), "Option")?;
-    refuses_odd(&rt, alloc, &&1i32, "&T")
+    refuses_odd(alloc, &true, "bool")?;
+    refuses_odd(alloc, &1i8, "i8")?;
+    refuses_odd(alloc, &1i16, "i16")?;
+    refuses_odd(alloc, &1i32, "i32")?;
+    refuses_odd(alloc, &1u32, "u32")?;
+    refuses_odd(alloc, &1i64, "i64")?;
+    refuses_odd(alloc, &Some(1i32), "Option")?;
+    refuses_odd(alloc, &&1i32, "&T")
 }
 
 #[test]
 fn texts_and_bytes_are_named(rt: HostRuntime) -> Result<(), Fail> {
     let alloc = rt.alloc();
     let text = String::from_str(alloc, "a")?;
-    refuses_odd(&rt, alloc, &text, "String")?;
-    refuses_odd(&rt, alloc, &text.into_boxed_str(), "Box<str>")?;
-    refuses_odd(&rt, alloc, &"a", "&str")?;
-    refuses_odd(&rt, alloc, &CowStr::Borrowed("a"), "Cow<str>")?;
+    refuses_odd(alloc, &text, "String")?;
+    refuses_odd(alloc, &text.into_boxed_str(), "Box<str>")?;
+    refuses_odd(alloc, &"a", "&str")?;
+    refuses_odd(alloc, &CowStr::Borrowed("a"), "Cow<str>")?;
     let bytes = [7u8];
-    refuses_odd(&rt, alloc, &bytes.as_slice(), "&[u8]")?;
-    refuses_odd(&rt, alloc, &Vec::from_slice(alloc, &bytes)?, "Vec<u8>")?;
+    refuses_odd(alloc, &bytes.as_slice(), "&[u8]")?;
+    refuses_odd(alloc, &Vec::from_slice(alloc, &bytes)?, "Vec<u8>")?;
     refuses_odd(
         &rt,
         alloc,
         &CowSlice::Borrowed(bytes.as_slice()),
         "Cow<[u8]>",
     )?;
-    refuses_odd(&rt, alloc, &bytes, "[u8; N]")
+    refuses_odd(alloc, &bytes, "[u8; N]")
 }
 
 #[test]
 fn small_types_are_named(rt: HostRuntime) -> Result<(), Fail> {
     let alloc = rt.alloc();
     let map: HashMap<String, Option<String>> = HashMap::new(alloc);
-    refuses_odd(&rt, alloc, &map, "HashMap")?;
-    refuses_odd(&rt, alloc, &BitVec::new(alloc), "BitVec")?;
+    refuses_odd(alloc, &map, "HashMap")?;
+    refuses_odd(alloc, &BitVec::new(alloc), "BitVec")?;
     let addr = IpAddr::V4(Ipv4Addr::new(10, 0, 0, 0));
-    refuses_odd(&rt, alloc, &addr, "IpAddr")?;
-    refuses_odd(&rt, alloc, &IpInet::new(addr, 8)?, "IpInet")?;
-    refuses_odd(&rt, alloc, &IpCidr::new(addr, 8)?, "IpCidr")?;
-    refuses_odd(&rt, alloc, &MacAddress::new([0; 6]), "MacAddress")?;
-    refuses_odd(&rt, alloc, &Uuid::from_bytes([0; 16]), "Uuid")?;
-    refuses_odd(&rt, alloc, &PgLsn::from(7u64), "PgLsn")?;
+    refuses_odd(alloc, &addr, "IpAddr")?;
+    refuses_odd(alloc, &IpInet::new(addr, 8)?, "IpInet")?;
+    refuses_odd(alloc, &IpCidr::new(addr, 8)?, "IpCidr")?;
+    refuses_odd(alloc, &MacAddress::new([0; 6]), "MacAddress")?;
+    refuses_odd(alloc, &Uuid::from_bytes([0; 16]), "Uuid")?;
+    refuses_odd(alloc, &PgLsn::from(7u64), "PgLsn")?;
     let moment = UnixTime::new(0, 0).ok_or("no moment")?;
-    refuses_odd(&rt, alloc, &moment, "UnixTime")?;
-    refuses_odd(&rt, alloc, &Value::Null, "serde_json::Value")
+    refuses_odd(alloc, &moment, "UnixTime")?;
+    refuses_odd(alloc, &Value::Null, "serde_json::Value")
 }
 
 #[test]
 fn dates_and_times_are_named(rt: HostRuntime) -> Result<(), Fail> {
     let alloc = rt.alloc();
-    refuses_odd(&rt, alloc, &Date::ZERO, "jiff::civil::Date")?;
-    refuses_odd(&rt, alloc, &Time::MIN, "jiff::civil::Time")?;
-    refuses_odd(&rt, alloc, &DateTime::ZERO, "jiff::civil::DateTime")?;
-    refuses_odd(&rt, alloc, &Timestamp::MIN, "jiff::Timestamp")?;
+    refuses_odd(alloc, &Date::ZERO, "jiff::civil::Date")?;
+    refuses_odd(alloc, &Time::MIN, "jiff::civil::Time")?;
+    refuses_odd(alloc, &DateTime::ZERO, "jiff::civil::DateTime")?;
+    refuses_odd(alloc, &Timestamp::MIN, "jiff::Timestamp")?;
     let infinite = postgres_types::Date::Value(Date::ZERO);
-    refuses_odd(&rt, alloc, &infinite, "Date")?;
+    refuses_odd(alloc, &infinite, "Date")?;
     let infinite = postgres_types::Timestamp::Value(Timestamp::MIN);
-    refuses_odd(&rt, alloc, &infinite, "Timestamp")
+    refuses_odd(alloc, &infinite, "Timestamp")
 }

@@ -57,7 +57,9 @@ fn addresses_have_their_bytes(rt: HostRuntime) -> Result<(), Fail> {
     let network = [2u8, 8, 0, 4, 10, 0, 0, 0];
     reads(alloc, &Type::CIDR, &flagged, IpCidr::new(ten(0, 0, 0), 8)?)?;
     rewrites::<IpCidr>(alloc, &Type::CIDR, &flagged, &network)?;
+    rewrites::<IpCidr>(alloc, &Type::CIDR, &network, &network)?;
     writes(alloc, &IpCidr::new(ten(0, 0, 0), 8)?, &Type::CIDR, &network)?;
+    reads(alloc, &Type::CIDR, &network, IpCidr::new(ten(0, 0, 0), 8)?)?;
 
     let cell = v6_cell(64, 0);
     let first = Ipv6Addr::new(0x2001, 0xdb8, 0, 0, 0, 0, 0, 0);

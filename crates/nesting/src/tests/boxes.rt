@@ -1,6 +1,5 @@
-use postgres_types::private::BytesMut;
 use postgres_types::{Format, FromSql, ToSql, Type, from_sql_nullable};
-use rows::{refusal, spells, writes_null};
+use rows::{made, refusal, refuses_type, spells, writes_null};
 use std::test::Fail;
 
 #[test]
@@ -41,15 +40,7 @@ fn some_of_none_is_read_as_none(rt: HostRuntime) -> Result<(), Fail> {
 #[test]
 fn boxes_refuse_what_the_value_does(rt: HostRuntime) -> Result<(), Fail> {
     let alloc = rt.alloc();
-    let mut out = BytesMut::new(alloc);
-    let refused = Box::new(alloc, 7i32)?.to_sql_checked(alloc, &Type::TEXT, &mut out);
-    let Err(fault) = refused else {
-        return Err(Fail::from("accepted"));
-    };
-    assert_eq!(rt;
-        format!(in alloc; "{fault}")?.as_str(),
-        "cannot convert between the Rust type `Box` and the Postgres type `text`"
-    );
-    assert!(rt; out.is_empty());
-    Ok(())
+    let odd = made(alloc, "odd", 99_999, "public")?;
+    refuses_type(alloc, &Box::new(alloc, 7i32)?, &Type::TEXT, "Box")?;
+    refuses_type(alloc, &Box::new(alloc, 7i32)?, &odd, "Box")
 }

@@ -6,6 +6,24 @@ use postgres_types::{Fault, IsNull, ToSql, Type};
 use std::alloc::Global;
 use std::test::Fail;
 
+/// A row of the types int4 and text.
+type Row<'a> = (i32, Option<&'a str>);
+
+/// Appends a whole binary COPY of the rows: its signature, the flags, the length of a header
+/// extension, the tuples, and the trailer.
+fn copy_rows(alloc: Global, rows: &[Row<'_>], out: &mut BytesMut) -> Result<(), Fault> {
+    let mut cell = BytesMut::new(alloc);
+    out.extend_from_slice(b"PGCOPY\n\xff\r\n\0")?;
+    int4_to_sql(alloc, 0, out)?;
+    int4_to_sql(alloc, 0, out)?;
+    for (number, text) in rows {
+        int2_to_sql(alloc, 2, out)?;
+        copy_field(alloc, number, &Type::INT4, &mut cell, out)?;
+        copy_field(alloc, text, &Type::TEXT, &mut cell, out)?;
+    }
+    int2_to_sql(alloc, -1, out)
+}
+
 /// Appends a field of a tuple: the frame of the value's cell. `cell` is scratch room.
 fn copy_field<T: ToSql>(
     alloc: Global,
@@ -23,20 +41,8 @@ fn copy_field<T: ToSql>(
 
 #[test]
 fn a_binary_copy_is_written(rt: HostRuntime) -> Result<(), Fail> {
-    let alloc = rt.alloc();
-    let mut cell = BytesMut::new(alloc);
-    let mut out = BytesMut::copy_from_slice(alloc, b"PGCOPY\n\xff\r\n\0")?;
-    // No flags, and no header extension.
-    int4_to_sql(alloc, 0, &mut out)?;
-    int4_to_sql(alloc, 0, &mut out)?;
-    for (number, text) in [(1i32, Some("ab")), (-2, None)] {
-        // A tuple of two fields.
-        int2_to_sql(alloc, 2, &mut out)?;
-        copy_field(alloc, &number, &Type::INT4, &mut cell, &mut out)?;
-        copy_field(alloc, &text, &Type::TEXT, &mut cell, &mut out)?;
-    }
-    // The trailer.
-    int2_to_sql(alloc, -1, &mut out)?;
+    let mut out = BytesMut::new(rt.alloc());
+    copy_rows(rt.alloc(), &[(1, Some("ab")), (-2, None)], &mut out)?;
     let written = [
         0x50u8, 0x47, 0x43, 0x4f, 0x50, 0x59, 0x0a, 0xff, 0x0d, 0x0a, 0, //
         0, 0, 0, 0, 0, 0, 0, 0, //

@@ -37,10 +37,7 @@ impl<'a> FromSql<'a> for Micros {
         (record { passes = λ b v h. int8_grammar.passes b v.0 h; single = λ b v w h k. int8_grammar.single b v.0 w.0 h k }) };
 
     fn from_sql(_alloc: Global, _ty: &Type, raw: &'a [u8]) -> Result<Micros, Fault> {
-        match timestamp_from_sql(raw) {
-            Ok(micros) => Ok(Micros(micros)),
-            Err(fault) => Err(fault),
-        }
+        Ok(Micros(timestamp_from_sql(raw)?))
     }
 
     fn from_sql_null(_alloc: Global, _ty: &Type) -> Result<Micros, Fault> {

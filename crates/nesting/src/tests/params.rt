@@ -99,9 +99,26 @@ fn a_refused_value_gives_its_own_fault(rt: HostRuntime) -> Result<(), Fail> {
     refuses_param(&rt, alloc, &params, &types, (2, 12))
 }
 
-/// Appends what a Bind message holds of its parameters: the number of their formats and a code for
-/// each, their number, and their frames.
+/// Appends what a Bind message holds of its parameters. A refusal leaves the buffer as it was.
 fn bind_params(
+    alloc: Global,
+    params: &[Box<dyn ToSql>],
+    types: &[Type],
+    out: &mut BytesMut,
+) -> Result<(), Fault>
+    requires { length params.now ≡ length types.now }
+{
+    let start = out.len();
+    let bound = append_params(alloc, params, types, out);
+    if bound.is_err() {
+        out.truncate(start);
+    }
+    bound
+}
+
+/// Appends the number of the parameters' formats and a code for each, the number of the
+/// parameters, and their frames.
+fn append_params(
     alloc: Global,
     params: &[Box<dyn ToSql>],
     types: &[Type],
@@ -142,6 +159,10 @@ fn a_bind_message_holds_its_parameters(rt: HostRuntime) -> Result<(), Fail> {
         0, 0, 0, 2, 0x6a, 0x61, // ja
         0xff, 0xff, 0xff, 0xff, // NULL
     ];
+    assert_eq!(rt; out.as_slice(), message.as_slice());
+    let types = [Type::INT4, Type::TEXT, Type::INT8];
+    let refused = bind_params(alloc, &params, &types, &mut out);
+    assert_eq!(rt; refused.err().map(|fault| fault.code()), Some(3));
     assert_eq!(rt; out.as_slice(), message.as_slice());
     Ok(())
 }

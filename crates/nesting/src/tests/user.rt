@@ -36,10 +36,7 @@ impl<'a> FromSql<'a> for Degrees {
         (record { passes = λ b v h. int4_grammar.passes b v.0 h; single = λ b v w h k. int4_grammar.single b v.0 w.0 h k }) };
 
     fn from_sql(alloc: Global, ty: &Type, raw: &'a [u8]) -> Result<Degrees, Fault> {
-        match i32::from_sql(alloc, ty, raw) {
-            Ok(n) => Ok(Degrees(n)),
-            Err(fault) => Err(fault),
-        }
+        Ok(Degrees(i32::from_sql(alloc, ty, raw)?))
     }
 
     fn from_sql_null(_alloc: Global, _ty: &Type) -> Result<Degrees, Fault> {

@@ -78,6 +78,7 @@ fn a_cut_cell_ends_a_run(rt: HostRuntime) -> Result<(), Fail> {
     let mut buf = [].as_slice();
     let answer = read_values::<i32>(rt.alloc(), &Type::INT4, usize::MAX, &mut buf);
     assert_eq!(rt; answer.err().map(|fault| fault.code()), Some(4));
+    assert!(rt; buf.is_empty());
     Ok(())
 }
 

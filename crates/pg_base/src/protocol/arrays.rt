@@ -28,9 +28,9 @@ impl<'a> Model for ArrayCells<'a> {
     ghost view = { λ c. record { left = c.left; bytes = c.bytes.now } };
 }
 
-/// Reads the head of an array (`array_recv`): the number of dimensions, the flags and the OID of
-/// the elements' type, each in 4 bytes, and for each dimension its length and its lower bound in 4
-/// bytes each; the framed elements come behind it. Without a dimension there are no elements.
+/// Reads the head of an array (`array_recv`): in 4 bytes each, highest first, the number of
+/// dimensions, the flags, the OID of the elements' type, and for each dimension its length and its
+/// lower bound; the framed elements come behind it. Without a dimension there are no elements.
 ///
 /// The checks are made in this order: a cut number of dimensions is `Size`, a negative one `Count`,
 /// cut flags or a cut OID `Size`, more than 1 dimension `Dimensions`, a cut dimension `Size`, and a
@@ -68,10 +68,10 @@ fn split_dimension(bytes: &[u8]) -> Result<ArrayCells<'_>, Fault>
 }
 
 impl<'a> ArrayCells<'a> {
-    /// The next cell: its length and its bytes, every negative length NULL. Where the length or a
-    /// part of the bytes is cut it answers `Size`, and so it does where bytes are left after the
-    /// last cell. After a fault, and after the last cell, it answers `None`, for good. It takes no
-    /// memory.
+    /// The next cell: its length in 4 bytes, highest first, every negative one NULL, and that many
+    /// bytes. Where the length or a part of the bytes is cut it answers `Size`, and so it does
+    /// where bytes are left after the last cell. After a fault, and after the last cell, it answers
+    /// `None`, for good. It takes no memory.
     pub fn next(&mut self) -> Option<Result<Option<&'a [u8]>, Fault>>
         ensures { TakesElement self.old result self.new }
     {
@@ -107,7 +107,7 @@ const HEAD_LEN: usize = 20;
 /// of dimensions, the flags, which are 1 where a cell is NULL and else 0, the OID of the members'
 /// type, the number of cells, and the lower bound; and then the frames of the cells, in the order
 /// of the list. Where the number of cells or the length of a cell passes 2,147,483,647 it answers
-/// `Transmit`.
+/// `Transmit`. A refusal, `Memory` too, leaves the buffer's bytes as they were.
 pub fn array_to_sql(
     _alloc: Global,
     lower_bound: i32,

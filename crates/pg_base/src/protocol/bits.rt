@@ -39,9 +39,10 @@ impl<'a> Varbit<'a> {
     }
 }
 
-/// Reads BIT and VARBIT: the number of bits in 4 bytes, and as many bytes as they take, the first
-/// bit on top of the first byte (`bit_recv`, `varbit_recv`). A number that is cut is `Size`, a
-/// negative one `Count`, and any other number of bytes `Size`. What pads the last byte is ignored.
+/// Reads BIT and VARBIT: the number of bits in 4 bytes, highest first, and as many bytes as they
+/// take, the first bit on top of the first byte (`bit_recv`, `varbit_recv`). A number that is cut
+/// is `Size`, a negative one `Count`, and any other number of bytes `Size`. What pads the last byte
+/// is ignored.
 pub fn varbit_from_sql(raw: &[u8]) -> Result<Varbit<'_>, Fault>
     ensures outcome { Answers (Decodes (FormBits (λ v. first_bits v.len v.bytes.now)) first_fault_bits raw.now) result }
     ensures never_memory { NeverMemory result }
@@ -53,9 +54,9 @@ pub fn varbit_from_sql(raw: &[u8]) -> Result<Varbit<'_>, Fault>
     Ok(Varbit { len, bytes })
 }
 
-/// Appends BIT and VARBIT: the number of bits in 4 bytes, and the bytes, of which there must be as
-/// many as the bits take (`bit_send`, `varbit_send`). What pads the last byte is written 0. More
-/// than 2,147,483,647 bits are `Transmit`.
+/// Appends BIT and VARBIT: the number of bits in 4 bytes, highest first, and the bytes, of which
+/// there must be as many as the bits take (`bit_send`, `varbit_send`). What pads the last byte is
+/// written 0. More than 2,147,483,647 bits are `Transmit`.
 pub fn varbit_to_sql(
     _alloc: Global,
     len: usize,

@@ -1,4 +1,5 @@
-//! A number of 4 bytes in front of others, as counts and lengths stand, and the cells behind lengths.
+//! A number of 4 bytes in front of others, as counts and lengths stand, and the cells behind
+//! lengths.
 ghost use Rattle.std.specs.Prelude.{◌∷◌, []};
 ghost use Rattle.std.specs.Int.{w32};
 ghost use Rattle.pg_base.specs.Cells.{IsBe, Spells, cell_of};

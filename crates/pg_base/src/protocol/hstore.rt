@@ -32,8 +32,9 @@ impl<'a> Model for HstoreEntries<'a> {
     ghost view = { λ e. record { left = e.left; bytes = e.bytes.now } };
 }
 
-/// Reads the count of an hstore (`hstore_recv`): 4 bytes, and the entries come behind it. Where it
-/// is cut it answers `Size`, and where it is negative `Count`. It takes no memory.
+/// Reads the count of an hstore (`hstore_recv`): 4 bytes, highest first, and the entries come
+/// behind it. Where it is cut it answers `Size`, and where it is negative `Count`. It takes no
+/// memory.
 pub fn hstore_from_sql(_alloc: Global, raw: &[u8]) -> Result<HstoreEntries<'_>, Fault>
     ensures outcome { Answers (Decodes SpellsCount (λ b. first_fault_of (count_checks b)) raw.now) result }
     ensures never_memory { NeverMemory result }
@@ -43,11 +44,12 @@ pub fn hstore_from_sql(_alloc: Global, raw: &[u8]) -> Result<HstoreEntries<'_>, 
 }
 
 impl<'a> HstoreEntries<'a> {
-    /// The next entry: the length of its key and the key, and the length of its value and the
-    /// value, every negative length NULL. Where the next entry is damaged it answers a fault:
-    /// `Size` where a part is cut, `KeyLength` where the key's length is negative, `Utf8` where a
-    /// text is no UTF-8. Where bytes are left after the last entry it answers `Size`. After a fault,
-    /// and after the last entry, it answers `None`, for good. It takes no memory.
+    /// The next entry: the length of its key in 4 bytes, highest first, and the key, and likewise
+    /// its value, of which every negative length is NULL. Where the next entry is damaged it
+    /// answers a fault: `Size` where a part is cut, `KeyLength` where the key's length is negative,
+    /// `Utf8` where a text is not UTF-8. Where bytes are left after the last entry it answers
+    /// `Size`. After a fault, and after the last entry, it answers `None`, for good. It takes no
+    /// memory.
     pub fn next(&mut self) -> Option<Result<Entry<'a>, Fault>>
         ensures { TakesEntry self.old result self.new }
     {

@@ -55,8 +55,8 @@ impl Inet {
 /// Reads INET or CIDR: the family's number, 2 for IPv4 and 3 for IPv6, the length of the netmask, a
 /// flag of any value, the number of octets, and the octets, 4 or 16 (`inet_recv`, `cidr_recv`).
 /// Fewer than 4 bytes are `Size`; then another family is `Family`, a netmask of more than 32 or 128
-/// bits `Netmask`, another number of octets than the family's `AddressLength`, and octets of another
-/// length than that `Size`. Bits behind the netmask are not looked at.
+/// bits `Netmask`, another number of octets than the family's `AddressLength`, and octets of
+/// another length than that `Size`. Bits behind the netmask are not looked at.
 pub fn inet_from_sql(raw: &[u8]) -> Result<Inet, Fault>
     ensures outcome { Answers (Decodes FormInet first_fault_inet raw.now) result }
     ensures never_memory { NeverMemory result }
@@ -103,9 +103,8 @@ fn address_from_octets(family: u8, octets: &[u8]) -> Result<IpAddr, Fault>
 }
 
 /// Appends INET or CIDR: the family's number, 2 for IPv4 and 3 for IPv6, the length of the netmask,
-/// the flag 0, the number of octets, and the octets, 4 or 16 (`inet_send`, `cidr_send`). The netmask
-/// must be no longer than the address: 32 or 128 bits. The clause `octets` says for writers that the
-/// address has as many octets as its family, which a written form asks for.
+/// the flag 0, the number of octets, and the octets, 4 or 16 (`inet_send`, `cidr_send`). The
+/// netmask must be no longer than the address: 32 or 128 bits.
 pub fn inet_to_sql(
     _alloc: Global,
     addr: IpAddr,
@@ -114,6 +113,7 @@ pub fn inet_to_sql(
 ) -> Result<(), Fault>
     requires { NetmaskFits (with_netmask addr netmask) }
     ensures appends { Appends (Some (network_bytes 0 (with_netmask addr netmask))) out.old out.new result }
+    // For writers: a written form asks that the address has as many octets as its family.
     ensures octets { length (address_octets addr) ≡ address_len addr }
 {
     match addr {
@@ -122,8 +122,8 @@ pub fn inet_to_sql(
     }
 }
 
-/// Appends the family's number, the length of the netmask, the flag 0, the number of octets, and the
-/// octets.
+/// Appends the family's number, the length of the netmask, the flag 0, the number of octets, and
+/// the octets.
 fn octets_to_sql(family: u8, netmask: u8, octets: &[u8], out: &mut BytesMut) -> Result<(), Fault>
     requires { length octets.now < 256 }
     ensures { Appends (Some (family ∷ netmask ∷ 0 ∷ length octets.now ∷ octets.now)) out.old out.new result }

@@ -9,7 +9,7 @@ use crate::fault::Fault;
 use bytes::BytesMut;
 use std::alloc::Global;
 
-/// Reads a text: its bytes (`textrecv`). Bytes that are no UTF-8 are `Utf8`.
+/// Reads a text: its bytes (`textrecv`). Bytes that are not UTF-8 are `Utf8`.
 #[tactic(auto, using(crate::proofs::TextLemmas::text_refused))]
 pub fn text_from_sql(raw: &[u8]) -> Result<&str, Fault>
     ensures outcome { Answers (Decodes (FormText (λ text. text.now) false) (first_fault_text false) raw.now) result }
@@ -32,7 +32,7 @@ pub fn text_to_sql(_alloc: Global, v: &str, out: &mut BytesMut) -> Result<(), Fa
 /// The first byte of the cells that have a version.
 const VERSION: u8 = 1;
 
-/// Reads a text behind the version 1. Another first byte, or none, is `TextVersion`; what is no
+/// Reads a text behind the version 1. Another first byte, or none, is `TextVersion`; what is not
 /// UTF-8 behind it is `Utf8`.
 fn versioned_from_sql(raw: &[u8]) -> Result<&str, Fault>
     ensures outcome { Answers (Decodes (FormText (λ text. text.now) true) (first_fault_text true) raw.now) result }
@@ -55,7 +55,7 @@ fn versioned_to_sql(v: &str, out: &mut BytesMut) -> Result<(), Fault>
 }
 
 /// Reads ltree: the version 1 and the text (`ltree_recv`). Another first byte, or none, is
-/// `TextVersion`; what is no UTF-8 behind it is `Utf8`.
+/// `TextVersion`; what is not UTF-8 behind it is `Utf8`.
 pub fn ltree_from_sql(raw: &[u8]) -> Result<&str, Fault>
     ensures outcome { Answers (Decodes (FormText (λ text. text.now) true) (first_fault_text true) raw.now) result }
     ensures never_memory { NeverMemory result }
@@ -71,7 +71,7 @@ pub fn ltree_to_sql(_alloc: Global, v: &str, out: &mut BytesMut) -> Result<(), F
 }
 
 /// Reads lquery: the version 1 and the text (`lquery_recv`). Another first byte, or none, is
-/// `TextVersion`; what is no UTF-8 behind it is `Utf8`.
+/// `TextVersion`; what is not UTF-8 behind it is `Utf8`.
 pub fn lquery_from_sql(raw: &[u8]) -> Result<&str, Fault>
     ensures outcome { Answers (Decodes (FormText (λ text. text.now) true) (first_fault_text true) raw.now) result }
     ensures never_memory { NeverMemory result }
@@ -87,7 +87,7 @@ pub fn lquery_to_sql(_alloc: Global, v: &str, out: &mut BytesMut) -> Result<(), 
 }
 
 /// Reads ltxtquery: the version 1 and the text (`ltxtquery_recv`). Another first byte, or none, is
-/// `TextVersion`; what is no UTF-8 behind it is `Utf8`.
+/// `TextVersion`; what is not UTF-8 behind it is `Utf8`.
 pub fn ltxtquery_from_sql(raw: &[u8]) -> Result<&str, Fault>
     ensures outcome { Answers (Decodes (FormText (λ text. text.now) true) (first_fault_text true) raw.now) result }
     ensures never_memory { NeverMemory result }

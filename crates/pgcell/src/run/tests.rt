@@ -270,7 +270,7 @@ fn a_line_may_be_longer_than_a_block(rt: HostRuntime) -> Result<(), Fail> {
 }
 
 #[test]
-fn a_reader_that_fails(rt: HostRuntime) -> Result<(), Fail> {
+fn a_failed_read_leaves_whole_answers(rt: HostRuntime) -> Result<(), Fail> {
     for step in 1..12 {
         let mut input = Pieces {
             rest: INPUT,
@@ -286,7 +286,7 @@ fn a_reader_that_fails(rt: HostRuntime) -> Result<(), Fail> {
 }
 
 #[test]
-fn a_reader_that_fails_at_its_end(rt: HostRuntime) -> Result<(), Fail> {
+fn a_read_that_fails_at_the_end_loses_no_whole_line(rt: HostRuntime) -> Result<(), Fail> {
     let mut ended = Vec::from_slice(rt.alloc(), INPUT)?;
     ended.push(b'\n')?;
     for (text, answers) in [(INPUT, FIRST_TWO), (ended.as_slice(), OUTPUT)] {
@@ -304,7 +304,7 @@ fn a_reader_that_fails_at_its_end(rt: HostRuntime) -> Result<(), Fail> {
 }
 
 #[test]
-fn a_writer_that_fails(rt: HostRuntime) -> Result<(), Fail> {
+fn a_failed_write_leaves_a_beginning(rt: HostRuntime) -> Result<(), Fail> {
     for room in 0..OUTPUT.len() {
         let mut input = INPUT;
         let mut output = make_narrow(rt.alloc(), room)?;
@@ -316,7 +316,7 @@ fn a_writer_that_fails(rt: HostRuntime) -> Result<(), Fail> {
 }
 
 #[test]
-fn a_writer_that_takes_nothing(rt: HostRuntime) -> Result<(), Fail> {
+fn a_writer_that_takes_nothing_is_a_failed_write(rt: HostRuntime) -> Result<(), Fail> {
     let mut input = INPUT;
     assert_eq!(rt;
         run(rt.alloc(), &mut input, &mut Full),

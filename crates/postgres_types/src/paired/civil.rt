@@ -36,7 +36,8 @@ impl<'a> Paired<'a> for Time {
     ghost lawful = { λ _ _. time_lawful };
 }
 
-/// A civil datetime is read back cut to whole microseconds, toward 2000-01-01 00:00:00 on both sides.
+/// A civil datetime is read back cut to whole microseconds, toward 2000-01-01 00:00:00 on both
+/// sides.
 impl<'a> Paired<'a> for DateTime {
     ghost back = { λ _. BackKept (KeptMicros civil_nanos) };
 
