@@ -24,10 +24,7 @@ impl<'a, T: FromSql<'a>> FromSql<'a> for Option<T> {
     ghost single = { λ ty ok. option_single T.same (T.reads ty) (T.single ty ok) };
 
     fn from_sql(alloc: Global, ty: &PgType, raw: &'a [u8]) -> Result<Option<T>, Fault> {
-        match T::from_sql(alloc, ty, raw) {
-            Ok(value) => Ok(Some(value)),
-            Err(fault) => Err(fault),
-        }
+        Ok(Some(T::from_sql(alloc, ty, raw)?))
     }
 
     fn from_sql_null(_alloc: Global, _ty: &PgType) -> Result<Option<T>, Fault> {

@@ -38,10 +38,7 @@ impl<'a, T: FromSql<'a>> FromSql<'a> for Date<T> {
         if days == i32::MIN {
             return Ok(Date::NegInfinity);
         }
-        match T::from_sql(alloc, ty, raw) {
-            Ok(value) => Ok(Date::Value(value)),
-            Err(fault) => Err(fault),
-        }
+        Ok(Date::Value(T::from_sql(alloc, ty, raw)?))
     }
 
     fn from_sql_null(_alloc: Global, _ty: &PgType) -> Result<Date<T>, Fault> {

@@ -39,10 +39,7 @@ impl<'a, T: FromSql<'a>> FromSql<'a> for Timestamp<T> {
         if micros == i64::MIN {
             return Ok(Timestamp::NegInfinity);
         }
-        match T::from_sql(alloc, ty, raw) {
-            Ok(value) => Ok(Timestamp::Value(value)),
-            Err(fault) => Err(fault),
-        }
+        Ok(Timestamp::Value(T::from_sql(alloc, ty, raw)?))
     }
 
     fn from_sql_null(_alloc: Global, _ty: &PgType) -> Result<Timestamp<T>, Fault> {
