@@ -51,12 +51,8 @@ pub fn run<R: Read, W: Write>(alloc: Global, input: &mut R, output: &mut W) -> R
     'reads: for _ in 0..u64::MAX {
         let n = match input.read(&mut block) {
             Ok(n) => n,
-            Err(e) => {
-                if e.kind() == ErrorKind::Interrupted {
-                    continue;
-                }
-                return Err(RunFault::Read);
-            }
+            Err(e) if e.kind() == ErrorKind::Interrupted => continue,
+            Err(_) => return Err(RunFault::Read),
         };
         if n == 0 {
             return finish(alloc, line.as_slice(), &mut pending, output);
@@ -145,11 +141,8 @@ fn write_whole<W: Write>(output: &mut W, bytes: &[u8]) -> Result<(), RunFault>
         match output.write(&bytes[sent..]) {
             Ok(0) => return Err(RunFault::Write),
             Ok(n) => sent += n,
-            Err(e) => {
-                if e.kind() != ErrorKind::Interrupted {
-                    return Err(RunFault::Write);
-                }
-            }
+            Err(e) if e.kind() == ErrorKind::Interrupted => {}
+            Err(_) => return Err(RunFault::Write),
         }
     }
     Err(RunFault::Write)

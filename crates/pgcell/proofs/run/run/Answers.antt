@@ -5,12 +5,12 @@ use Rattle.pgcell.proofs.Outcomes.{err_always, err_weaker, err_known, ok_weaker,
 use Rattle.pgcell.proofs.Steps.{takes_either, under_way-kept, under_way-some, under_way-all, under_way-taken, under_way-stopped, under_way-cut, under_way-unfinished, under_way-end_cut}
 use Rattle.pgcell.proofs.run.run.Goals as goal
 
-pub returns-in-Err-clause-whole : goal.returns-in-Err-clause-whole
-returns-in-Err-clause-whole g c = λ _. under_way-some _ _ _ _ _ c.reads.invariant.2
+pub returns-in-Err-2-clause-whole : goal.returns-in-Err-2-clause-whole
+returns-in-Err-2-clause-whole g c = λ _. under_way-some _ _ _ _ _ c.reads.invariant.2
 
-pub returns-in-Err-clause-read : goal.returns-in-Err-clause-read
-returns-in-Err-clause-read g c =
-    λ _. (c.reads.line.items, c.reads.invariant.0, under_way-kept _ _ _ _ _ _ c.reads.invariant.2 c.in-Err.ensures.bytes)
+pub returns-in-Err-2-clause-read : goal.returns-in-Err-2-clause-read
+returns-in-Err-2-clause-read g c =
+    λ _. (c.reads.line.items, c.reads.invariant.0, under_way-kept _ _ _ _ _ _ c.reads.invariant.2 c.in-Err-2.ensures.bytes)
 
 pub returns-then-n-eq0-clause-ok : goal.returns-then-n-eq0-clause-ok
 returns-then-n-eq0-clause-ok g c =

@@ -1,6 +1,6 @@
 use Rattle.std.proofs.KnownBytes.{Appends-kept}
 use Rattle.pgcell.proofs.Sent.{sent_more}
-use Rattle.pgcell.proofs.run.write_whole.Goals.{in-Ok, in-Err+else-ne}
+use Rattle.pgcell.proofs.run.write_whole.Goals.{in-Ok, in-Err}
 use Rattle.pgcell.proofs.run.write_whole.Goals as goal
 
 pub turns-preserved : goal.turns-preserved
@@ -8,5 +8,5 @@ turns-preserved g c =
     let before = c.turns.invariant in
     elim c.match-write.branch [
       | in-Ok w ↦ sent_more _ _ _ _ _ _ _ before.0 w.in-Ok.ensures.bound before.1 w.in-Ok.ensures.bytes w.sent-is
-      | in-Err+else-ne w ↦ rw w.sent-is (before.0, Appends-kept _ _ _ _ before.1 w.in-Err.ensures.bytes)
+      | in-Err w ↦ rw w.sent-is (before.0, Appends-kept _ _ _ _ before.1 w.in-Err.ensures.bytes)
     ]
