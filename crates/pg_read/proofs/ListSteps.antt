@@ -4,7 +4,7 @@ use Rattle.std.specs.Prelude.{◌⊎◌, Option, IfSome, nat_le}
 use Rattle.std.proofs.lemmas.Bool.Decides.{nat_tests}
 use Rattle.std.proofs.lemmas.Option.{IfSome_then}
 use Rattle.pg_base.specs.Arrays.{SpellsHead}
-use Rattle.pg_base.specs.CellLaws.{no_cell}
+use Rattle.pg_base.proofs.CellLaws.{no_cell}
 use Rattle.pg_base.specs.Cells.{Cell, Spells, SpellsAll, SpellsNone, CellsInRow}
 use Rattle.pg_base.specs.Content.{Content}
 use Rattle.pg_base.specs.Counts.{checks_of_next, next_checks, cell_checks, ToRead, has_cell, has_number, nothing}

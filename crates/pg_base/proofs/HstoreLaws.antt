@@ -8,10 +8,10 @@ use Rattle.std.specs.Int.{w32}
 use Rattle.std.specs.Str.{is_utf8}
 use Rattle.pg_base.specs.Cells.{Cell, IsBe}
 use Rattle.pg_base.specs.Faults.{Refusal, size, utf8, key_length}
-use Rattle.pg_base.specs.CellLaws.{IsCellThen, bytes_or_none, cell_by, cell_in, cell_then}
-use Rattle.pg_base.specs.CountLaws.{number_then}
+use Rattle.pg_base.proofs.CellLaws.{IsCellThen, bytes_or_none, cell_by, cell_in, cell_then}
+use Rattle.pg_base.proofs.CountLaws.{number_then}
 use Rattle.pg_base.specs.Counts.{checks_of_next, next_checks, ToRead, behind_cell, bytes_in, count_checks, has_number, not_negative, nothing, number_in, stated}
-use Rattle.pg_base.specs.FormatLaws.{check_failed, checks_met}
+use Rattle.pg_base.proofs.FormatLaws.{check_failed, checks_met}
 use Rattle.pg_base.specs.Formats.{IsGrammar, first_fault_of}
 use Rattle.pg_base.specs.Hstore.{Entry, SpellsText, SpellsEntry, SpellsEntries, SpellsCount, FormHstore, key_checks, value_checks, entry_checks, entries_checks, first_fault_hstore, last_value}
 use Rattle.pg_base.specs.Options.{NoneOr}
