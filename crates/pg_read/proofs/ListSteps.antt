@@ -18,10 +18,6 @@ pub record HaveBeenTaken (start : ToRead) (cs : List Cell) (now : ToRead) : Type
   pub so_many : length cs + now.left ≡ start.left
   pub spelled : SpellsAll start.bytes cs now.bytes
 
--- nothing was taken at the start
-pub none_taken : (start : ToRead) → HaveBeenTaken start [] start
-none_taken start = record { so_many = omega arith; spelled = refl }
-
 pub spelled_more : (s u rest : List ℕ) (cs ds : List Cell) → SpellsAll s cs u → SpellsAll u ds rest → SpellsAll s (cs ++ ds) rest
 spelled_more s u rest [] ds e r = subst (λ x. SpellsAll x ds rest) (sym e) r
 spelled_more s u rest (c ∷ cs) ds p r = (p.0, p.1, p.2, p.3, spelled_more p.1 u rest cs ds p.4 r)
