@@ -1,6 +1,7 @@
 -- When two values are the same: by their content, wherever it lies.
 use Rattle.std.specs.Prelude.{List, [], ◌∷◌, Option, Some, None}
 
+-- a sameness of values is an equivalence: it is reflexive, symmetric and transitive
 pub record IsEquivalence {A : Type 0} (same : A → A → Type 0) : Type 0 where
   pub reflexive : (a : A) → same a a
   pub symmetric : (a b : A) → same a b → same b a
