@@ -2,7 +2,7 @@
 use Rattle.std.proofs.Common.{◌≡◌, ℕ, suc, zero, List, ◌++◌, length, Result, Ok, Err, ◌∙◌, ap, subst}
 use Rattle.std.proofs.lemmas.Option.{IfSome_then}
 use Rattle.pg_base.specs.declared.fault.Fault.{Fault}
-use Rattle.pg_base.specs.ArrayLaws.{dimension_fault}
+use Rattle.pg_base.proofs.ArrayLaws.{dimension_fault}
 use Rattle.pg_base.specs.Arrays.{SpellsDimensions, SpellsHead, dimension_checks, head_checks}
 use Rattle.pg_base.specs.Counts.{IsCount, ToRead}
 use Rattle.pg_base.specs.Faults.{Answers, refusal_of}

@@ -7,12 +7,12 @@ use Rattle.std.proofs.lemmas.List.{get_or-append-add, get_or_past}
 use Rattle.std.proofs.lemmas.Nat.{be_bytes_4}
 use Rattle.std.proofs.Math.Facts.{of_z-to_z, sfits_to_z}
 use Rattle.pg_base.specs.Arrays.{SpellsDimensions, SpellsHead}
-use Rattle.pg_base.specs.CellLaws.{no_cell}
+use Rattle.pg_base.proofs.CellLaws.{no_cell}
 use Rattle.pg_base.specs.Cells.{Cell, IsBe, Spells, SpellsNone, SpellsAll, CellsInRow}
-use Rattle.pg_base.specs.CountLaws.{number_then}
+use Rattle.pg_base.proofs.CountLaws.{number_then}
 use Rattle.pg_base.specs.Counts.{ToRead, has_number}
 use Rattle.pg_base.specs.Faults.{size}
-use Rattle.pg_base.specs.FrameLaws.{taken}
+use Rattle.pg_base.proofs.FrameLaws.{taken}
 
 -- every number of the list is a byte
 abbrev pub AreBytes : List ℕ → Type 0

@@ -82,10 +82,6 @@ same_from_eq a b h = type-same _ _ (sym (eq_content a b) ∙ h)
 pub eq_from_same : (a b : PgType) → content a ≡ content b → types.eq a b ≡ true
 eq_from_same a b h = eq_content a b ∙ ap (λ t. same_type (content a) t) (sym h) ∙ type-self (content a)
 
--- what == of two kinds answers
-pub eq_kind_content : (a b : Kind) → kinds.eq a b ≡ same_kind_content (kind_content a) (kind_content b)
-eq_kind_content a b = eq-kind a b
-
 -- equal kinds stand for the same
 pub same_kind_from_eq : (a b : Kind) → kinds.eq a b ≡ true → kind_content a ≡ kind_content b
 same_kind_from_eq a b h = kind-same _ _ (sym (eq-kind a b) ∙ h)

@@ -5,7 +5,7 @@ use Rattle.std.proofs.lemmas.List.{take_more, map-append, take-append-drop}
 use Rattle.std.specs.Int.{w32}
 use Rattle.pg_base.specs.Cells.{be, cell_of, frame, joined}
 use Rattle.pg_base.specs.Counts.{count_bytes}
-use Rattle.pg_base.specs.FrameLaws.{parts_of}
+use Rattle.pg_base.proofs.FrameLaws.{parts_of}
 use Rattle.pg_base.specs.Hstore.{Entry, entries_bytes, hstore_bytes, lent_entry}
 use Rattle.pg_base.proofs.Joined.{Bytes, joined-assoc, joined-nil, nil-joined, none_of, short_count, sum_len}
 

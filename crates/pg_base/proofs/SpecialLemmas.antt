@@ -3,7 +3,7 @@ use Rattle.std.specs.Prelude.{◌≢◌, ℕ, ℤ, pos, negsuc, List, length}
 use Rattle.std.proofs.Common.{◌∙◌, ap, arith}
 use Rattle.std.specs.Int.{w32, w64, cast_unsigned}
 use Rattle.pg_base.specs.Cells.{IsBe}
-use Rattle.pg_base.specs.FormatLaws.{length-bytes_high_first, int4_grammar, int8_grammar}
+use Rattle.pg_base.proofs.FormatLaws.{length-bytes_high_first, int4_grammar, int8_grammar}
 use Rattle.pg_base.specs.Special.{IsFiniteCell}
 
 -- the bytes of a number of 4 bytes that is neither the greatest nor the least are finite

@@ -90,6 +90,7 @@ FormBits bits_of b v =
 abbrev pub first_fault_bits : List ℕ → Option Refusal
 first_fault_bits b = first_fault_of (count_checks b ++ (length (drop 4 b) == bytes_for (stated (number_in b)), size) ∷ [])
 
+-- what a cell reads as
 abbrev pub ReadsBits : {A : Type 0} → (A → List Bool) → Cell → Outcome A → Type 0
 ReadsBits bits_of = ReadsPlain (FormBits bits_of) first_fault_bits
 

@@ -13,6 +13,7 @@ FormBytes bytes_of b v = bytes_of v ≡ b
 abbrev pub first_fault_bytes : List ℕ → Option Refusal
 first_fault_bytes b = first_fault_of []
 
+-- what a cell reads as
 abbrev pub ReadsBytes : {A : Type 0} → (A → List ℕ) → Cell → Outcome A → Type 0
 ReadsBytes bytes_of = ReadsPlain (FormBytes bytes_of) first_fault_bytes
 

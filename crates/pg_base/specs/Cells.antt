@@ -71,3 +71,12 @@ joined (Some a) r = option_map (λ b. a ++ b) r
 abbrev pub frames : List Cell → Option (List ℕ)
 frames [] = Some []
 frames (c ∷ cs) = joined (frame c) (frames cs)
+
+-- the frames of cells are those of no others
+abbrev pub FramesSingle : Type 0
+FramesSingle = (cs ds : List Cell) (b : List ℕ) → frames cs ≡ Some b → frames ds ≡ Some b → cs ≡ ds
+
+-- and, whatever comes behind them, of no other cells that are as many
+abbrev pub FramesInFrontSingle : Type 0
+FramesInFrontSingle =
+    (cs ds : List Cell) (a b s t : List ℕ) → length cs ≡ length ds → frames cs ≡ Some a → frames ds ≡ Some b → a ++ s ≡ b ++ t → (cs ≡ ds) × (s ≡ t)

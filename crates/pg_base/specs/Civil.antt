@@ -24,6 +24,7 @@ first_fault_count w low high b =
 abbrev pub FormCount : {A : Type 0} → Width → ℤ → ℤ → (ℤ → A → Type 0) → List ℕ → A → Type 0
 FormCount w low high names b v = (z : ℤ) × IsBe w b z × IsBetween low high z × names z v
 
+-- what a cell of a count reads as
 abbrev pub ReadsCount : {A : Type 0} → Width → ℤ → ℤ → (ℤ → A → Type 0) → Cell → Outcome A → Type 0
 ReadsCount w low high names = ReadsPlain (FormCount w low high names) (first_fault_count w low high)
 
@@ -36,10 +37,11 @@ CountGives low high names z (Err r) = (IsBetween low high z → ⊥) × (r ≡ d
 abbrev pub base_day : ℤ
 base_day = pos 10_957
 
--- -9999-01-01 and 9999-12-31, the first and the last date of `jiff`, in days from 2000-01-01
+-- -9999-01-01, the first date of `jiff`, in days from 2000-01-01
 abbrev pub first_day : ℤ
 first_day = neg_ℤ (pos 4_382_544)
 
+-- 9999-12-31, the last date of `jiff`, in days from 2000-01-01
 abbrev pub last_day : ℤ
 last_day = pos 2_921_939
 
@@ -47,6 +49,7 @@ last_day = pos 2_921_939
 abbrev pub IsDayOf : ℤ → Date → Type 0
 IsDayOf d v = epoch_day v ≡ base_day +ℤ d
 
+-- DATE: the date that stands that many days after 2000-01-01
 abbrev pub ReadsDate : Cell → Outcome Date → Type 0
 ReadsDate = ReadsCount w32 first_day last_day IsDayOf
 
@@ -62,6 +65,7 @@ last_micros = pos 86_399_999_999
 abbrev pub IsAfterMidnight : ℤ → Time → Type 0
 IsAfterMidnight u v = pos (time_nanos v) ≡ u *ℤ pos 1000
 
+-- TIME: the time that stands that many microseconds after midnight
 abbrev pub ReadsTime : Cell → Outcome Time → Type 0
 ReadsTime = ReadsCount w64 (pos 0) last_micros IsAfterMidnight
 
@@ -69,10 +73,11 @@ ReadsTime = ReadsCount w64 (pos 0) last_micros IsAfterMidnight
 abbrev pub wire_time : Time → Wire
 wire_time v = wire_signed w64 (pos (time_nanos v / 1000))
 
--- -9999-01-01 00:00:00 and the last microsecond of 9999-12-31, in microseconds from 2000-01-01 00:00:00
+-- -9999-01-01 00:00:00, in microseconds from 2000-01-01 00:00:00
 abbrev pub first_civil : ℤ
 first_civil = neg_ℤ (pos 378_651_801_600_000_000)
 
+-- the last microsecond of 9999-12-31, in microseconds from 2000-01-01 00:00:00
 abbrev pub last_civil : ℤ
 last_civil = pos 252_455_615_999_999_999
 
@@ -80,6 +85,7 @@ last_civil = pos 252_455_615_999_999_999
 abbrev pub ReadsDateTime : Cell → Outcome DateTime → Type 0
 ReadsDateTime = ReadsCount w64 first_civil last_civil (IsAfterBase civil_nanos)
 
+-- the cell of a civil datetime: its microseconds from 2000-01-01 00:00:00, cut toward it, in 8 bytes
 abbrev pub wire_datetime : DateTime → Wire
 wire_datetime v = wire_timestamp (civil_nanos v)
 
@@ -87,10 +93,11 @@ wire_datetime v = wire_timestamp (civil_nanos v)
 abbrev pub instant_nanos : Timestamp → ℤ
 instant_nanos v = v.nanosecond
 
--- the first and the last instant of `jiff`, in microseconds from 2000-01-01 00:00:00 UTC
+-- the first instant of `jiff`, in microseconds from 2000-01-01 00:00:00 UTC
 abbrev pub first_instant : ℤ
 first_instant = neg_ℤ (pos 378_651_708_001_000_000)
 
+-- the last instant of `jiff`, in microseconds from 2000-01-01 00:00:00 UTC
 abbrev pub last_instant : ℤ
 last_instant = pos 252_455_522_400_999_999
 
@@ -98,5 +105,6 @@ last_instant = pos 252_455_522_400_999_999
 abbrev pub ReadsInstant : Cell → Outcome Timestamp → Type 0
 ReadsInstant = ReadsCount w64 first_instant last_instant (IsAfterBase instant_nanos)
 
+-- the cell of an instant: its microseconds from 2000-01-01 00:00:00 UTC, cut toward it, in 8 bytes
 abbrev pub wire_instant : Timestamp → Wire
 wire_instant v = wire_timestamp (instant_nanos v)

@@ -7,10 +7,11 @@ use Rattle.pg_base.specs.declared.fault.Fault.{Fault}
 use Rattle.pg_base.specs.Faults.{refusal_of, size, count}
 use Rattle.pg_base.specs.Formats.{Checks, first_fault_of}
 
--- the number in the first four bytes, where they are there
+-- whether four bytes are there
 abbrev pub has_number : List ℕ → Bool
 has_number s = nat_le 4 (length s)
 
+-- the number that the first four bytes spell
 abbrev pub number_in : List ℕ → ℤ
 number_in s = signed_in w32 (take 4 s)
 
@@ -19,6 +20,7 @@ abbrev pub stated : ℤ → ℕ
 stated (pos n) = n
 stated (negsuc n) = 0
 
+-- whether a number is not negative
 abbrev pub not_negative : ℤ → Bool
 not_negative (pos n) = true
 not_negative (negsuc n) = false
@@ -49,6 +51,7 @@ abbrev pub checks_of_next : (List ℕ → Checks) → ℕ → List ℕ → Check
 checks_of_next item zero s = (length s == 0, size) ∷ []
 checks_of_next item (suc n) s = item s
 
+-- the checks of what comes next of what is to be read
 abbrev pub next_checks : (List ℕ → Checks) → ToRead → Checks
 next_checks item r = checks_of_next item r.left r.bytes
 
@@ -61,13 +64,15 @@ TakesNext spells item old (Some (Err f)) new =
     IfSome (refusal_of f) (λ r. first_fault_of (next_checks item old) ≡ Some r) × IsSome (refusal_of f) × (new ≡ nothing)
 TakesNext spells item old None new = (old ≡ nothing) × (new ≡ nothing)
 
--- the bytes whose length stands in front, where all of them are there, and what follows them
+-- whether the bytes whose length stands in front are all there
 abbrev pub has_cell : List ℕ → Bool
 has_cell s = nat_le (stated (number_in s)) (length (drop 4 s))
 
+-- the bytes whose length stands in front: none where it is negative
 abbrev pub bytes_in : List ℕ → List ℕ
 bytes_in s = take (stated (number_in s)) (drop 4 s)
 
+-- what follows a length and its bytes
 abbrev pub behind_cell : List ℕ → List ℕ
 behind_cell s = drop (stated (number_in s)) (drop 4 s)
 
@@ -75,6 +80,6 @@ behind_cell s = drop (stated (number_in s)) (drop 4 s)
 abbrev pub cell_checks : List ℕ → Checks
 cell_checks s = (has_number s, size) ∷ (has_cell s, size) ∷ []
 
--- the bytes of a count, which four bytes hold
+-- the bytes of a count; None where four bytes cannot hold it
 abbrev pub count_bytes : ℕ → Option (List ℕ)
 count_bytes n = if nat_le n 2147483647 then Some (be w32 (pos n)) else None

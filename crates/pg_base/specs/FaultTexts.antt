@@ -11,9 +11,11 @@ postgres_type w = content w.postgres
 abbrev pub rust_name : WrongType → List ℕ
 rust_name w = w.rust.bytes
 
+-- what WasNull prints
 abbrev pub was_null_text : List ℕ
 was_null_text = codes "a Postgres value was `NULL`"
 
+-- what WrongType prints
 abbrev pub wrong_type_text : Content → List ℕ → List ℕ
 wrong_type_text ty rust =
     codes "cannot convert between the Rust type `" ++ (rust ++ (codes "` and the Postgres type `" ++ (shown ty ++ codes "`")))

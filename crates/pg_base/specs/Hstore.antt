@@ -53,14 +53,16 @@ abbrev pub FormHstore : {A : Type 0} → (A → List ℕ → Option Cell) → Li
 FormHstore value_at b m =
     (es : List Entry) × (s : List ℕ) × SpellsCount b (record { left = length es; bytes = s }) × SpellsEntries s es [] × ((q : List ℕ) → value_at m q ≡ last_value q es)
 
--- the checks of an entry in front of s, in the order of its bytes. A value of negative length is NULL, and has no text
+-- the checks of a key in front: bytes that are cut are Size, a negative length KeyLength, and what is no UTF-8 Utf8
 abbrev pub key_checks : List ℕ → Checks
 key_checks s =
     (has_number s, size) ∷ (not_negative (number_in s), key_length) ∷ (has_cell s, size) ∷ (is_utf8 (bytes_in s), utf8) ∷ []
 
+-- the checks of a value in front: the same, but a negative length is NULL, which has no text
 abbrev pub value_checks : List ℕ → Checks
 value_checks s = (has_number s, size) ∷ (has_cell s, size) ∷ (is_utf8 (bytes_in s), utf8) ∷ []
 
+-- the checks of an entry in front: those of its key, and then those of its value
 abbrev pub entry_checks : List ℕ → Checks
 entry_checks s = key_checks s ++ value_checks (behind_cell s)
 

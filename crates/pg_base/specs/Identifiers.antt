@@ -10,9 +10,10 @@ use Rattle.pg_base.specs.Appending.{Wire}
 abbrev pub FormIdentifier : ℕ → List ℕ → List ℕ → Type 0
 FormIdentifier width b v = (v ≡ b) × (length b ≡ width)
 
+-- what a cell reads as
 abbrev pub ReadsIdentifier : ℕ → Cell → Outcome (List ℕ) → Type 0
 ReadsIdentifier width = ReadsPlain (FormIdentifier width) (first_fault_number width)
 
--- the cell of an identifier: its bytes
+-- the cell of an identifier: its bytes, or Transmit where they are not as many as the width
 abbrev pub wire_identifier : ℕ → List ℕ → Wire
 wire_identifier width v = if length v == width then Ok (Some v) else Err transmit

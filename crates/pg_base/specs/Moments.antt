@@ -31,6 +31,7 @@ IsAfterBase nanos micros v = nanos v ≡ base_nanos +ℤ micros *ℤ pos 1000
 abbrev pub FormTimestamp : {A : Type 0} → (A → ℤ) → List ℕ → A → Type 0
 FormTimestamp nanos b v = (micros : ℤ) × IsBe w64 b micros × IsAfterBase nanos micros v
 
+-- what a cell reads as
 abbrev pub ReadsTimestamp : {A : Type 0} → (A → ℤ) → Cell → Outcome A → Type 0
 ReadsTimestamp nanos = ReadsPlain (FormTimestamp nanos) (first_fault_number 8)
 

@@ -23,10 +23,11 @@ family_of (V6 a) = 3
 abbrev pub family_len : ℕ → ℕ
 family_len number = if number == 2 then 4 else 16
 
--- how many octets an address has, and how many bits
+-- how many octets an address has
 abbrev pub address_len : IpAddr → ℕ
 address_len a = family_len (family_of a)
 
+-- how many bits an address has
 abbrev pub address_bits : IpAddr → ℕ
 address_bits a = 8 * address_len a
 
@@ -78,19 +79,23 @@ inet_checks b =
     ∷ (length (drop 4 b) == family_len (slice_index b 0), size)
     ∷ []
 
+-- the first fault of INET
 abbrev pub first_fault_inet : List ℕ → Option Refusal
 first_fault_inet b = first_fault_of (inet_checks b)
 
--- and of CIDR: host bits are HostBits
+-- the first fault of CIDR: after the checks of INET, host bits are HostBits
 abbrev pub first_fault_cidr : List ℕ → Option Refusal
 first_fault_cidr b = first_fault_of (inet_checks b ++ (host_part (drop 4 b) (slice_index b 1) == 0, host_bits) ∷ [])
 
+-- what a cell of INET reads as
 abbrev pub ReadsInet : Cell → Outcome Network → Type 0
 ReadsInet = ReadsPlain FormInet first_fault_inet
 
+-- what a cell of CIDR reads as
 abbrev pub ReadsCidr : Cell → Outcome Network → Type 0
 ReadsCidr = ReadsPlain FormCidr first_fault_cidr
 
+-- what a cell of INET reads as where its netmask is left out
 abbrev pub ReadsAddress : Cell → Outcome IpAddr → Type 0
 ReadsAddress = ReadsPlain FormAddress first_fault_inet
 
@@ -112,10 +117,11 @@ Made n fault (Err r) = fault ≡ Some r
 abbrev pub is_network : Network → Bool
 is_network n = length (address_octets n.address) == address_len n.address && nat_le n.masklen (address_bits n.address)
 
--- the cell of an address with its netmask: its bytes with the flag 0
+-- the cell of an address with its netmask: its bytes with the flag 0, or Transmit where the length of either is wrong
 abbrev pub wire_inet : Network → Wire
 wire_inet n = if is_network n then Ok (Some (network_bytes 0 n)) else Err transmit
 
+-- the cell of a network: its bytes with the flag 0, or Transmit where a length is wrong or there are host bits
 abbrev pub wire_cidr : Network → Wire
 wire_cidr n = if is_network n && host_part (address_octets n.address) n.masklen == 0 then Ok (Some (network_bytes 0 n)) else Err transmit
 

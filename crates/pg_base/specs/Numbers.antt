@@ -16,6 +16,7 @@ first_fault_number width b = first_fault_of ((length b == width, size) ∷ [])
 abbrev pub FormSigned : Width → List ℕ → ℤ → Type 0
 FormSigned = IsBe
 
+-- what a cell of CHAR, INT2, INT4 or INT8 reads as
 abbrev pub ReadsSigned : Width → Cell → Outcome ℤ → Type 0
 ReadsSigned w = ReadsPlain (FormSigned w) (first_fault_number (byte_len w))
 
@@ -24,17 +25,19 @@ abbrev pub fits_signed : Width → ℤ → Bool
 fits_signed w (pos n) = nat_lt n (2 ^ (bits w - 1))
 fits_signed w (negsuc n) = nat_lt n (2 ^ (bits w - 1))
 
--- the cell of a number: its bytes in the width
+-- the cell of a number: its bytes in the width, or Transmit where the width does not hold it
 abbrev pub wire_signed : Width → ℤ → Wire
 wire_signed w z = if fits_signed w z then Ok (Some (be w z)) else Err transmit
 
--- OID, PG_LSN: the same of a number without a sign
+-- OID, PG_LSN: the bytes spell this number in the width, highest first, without a sign
 abbrev pub FormUnsigned : Width → List ℕ → ℕ → Type 0
 FormUnsigned = IsBeUnsigned
 
+-- what a cell of OID or PG_LSN reads as
 abbrev pub ReadsUnsigned : Width → Cell → Outcome ℕ → Type 0
 ReadsUnsigned w = ReadsPlain (FormUnsigned w) (first_fault_number (byte_len w))
 
+-- the cell of a number without a sign: its bytes in the width, or Transmit where the width does not hold it
 abbrev pub wire_unsigned : Width → ℕ → Wire
 wire_unsigned w n = if nat_lt n (2 ^ bits w) then Ok (Some (to_be_bytes w n)) else Err transmit
 
@@ -42,6 +45,7 @@ wire_unsigned w n = if nat_lt n (2 ^ bits w) then Ok (Some (to_be_bytes w n)) el
 abbrev pub FormBool : List ℕ → Bool → Type 0
 FormBool b v = (byte : ℕ) × (b ≡ byte ∷ []) × (v ≡ not (byte == 0))
 
+-- what a cell of BOOL reads as
 abbrev pub ReadsBool : Cell → Outcome Bool → Type 0
 ReadsBool = ReadsPlain FormBool (first_fault_number 1)
 

@@ -36,6 +36,6 @@ first_fault_text true b = first_fault_of ((slice_index b 0 == 1, text_version) �
 abbrev pub ReadsText : {A : Type 0} → (A → List ℕ) → Bool → Cell → Outcome A → Type 0
 ReadsText bytes_of versioned = ReadsPlain (FormText bytes_of versioned) (first_fault_text versioned)
 
--- what a text is written as: its cell
+-- what a text is written as: its cell, or Transmit where it is no UTF-8
 abbrev pub wire_text : Bool → List ℕ → Wire
 wire_text versioned s = if is_utf8 s then Ok (Some (versioned_cell versioned s)) else Err transmit

@@ -4,7 +4,7 @@ use Rattle.std.specs.Prelude.{◌⊎◌, Option, IfSome, nat_le}
 use Rattle.std.proofs.lemmas.Bool.Decides.{nat_tests}
 use Rattle.std.proofs.lemmas.Option.{IfSome_then}
 use Rattle.pg_base.specs.Arrays.{SpellsHead}
-use Rattle.pg_base.specs.CellLaws.{no_cell}
+use Rattle.pg_base.proofs.CellLaws.{no_cell}
 use Rattle.pg_base.specs.Cells.{Cell, Spells, SpellsAll, SpellsNone, CellsInRow}
 use Rattle.pg_base.specs.Content.{Content}
 use Rattle.pg_base.specs.Counts.{checks_of_next, next_checks, cell_checks, ToRead, has_cell, has_number, nothing}
@@ -17,10 +17,6 @@ use Rattle.pg_read.specs.ListReading.{ReadsAll, ReadsElements, ReadsList, ReadsM
 pub record HaveBeenTaken (start : ToRead) (cs : List Cell) (now : ToRead) : Type 0 where
   pub so_many : length cs + now.left ≡ start.left
   pub spelled : SpellsAll start.bytes cs now.bytes
-
--- nothing was taken at the start
-pub none_taken : (start : ToRead) → HaveBeenTaken start [] start
-none_taken start = record { so_many = omega arith; spelled = refl }
 
 pub spelled_more : (s u rest : List ℕ) (cs ds : List Cell) → SpellsAll s cs u → SpellsAll u ds rest → SpellsAll s (cs ++ ds) rest
 spelled_more s u rest [] ds e r = subst (λ x. SpellsAll x ds rest) (sym e) r

@@ -1,6 +1,6 @@
 -- A run of cells that is read from their frames.
 use Rattle.std.proofs.Common.{◌≡◌, ℕ, List, ◌∷◌, ◌++◌, [], length, Option, Some, None, Result, Ok, Err, refl, sym, subst, arith, inl, inr}
-use Rattle.pg_base.specs.CellLaws.{cells_single, frames_in_row}
+use Rattle.pg_base.proofs.CellLaws.{cells_single, frames_in_row}
 use Rattle.pg_base.specs.Cells.{Cell, CellsInRow}
 use Rattle.pg_base.specs.Faults.{Refusal, Outcome, refusal_of}
 use Rattle.pg_base.specs.declared.fault.Fault.{Fault}

@@ -3,7 +3,7 @@ use Rattle.std.specs.Prelude.{◌≡◌, ◌⊎◌, ◌==◌, nat_le, ℕ, List,
 use Rattle.std.proofs.Common.{sym, ◌∙◌, subst, inl, inr, true≢false}
 use Rattle.pg_base.specs.Arrays.{ArrayBody, head_checks}
 use Rattle.pg_base.specs.Lists.{accepted_member, accepted_list, member_of}
-use Rattle.pg_base.specs.ArrayLaws.{body_single, head_passes}
+use Rattle.pg_base.proofs.ArrayLaws.{body_single, head_passes}
 use Rattle.pg_base.specs.Cells.{Cell}
 use Rattle.pg_base.specs.Content.{Content}
 use Rattle.pg_base.specs.Faults.{Refusal, Outcome, was_null, size, too_few, excess}

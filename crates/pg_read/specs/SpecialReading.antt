@@ -5,7 +5,7 @@ use Rattle.std.specs.Int.{Width}
 use Rattle.pg_base.specs.Cells.{Cell}
 use Rattle.pg_base.specs.Faults.{Refusal, Outcome}
 use Rattle.pg_base.specs.Special.{Special, pos_infinity, neg_infinity, value, FormSpecial, RefusedSpecial, ReadsSpecial, SameSpecial}
-use Rattle.pg_base.specs.SpecialLaws.{infinity_width, minus_infinity_width, infinities_apart}
+use Rattle.pg_base.proofs.SpecialLaws.{infinity_width, minus_infinity_width, infinities_apart}
 use Rattle.pg_read.specs.Reading.{ReadsSingle}
 
 module _ {A : Type 0} (w : Width) (same : A → A → Type 0) (reads : Cell → Outcome A → Type 0) (single : ReadsSingle same reads) (b : List ℕ) where

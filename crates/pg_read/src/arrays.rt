@@ -3,7 +3,8 @@ ghost use Rattle.std.specs.Prelude.{Some, IsTrue};
 ghost use Rattle.pg_base.specs.Lists.{accepted_list, member_of};
 ghost use Rattle.pg_base.specs.Content.{content};
 ghost use Rattle.pg_base.specs.Faults.{Answers};
-ghost use Rattle.pg_base.specs.Sameness.{SameList, list_equivalence};
+ghost use Rattle.pg_base.proofs.SamenessLaws.{list_equivalence};
+ghost use Rattle.pg_base.specs.Sameness.{SameList};
 ghost use Rattle.pg_read.specs.ListReading.{ReadsArray, ReadsFixed, ReadsMembers, fixed_single, members_single};
 ghost use Rattle.pg_read.specs.Reading.{NullAlone};
 

@@ -1,5 +1,5 @@
 //! Reading a box.
-ghost use Rattle.pg_base.specs.Sameness.{inside_equivalence};
+ghost use Rattle.pg_base.proofs.SamenessLaws.{inside_equivalence};
 ghost use Rattle.pg_read.specs.BoxReading.{ReadsBox, box_single};
 ghost use Rattle.pg_read.specs.Reading.{NullAlone};
 

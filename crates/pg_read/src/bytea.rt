@@ -3,8 +3,8 @@ ghost use Rattle.std.specs.Prelude.{◌≡◌};
 ghost use Rattle.pg_base.specs.declared.types.built_in.BuiltIn.TheVariants.{Bytea};
 ghost use Rattle.pg_base.specs.Bytes.{FormBytes, ReadsBytes, first_fault_bytes};
 ghost use Rattle.pg_base.specs.Content.{content, is_row};
-ghost use Rattle.pg_base.specs.FormatLaws.{bytes_grammar};
-ghost use Rattle.pg_base.specs.Sameness.{content_equivalence};
+ghost use Rattle.pg_base.proofs.FormatLaws.{bytes_grammar};
+ghost use Rattle.pg_base.proofs.SamenessLaws.{content_equivalence};
 ghost use Rattle.pg_read.specs.Reading.{EveryCell, NullAlone, plain_single};
 
 use crate::from_sql::FromSql;

@@ -3,7 +3,7 @@ ghost use Rattle.std.specs.Prelude.{◌≡◌, Option, None, codes, option_map, 
 ghost use Rattle.pg_base.specs.declared.fault.Fault.TheVariants.{Memory};
 ghost use Rattle.pg_base.specs.Cells.{cell_of};
 ghost use Rattle.pg_base.specs.Hstore.{FormHstore, ReadsHstore, SameMap, first_fault_hstore, value_at};
-ghost use Rattle.pg_base.specs.HstoreLaws.{hstore_grammar, value_equivalence};
+ghost use Rattle.pg_base.proofs.HstoreLaws.{hstore_grammar, value_equivalence};
 ghost use Rattle.pg_base.specs.Texts.{is_named};
 ghost use Rattle.pg_read.specs.Reading.{NullAlone, plain_single};
 

@@ -3,9 +3,9 @@ ghost use Rattle.std.specs.Prelude.{◌≡◌};
 ghost use Rattle.pg_base.specs.declared.types.built_in.BuiltIn.TheVariants.{Macaddr, Uuid as UuidRow};
 ghost use Rattle.pg_base.specs.Content.{is_row};
 ghost use Rattle.pg_base.specs.Identifiers.{FormIdentifier, ReadsIdentifier};
-ghost use Rattle.pg_base.specs.IdentifiersLaws.{identifier_grammar};
+ghost use Rattle.pg_base.proofs.IdentifiersLaws.{identifier_grammar};
 ghost use Rattle.pg_base.specs.Numbers.{first_fault_number};
-ghost use Rattle.pg_base.specs.Sameness.{equal_equivalence};
+ghost use Rattle.pg_base.proofs.SamenessLaws.{equal_equivalence};
 ghost use Rattle.pg_read.specs.Reading.{EveryCell, plain_single};
 
 use crate::from_sql::FromSql;

@@ -5,8 +5,8 @@ ghost use Rattle.pg_base.specs.declared.types.built_in.BuiltIn.TheVariants.{Json
 ghost use Rattle.pg_base.specs.Content.{content, is_row};
 ghost use Rattle.pg_base.specs.Faults.{Answers};
 ghost use Rattle.pg_base.specs.Json.{FormJson, ReadsJson, accepted_json, first_fault_json};
-ghost use Rattle.pg_base.specs.JsonLaws.{json_grammar};
-ghost use Rattle.pg_base.specs.Sameness.{content_equivalence};
+ghost use Rattle.pg_base.proofs.JsonLaws.{json_grammar};
+ghost use Rattle.pg_base.proofs.SamenessLaws.{content_equivalence};
 ghost use Rattle.pg_read.specs.Reading.{NullAlone, plain_single};
 
 use crate::from_sql::FromSql;

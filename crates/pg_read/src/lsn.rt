@@ -3,9 +3,9 @@ ghost use Rattle.std.specs.Prelude.{◌≡◌};
 ghost use Rattle.std.specs.Int.{w64};
 ghost use Rattle.pg_base.specs.declared.types.built_in.BuiltIn.TheVariants.{PgLsn as PgLsnRow};
 ghost use Rattle.pg_base.specs.Content.{is_row};
-ghost use Rattle.pg_base.specs.LsnLaws.{lsn_grammar};
+ghost use Rattle.pg_base.proofs.LsnLaws.{lsn_grammar};
 ghost use Rattle.pg_base.specs.Numbers.{FormUnsigned, ReadsUnsigned, first_fault_number};
-ghost use Rattle.pg_base.specs.Sameness.{equal_equivalence};
+ghost use Rattle.pg_base.proofs.SamenessLaws.{equal_equivalence};
 ghost use Rattle.pg_read.specs.Reading.{EveryCell, plain_single};
 
 use crate::from_sql::FromSql;

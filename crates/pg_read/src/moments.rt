@@ -1,9 +1,9 @@
 //! Reading moments.
 ghost use Rattle.std.specs.Prelude.{◌≡◌};
 ghost use Rattle.pg_base.specs.Moments.{FormTimestamp, ReadsTimestamp, accepted_moment, nanos_of};
-ghost use Rattle.pg_base.specs.MomentsLaws.{timestamp_grammar};
+ghost use Rattle.pg_base.proofs.MomentsLaws.{timestamp_grammar};
 ghost use Rattle.pg_base.specs.Numbers.{first_fault_number};
-ghost use Rattle.pg_base.specs.Sameness.{content_equivalence};
+ghost use Rattle.pg_base.proofs.SamenessLaws.{content_equivalence};
 ghost use Rattle.pg_read.specs.Reading.{EveryCell, plain_single};
 
 use crate::from_sql::FromSql;

@@ -3,8 +3,8 @@ ghost use Rattle.std.specs.Prelude.{◌≡◌};
 ghost use Rattle.pg_base.specs.declared.types.built_in.BuiltIn.TheVariants.{Cidr, Inet};
 ghost use Rattle.pg_base.specs.Content.{is_row};
 ghost use Rattle.pg_base.specs.Network.{FormAddress, FormCidr, FormInet, ReadsAddress, ReadsCidr, ReadsInet, first_fault_cidr, first_fault_inet};
-ghost use Rattle.pg_base.specs.NetworkLaws.{address_grammar, cidr_grammar, inet_grammar};
-ghost use Rattle.pg_base.specs.Sameness.{equal_equivalence};
+ghost use Rattle.pg_base.proofs.NetworkLaws.{address_grammar, cidr_grammar, inet_grammar};
+ghost use Rattle.pg_base.proofs.SamenessLaws.{equal_equivalence};
 ghost use Rattle.pg_read.specs.Reading.{EveryCell, plain_single};
 
 use crate::from_sql::FromSql;

@@ -3,9 +3,9 @@ ghost use Rattle.std.specs.Prelude.{◌≡◌};
 ghost use Rattle.std.specs.Int.{w8, w16, w32, w64};
 ghost use Rattle.pg_base.specs.declared.types.built_in.BuiltIn.TheVariants.{Bool, Char, Int2, Int4, Int8, Oid};
 ghost use Rattle.pg_base.specs.Content.{is_row};
-ghost use Rattle.pg_base.specs.FormatLaws.{bool_grammar, char_grammar, int2_grammar, int4_grammar, int8_grammar, oid_grammar};
+ghost use Rattle.pg_base.proofs.FormatLaws.{bool_grammar, char_grammar, int2_grammar, int4_grammar, int8_grammar, oid_grammar};
 ghost use Rattle.pg_base.specs.Numbers.{FormBool, FormSigned, FormUnsigned, first_fault_number, ReadsBool, ReadsSigned, ReadsUnsigned};
-ghost use Rattle.pg_base.specs.Sameness.{equal_equivalence};
+ghost use Rattle.pg_base.proofs.SamenessLaws.{equal_equivalence};
 ghost use Rattle.pg_read.specs.Reading.{EveryCell, plain_single};
 
 use crate::from_sql::FromSql;

@@ -1,7 +1,8 @@
 //! Reading an option.
 ghost use Rattle.std.specs.Prelude.{Some};
 ghost use Rattle.pg_base.specs.Options.{NoneOr};
-ghost use Rattle.pg_base.specs.Sameness.{SameOption, option_equivalence};
+ghost use Rattle.pg_base.proofs.SamenessLaws.{option_equivalence};
+ghost use Rattle.pg_base.specs.Sameness.{SameOption};
 ghost use Rattle.pg_read.specs.OptionReading.{ReadsOption, option_single};
 
 use crate::from_sql::FromSql;

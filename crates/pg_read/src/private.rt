@@ -1,7 +1,7 @@
 //! What conversions of rows and records are built from: framed cells, read from the front of a
 //! slice.
 ghost use Rattle.std.specs.Prelude.{◌<◌, ℕ, IsTrue, slice_index};
-ghost use Rattle.pg_base.specs.CellLaws.{FramesSingle, FramesInFrontSingle};
+ghost use Rattle.pg_base.specs.Cells.{FramesSingle, FramesInFrontSingle};
 ghost use Rattle.pg_base.specs.Content.{content};
 ghost use Rattle.pg_read.specs.Framed.{TakesNumber, TakesCell, ReadsFramed};
 ghost use Rattle.pg_read.specs.RunReading.{ReadsRun, ReadsFrames};
@@ -80,7 +80,7 @@ fn holds_bytes(bytes: &[u8])
 ///
 /// Frames determine their cells, and in front of other bytes they do where the number of cells is
 /// known; from the frames of `n` cells that each give a value these values are read.
-#[tactic(auto, using(pg_base::specs::CellLaws::frames_single, pg_base::specs::CellLaws::frames_in_front_single))]
+#[tactic(auto, using(pg_base::proofs::CellLaws::frames_single, pg_base::proofs::CellLaws::frames_in_front_single))]
 pub fn read_values<'a, T: FromSql<'a>>(
     alloc: Global,
     type_: &PgType,

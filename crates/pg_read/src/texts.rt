@@ -4,8 +4,8 @@ ghost use Rattle.std.specs.Box.{boxed_str_bytes};
 ghost use Rattle.std.specs.Cow.{cow_str_bytes};
 ghost use Rattle.pg_base.specs.Content.{content};
 ghost use Rattle.pg_base.specs.Faults.{Answers, NeverMemory};
-ghost use Rattle.pg_base.specs.FormatLaws.{text_grammar};
-ghost use Rattle.pg_base.specs.Sameness.{content_equivalence};
+ghost use Rattle.pg_base.proofs.FormatLaws.{text_grammar};
+ghost use Rattle.pg_base.proofs.SamenessLaws.{content_equivalence};
 ghost use Rattle.pg_base.specs.Texts.{accepted_text, FormText, ReadsText, first_fault_text, has_version};
 ghost use Rattle.pg_read.specs.Reading.{EveryCell, NullAlone, plain_single};
 

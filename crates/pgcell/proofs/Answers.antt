@@ -1,5 +1,5 @@
 -- Answers behind answers.
-use Rattle.std.proofs.Common.{◌≡◌, ℕ, List, Option, [], ◌∷◌, ◌++◌, ◌+◌, length, refl, sym, ap, subst, ◌∙◌, append_assoc, append-nil}
+use Rattle.std.proofs.Common.{◌≡◌, ℕ, List, Option, [], ◌∷◌, ◌++◌, ◌+◌, length, refl, sym, ap, subst, ◌∙◌, append_assoc}
 use Rattle.std.proofs.Math.Seq.{take-append-add}
 use Rattle.std.specs.Io.KnownBytes.{Appends}
 use Rattle.std.proofs.KnownBytes.{Appends-nil, Appends-trans}
@@ -15,9 +15,6 @@ answered-append (line ∷ a) b x y p q =
 pub gains_one : (line answer old mid new : List ℕ) → Answer line answer → mid ≡ old ++ answer → new ≡ mid ++ 10 ∷ [] → GainsAnswers (line ∷ []) old new
 gains_one line answer old mid new p e f =
     (answer ++ 10 ∷ [], (answer, [], p, refl, refl), f ∙ ap (λ (l : List ℕ). l ++ 10 ∷ []) e ∙ append_assoc old answer (10 ∷ []))
-
-pub gains_none : (old : List ℕ) → GainsAnswers [] old old
-gains_none old = ([], refl, sym (append-nil old))
 
 pub gains_more : (a b : List (List ℕ)) (old mid new : List ℕ) → GainsAnswers a old mid → GainsAnswers b mid new → GainsAnswers (a ++ b) old new
 gains_more a b old mid new p q =

@@ -1,10 +1,10 @@
 -- Lemmas on the digits of an OID.
-use Rattle.std.proofs.Common.{◌≡◌, ◌≢◌, ◌<◌, ◌≤◌, ◌^◌, ◌&&◌, ◌==◌, ℕ, List, [], ◌∷◌, nat_eq, ◌∙◌, length, Bool, true, false, Option, Some, None, Result, Ok, Err, get_or, nat_lt, IsUtf8, if◌then◌else◌, arith, refl, sym, subst}
+use Rattle.std.proofs.Common.{◌≡◌, ◌≢◌, ◌<◌, ◌≤◌, ◌^◌, ◌&&◌, ℕ, List, [], ◌∷◌, nat_eq, ◌∙◌, length, Bool, true, false, Option, Some, None, Result, Ok, Err, get_or, nat_lt, IsUtf8, if◌then◌else◌, arith, refl, sym, subst}
 use Rattle.std.specs.List.{starts_with}
 use Rattle.std.specs.Result.{OkIff, result_ok}
 use Rattle.std.specs.Str.{IsAscii, all_ascii_digits}
 use Rattle.std.specs.Str.Parse.{AllDigits, IsNumeral, ParsesUnsigned, digits_value}
-use Rattle.std.proofs.lemmas.Bool.{and_parts, eq-eqb, eqb-true, ltb-true, lt-ltb}
+use Rattle.std.proofs.lemmas.Bool.{eq-eqb, ltb-true, lt-ltb}
 use Rattle.std.proofs.lemmas.Str.Parse.{digit_at, numerals_by_value, tells_all_ascii_digits, without_leading_plus_none}
 use Rattle.std.proofs.lemmas.Str.{IsUtf8-from_ascii}
 use Rattle.std.proofs.lemmas.Str.Ascii.{IsAscii-from_reads}
@@ -38,18 +38,6 @@ none : (word : List ℕ) → (all_ascii_digits word ≡ true → 0 < length word
 none word h =
     no_oid word (all_ascii_digits word) (nat_lt 0 (length word)) (nat_lt (length word) 11) (nat_lt (digits_value 10 word) (2 ^ 32))
     (λ e f g i. h e (ltb-true _ _ f) (ltb-true _ _ g) (ltb-true _ _ i))
-
-pub long_none : (word : List ℕ) → 10 < length word → None ≡ oid_of_word word
-long_none word long = none word (λ e f g i. omega arith)
-
-plus_first : (word : List ℕ) → starts_with nat_eq word (43 ∷ []) ≡ true → (1 ≤ length word) × (get_or word 0 0 ≡ 43)
-plus_first [] h = let bad : ⊥ = cc in absurd bad
-plus_first (byte ∷ bytes) h = (omega arith, sym (eqb-true 43 byte (and_parts (43 == byte) true h).0))
-
-pub plus_none : (word : List ℕ) → starts_with nat_eq word (43 ∷ []) ≡ true → None ≡ oid_of_word word
-plus_none word h =
-    let plus = plus_first word h in
-    none word (λ e f g i. let digit = digit_at word 0 (digits_all word e) plus.0 in omega arith)
 
 no_plus : (word : List ℕ) → starts_with nat_eq word (43 ∷ []) ≡ false → get_or word 0 0 ≢ 43
 no_plus [] h e = omega arith

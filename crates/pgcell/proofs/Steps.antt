@@ -1,16 +1,12 @@
 -- What each step of a run keeps.
-use Rattle.std.proofs.Common.{◌≡◌, ◌++◌, [], ℕ, List, Option, None, Some, Result, Ok, Err, OnOk, OnErr, length, take, refl, sym, ap, subst, ◌∙◌, append_assoc, append-nil}
+use Rattle.std.proofs.Common.{◌≡◌, ◌++◌, [], ℕ, List, Option, None, Some, Result, Ok, Err, OnOk, OnErr, length, take, sym, ap, subst, ◌∙◌, append_assoc, append-nil}
 use Rattle.std.proofs.Math.Seq.{take-append_seam}
 use Rattle.std.specs.Io.KnownBytes.{Appends, Consumes, Keeps, IsAtEnd}
 use Rattle.std.proofs.KnownBytes.{Appends-kept}
 use Rattle.pgcell.specs.Lines.{lines_of}
 use Rattle.pgcell.specs.Run.{WritesAnswers, WritesPart, AnswersAll, AnswersSome, AnswersPart, Splits, TakesLines, TakesSome, IsUnderWay}
-use Rattle.pgcell.proofs.Answers.{gained, writes_none, writes_more, writes_part}
+use Rattle.pgcell.proofs.Answers.{gained, writes_more, writes_part}
 use Rattle.pgcell.proofs.Lines.{takes_some}
-
-pub under_way-start : (a o : Option (List ℕ)) → IsUnderWay a a o o []
-under_way-start None o = tt
-under_way-start (Some x) o = ([], λ more. refl, writes_none o)
 
 pub under_way-kept : (a b d o n : Option (List ℕ)) (line : List ℕ) → IsUnderWay a b o n line → Keeps b d → IsUnderWay a d o n line
 under_way-kept None b d o n line u k = tt

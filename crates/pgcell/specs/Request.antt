@@ -59,11 +59,12 @@ asked_by command rest =
 abbrev pub request_of : List ℕ → Option Asked
 request_of line = option_and_then (λ parts. asked_by parts.0 parts.1) (split 32 line)
 
--- a request as the code holds it
+-- the cell that a request holds
 abbrev pub seen_bytes : Option (Vec ℕ Global) → Cell
 seen_bytes None = None
 seen_bytes (Some bytes) = Some bytes.items
 
+-- what a request asks for
 abbrev pub seen : Request → Asked
 seen (Norm conversion cell) = norm conversion (seen_bytes cell)
 seen (TypeOf oid) = type_of oid

@@ -14,11 +14,11 @@ use Rattle.std.specs.Ordering.{nat_cmp}
 use Rattle.std.specs.Str.{bytes_eq}
 use Rattle.pg_base.specs.Appending.{wire_of}
 use Rattle.pg_base.specs.Cells.{Cell, frame, joined}
-use Rattle.pg_base.specs.CountLaws.{count_is}
+use Rattle.pg_base.proofs.CountLaws.{count_is}
 use Rattle.pg_base.specs.Counts.{count_bytes}
-use Rattle.pg_base.specs.FrameLaws.{frame_spells, parts_of}
+use Rattle.pg_base.proofs.FrameLaws.{frame_spells, parts_of}
 use Rattle.pg_base.specs.Hstore.{Entry, FormHstore, ReadsHstore, SameMap, SpellsEntries, entries_bytes, first_fault_hstore, hstore_bytes, in_key_order, last_value, or_this, owned_entry, placed, placed_by, value_at, wire_hstore}
-use Rattle.pg_base.specs.HstoreLaws.{hstore_grammar}
+use Rattle.pg_base.proofs.HstoreLaws.{hstore_grammar}
 use Rattle.pg_base.specs.Options.{NoneOr}
 use Rattle.pg_write.proofs.Placing.{InOrder, in_order, in_order_lookup}
 use Rattle.pg_write.proofs.SameEntries.{none_above, sorted_same}

@@ -10,16 +10,16 @@ use Rattle.std.specs.declared.net.ip_addr.IpAddr.{IpAddr}
 use Rattle.pg_base.proofs.BitLemmas.{first_bits_packed, packed_len}
 use Rattle.pg_base.specs.Appending.{Wire, wire_of}
 use Rattle.pg_base.specs.Bits.{FormBits, ReadsBits, first_fault_bits, packed, wire_bits}
-use Rattle.pg_base.specs.BitsLaws.{bits_grammar}
+use Rattle.pg_base.proofs.BitsLaws.{bits_grammar}
 use Rattle.pg_base.specs.Bytes.{FormBytes, ReadsBytes, first_fault_bytes, wire_bytes}
 use Rattle.pg_base.specs.Cells.{Cell, IsBe, be}
 use Rattle.pg_base.specs.Faults.{Outcome, Refusal}
 use Rattle.pg_base.specs.Formats.{IsGrammar}
-use Rattle.pg_base.specs.FormatLaws.{bool_grammar, bytes_grammar, has_fitted, text_grammar}
+use Rattle.pg_base.proofs.FormatLaws.{bool_grammar, bytes_grammar, has_fitted, text_grammar}
 use Rattle.pg_base.specs.Identifiers.{FormIdentifier, ReadsIdentifier, wire_identifier}
-use Rattle.pg_base.specs.IdentifiersLaws.{identifier_grammar}
+use Rattle.pg_base.proofs.IdentifiersLaws.{identifier_grammar}
 use Rattle.pg_base.specs.Network.{FormAddress, FormCidr, FormInet, Network, ReadsAddress, ReadsCidr, ReadsInet, address_bits, first_fault_cidr, first_fault_inet, is_network, network_bytes, with_netmask, wire_address, wire_cidr, wire_inet}
-use Rattle.pg_base.specs.NetworkLaws.{address_grammar, cidr_grammar, inet_grammar}
+use Rattle.pg_base.proofs.NetworkLaws.{address_grammar, cidr_grammar, inet_grammar}
 use Rattle.pg_base.specs.Numbers.{FormBool, FormSigned, FormUnsigned, ReadsBool, ReadsSigned, ReadsUnsigned, first_fault_number, fits_signed, wire_bool, wire_signed, wire_unsigned}
 use Rattle.pg_base.specs.Special.{IsFiniteCell}
 use Rattle.pg_base.specs.Texts.{FormText, ReadsText, first_fault_text, wire_text}

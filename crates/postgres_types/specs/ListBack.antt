@@ -5,7 +5,7 @@ use Rattle.std.proofs.lemmas.Bool.{eqb-true}
 use Rattle.std.proofs.lemmas.Bool.Decides.{nat_tests}
 use Rattle.std.proofs.lemmas.List.{take_all}
 use Rattle.pg_base.specs.Appending.{Wire}
-use Rattle.pg_base.specs.ArrayLaws.{body_single, head_passes}
+use Rattle.pg_base.proofs.ArrayLaws.{body_single, head_passes}
 use Rattle.pg_base.specs.Arrays.{ArrayBody, head_checks}
 use Rattle.pg_base.specs.Cells.{Cell}
 use Rattle.pg_base.specs.Content.{Content, oid_of}

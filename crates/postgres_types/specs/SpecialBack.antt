@@ -9,7 +9,7 @@ use Rattle.pg_base.specs.Content.{Content, BuiltInType, is_row}
 use Rattle.pg_base.specs.Faults.{Outcome}
 use Rattle.pg_base.specs.Moments.{accepted_moment}
 use Rattle.pg_base.specs.Special.{Special, pos_infinity, neg_infinity, value, infinity, minus_infinity, IsFiniteCell, FormSpecial, ReadsSpecial, SameSpecial, wire_special}
-use Rattle.pg_base.specs.SpecialLaws.{infinities_apart, infinity_width, minus_infinity_width}
+use Rattle.pg_base.proofs.SpecialLaws.{infinities_apart, infinity_width, minus_infinity_width}
 use Rattle.pg_base.proofs.Contents.{type-same}
 use Rattle.postgres_types.specs.ReadingBack.{IsLawful, KeepsFinite, WrittenFinite, WrittenAsBytes, OfValue, BackValue, BackSpecial}
 

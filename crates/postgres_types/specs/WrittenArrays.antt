@@ -5,11 +5,11 @@ use Rattle.std.specs.Int.{w32, to_be_bytes}
 use Rattle.pg_base.specs.Appending.{Wire, wire_of}
 use Rattle.pg_base.specs.Arrays.{ArrayBody, array_bytes, array_head, flags_of}
 use Rattle.pg_base.specs.Cells.{Cell, be, frame, frames}
-use Rattle.pg_base.specs.CellLaws.{frames_alone}
-use Rattle.pg_base.specs.CountLaws.{count_is}
+use Rattle.pg_base.proofs.CellLaws.{frames_alone}
+use Rattle.pg_base.proofs.CountLaws.{count_is}
 use Rattle.pg_base.specs.Counts.{IsCount, count_bytes}
 use Rattle.pg_base.specs.Faults.{Outcome, transmit}
-use Rattle.pg_base.specs.FrameLaws.{parts_of}
+use Rattle.pg_base.proofs.FrameLaws.{parts_of}
 use Rattle.pg_write.specs.ListWriting.{element_cells, framed, in_front, with_frame, wire_array}
 use Rattle.postgres_types.specs.RelatedLists.{Related}
 

@@ -15,11 +15,11 @@ impl<'a> FromSql<'a> for Days {
     ghost use Rattle.std.specs.Int.{w32};
     ghost use Rattle.pg_base.specs.declared.types.built_in.BuiltIn.TheVariants.{Date};
     ghost use Rattle.postgres_types.specs.Content.{is_row};
-    ghost use Rattle.postgres_types.specs.FormatLaws.{int4_grammar};
+    ghost use Rattle.pg_base.proofs.FormatLaws.{int4_grammar};
     ghost use Rattle.postgres_types.specs.Formats.{ReadsPlain};
     ghost use Rattle.postgres_types.specs.Numbers.{FormSigned, first_fault_number};
     ghost use Rattle.postgres_types.specs.Reading.{EveryCell, plain_single};
-    ghost use Rattle.postgres_types.specs.Sameness.{content_equivalence};
+    ghost use Rattle.pg_base.proofs.SamenessLaws.{content_equivalence};
 
     ghost same = { λ v w. v.0 ≡ w.0 };
 
@@ -99,7 +99,7 @@ impl ToSql for Days {
 impl<'a> Paired<'a> for Days {
     ghost use Rattle.std.specs.Prelude.{◌≡◌, refl};
     ghost use Rattle.std.specs.Int.{w32};
-    ghost use Rattle.postgres_types.specs.FormatLaws.{int4_grammar};
+    ghost use Rattle.pg_base.proofs.FormatLaws.{int4_grammar};
     ghost use Rattle.postgres_types.specs.LawfulFormats.{signed_written};
     ghost use Rattle.postgres_types.specs.Numbers.{FormSigned, first_fault_number, wire_signed};
     ghost use Rattle.postgres_types.specs.PlainLaws.{plain_lawful};
@@ -133,7 +133,7 @@ impl<'a> FromSql<'a> for NoDay {
     ghost use Rattle.postgres_types.specs.Faults.{decode};
     ghost use Rattle.postgres_types.specs.Formats.{ReadsPlain};
     ghost use Rattle.postgres_types.specs.Reading.{EveryCell, plain_single};
-    ghost use Rattle.postgres_types.specs.Sameness.{equal_equivalence};
+    ghost use Rattle.pg_base.proofs.SamenessLaws.{equal_equivalence};
 
     ghost same = { λ v w. v ≡ w };
 

@@ -17,11 +17,11 @@ impl<'a> FromSql<'a> for Micros {
     ghost use Rattle.std.specs.Int.{w64};
     ghost use Rattle.pg_base.specs.declared.types.built_in.BuiltIn.TheVariants.{Timestamp as TimestampRow};
     ghost use Rattle.postgres_types.specs.Content.{is_row};
-    ghost use Rattle.postgres_types.specs.FormatLaws.{int8_grammar};
+    ghost use Rattle.pg_base.proofs.FormatLaws.{int8_grammar};
     ghost use Rattle.postgres_types.specs.Formats.{ReadsPlain};
     ghost use Rattle.postgres_types.specs.Numbers.{FormSigned, first_fault_number};
     ghost use Rattle.postgres_types.specs.Reading.{EveryCell, plain_single};
-    ghost use Rattle.postgres_types.specs.Sameness.{content_equivalence};
+    ghost use Rattle.pg_base.proofs.SamenessLaws.{content_equivalence};
 
     ghost same = { λ v w. v.0 ≡ w.0 };
 

@@ -13,13 +13,13 @@ struct Degrees(i32);
 
 impl<'a> FromSql<'a> for Degrees {
     ghost use Rattle.std.specs.Prelude.{◌≡◌};
-    ghost use Rattle.postgres_types.specs.FormatLaws.{int4_grammar};
+    ghost use Rattle.pg_base.proofs.FormatLaws.{int4_grammar};
     ghost use Rattle.postgres_types.specs.Formats.{ReadsPlain};
     ghost use Rattle.std.specs.Int.{w32};
     ghost use Rattle.pg_base.specs.declared.types.built_in.BuiltIn.TheVariants.{Int4};
     ghost use Rattle.postgres_types.specs.Content.{is_row};
     ghost use Rattle.postgres_types.specs.Numbers.{FormSigned, first_fault_number};
-    ghost use Rattle.postgres_types.specs.Sameness.{content_equivalence};
+    ghost use Rattle.pg_base.proofs.SamenessLaws.{content_equivalence};
     ghost use Rattle.postgres_types.specs.Reading.{EveryCell, plain_single};
 
     ghost same = { λ v w. v.0 ≡ w.0 };
@@ -99,7 +99,7 @@ impl ToSql for Degrees {
 impl<'a> Paired<'a> for Degrees {
     ghost use Rattle.std.specs.Prelude.{◌≡◌, refl};
     ghost use Rattle.std.specs.Int.{w32};
-    ghost use Rattle.postgres_types.specs.FormatLaws.{int4_grammar};
+    ghost use Rattle.pg_base.proofs.FormatLaws.{int4_grammar};
     ghost use Rattle.postgres_types.specs.LawfulFormats.{signed_written};
     ghost use Rattle.postgres_types.specs.Numbers.{FormSigned, first_fault_number, wire_signed};
     ghost use Rattle.postgres_types.specs.PlainLaws.{plain_lawful};

@@ -1,7 +1,7 @@
 //! Log positions are read back as themselves.
 ghost use Rattle.std.specs.Prelude.{◌≡◌, refl};
 ghost use Rattle.std.specs.Int.{w64};
-ghost use Rattle.pg_base.specs.LsnLaws.{lsn_grammar};
+ghost use Rattle.pg_base.proofs.LsnLaws.{lsn_grammar};
 ghost use Rattle.postgres_types.specs.LawfulFormats.{unsigned_lawful};
 ghost use Rattle.postgres_types.specs.ReadingBack.{BackKept};
 

@@ -6,7 +6,7 @@ ghost use Rattle.pg_base.specs.declared.types.built_in.BuiltIn.TheVariants.{Date
 ghost use Rattle.pg_base.specs.Content.{is_row};
 ghost use Rattle.pg_base.specs.Moments.{accepted_moment};
 ghost use Rattle.pg_base.specs.Special.{date_seen, timestamp_seen};
-ghost use Rattle.pg_base.specs.SpecialLaws.{inside_accepted};
+ghost use Rattle.pg_base.proofs.SpecialLaws.{inside_accepted};
 ghost use Rattle.postgres_types.specs.ReadingBack.{BackSpecial};
 ghost use Rattle.postgres_types.specs.SpecialBack.{not_both, row_accepted, special_finite, special_lawful};
 

@@ -1,7 +1,7 @@
 use Rattle.std.proofs.Common.{◌≡◌, ◌++◌, arith, length, pos}
 use Rattle.std.proofs.lemmas.Int.{ints}
 use Rattle.std.proofs.lemmas.Grind.{common_steps}
-use Rattle.pg_base.specs.FrameLaws.{taken}
+use Rattle.pg_base.proofs.FrameLaws.{taken}
 use Rattle.pg_base.proofs.protocol.counts.split_cell.Goals as goal
 
 pub returns-clause-outcome : goal.returns-clause-outcome

@@ -4,7 +4,7 @@ use Rattle.std.proofs.lemmas.Option.{IfSome_then}
 use Rattle.std.proofs.lemmas.Result.{err_from_is_err_and}
 use Rattle.pg_base.specs.Faults.{refusal_of}
 use Rattle.pg_base.specs.Hstore.{Entry, lent_entry}
-use Rattle.pg_base.specs.HstoreLaws.{entry_fault, read_next}
+use Rattle.pg_base.proofs.HstoreLaws.{entry_fault, read_next}
 use Rattle.pg_read.proofs.LastEntries.{put_in}
 use Rattle.pg_read.proofs.hstore.HashMapStringOptionStringFromSql.from_sql.Goals as goal
 

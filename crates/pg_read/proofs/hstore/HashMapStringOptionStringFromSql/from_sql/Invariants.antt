@@ -1,6 +1,6 @@
 use Rattle.std.proofs.Common.{◌≡◌, ℕ, List}
 use Rattle.pg_base.specs.Hstore.{Entry, last_value, value_at}
-use Rattle.pg_base.specs.HstoreLaws.{HaveBeenRead}
+use Rattle.pg_base.proofs.HstoreLaws.{HaveBeenRead}
 use Rattle.pg_read.proofs.hstore.HashMapStringOptionStringFromSql.from_sql.Given as goal
 
 -- the entries so far, and that the map has them

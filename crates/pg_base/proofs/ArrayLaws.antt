@@ -6,11 +6,11 @@ use Rattle.std.proofs.lemmas.Bool.Decides.{nat_tests}
 use Rattle.std.proofs.lemmas.List.{length-append}
 use Rattle.std.specs.Int.{w32}
 use Rattle.pg_base.specs.Arrays.{SpellsDimensions, SpellsHead, ArrayBody, dimension_checks, head_checks}
-use Rattle.pg_base.specs.CellLaws.{cells_single}
+use Rattle.pg_base.proofs.CellLaws.{cells_single}
 use Rattle.pg_base.specs.Cells.{Cell, CellsInRow}
-use Rattle.pg_base.specs.CountLaws.{number_then}
+use Rattle.pg_base.proofs.CountLaws.{number_then}
 use Rattle.pg_base.specs.Counts.{IsCount, ToRead, number_in, stated}
-use Rattle.pg_base.specs.FormatLaws.{be-length}
+use Rattle.pg_base.proofs.FormatLaws.{be-length}
 use Rattle.pg_base.specs.Faults.{Refusal}
 use Rattle.pg_base.specs.Formats.{first_fault_of}
 

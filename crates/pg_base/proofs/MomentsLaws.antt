@@ -2,7 +2,7 @@
 use Rattle.std.specs.Prelude.{◌≡◌, ℤ, pos, ◌+ℤ◌, ◌*ℤ◌}
 use Rattle.std.proofs.Common.{sym, ◌∙◌, ap}
 use Rattle.pg_base.specs.Formats.{IsGrammar}
-use Rattle.pg_base.specs.FormatLaws.{int8_grammar}
+use Rattle.pg_base.proofs.FormatLaws.{int8_grammar}
 use Rattle.pg_base.specs.Moments.{base_nanos, FormTimestamp}
 use Rattle.pg_base.specs.Numbers.{first_fault_number}
 

@@ -3,7 +3,7 @@ use Rattle.std.specs.Prelude.{◌≡◌, ℕ, pos, List, ◌++◌, length, None,
 use Rattle.std.proofs.Common.{sym, ◌∙◌, ap}
 use Rattle.std.proofs.lemmas.Bool.{eq-eqb}
 use Rattle.pg_base.specs.Bits.{FormBits, bytes_for, first_bits, first_fault_bits}
-use Rattle.pg_base.specs.CountLaws.{number_then}
+use Rattle.pg_base.proofs.CountLaws.{number_then}
 use Rattle.pg_base.specs.Counts.{IsCount}
 use Rattle.pg_base.specs.Formats.{IsGrammar}
 

@@ -1,17 +1,16 @@
 -- Hstore is a grammar: its bytes spell one map, and pass every check.
 use Rattle.std.specs.Prelude.{◌≡◌, ℕ, zero, suc, ℤ, pos, negsuc, List, [], ◌∷◌, ◌++◌, ◌+◌, length, take, drop, Option, Some, None, Bool, true, false, nat_le, IsUtf8, refl}
-use Rattle.std.proofs.Common.{sym, ◌∙◌, ap, ap₂, subst, arith, append_assoc}
+use Rattle.std.proofs.Common.{sym, ◌∙◌, ap, ap₂, arith, append_assoc}
 use Rattle.std.proofs.Math.Dec.{leb-zero}
 use Rattle.std.proofs.lemmas.List.{length-append}
 use Rattle.std.proofs.lemmas.Str.{is_utf8-from_IsUtf8, IsUtf8-nil}
-use Rattle.std.specs.Int.{w32}
 use Rattle.std.specs.Str.{is_utf8}
-use Rattle.pg_base.specs.Cells.{Cell, IsBe}
+use Rattle.pg_base.specs.Cells.{Cell}
 use Rattle.pg_base.specs.Faults.{Refusal, size, utf8, key_length}
-use Rattle.pg_base.specs.CellLaws.{IsCellThen, bytes_or_none, cell_by, cell_in, cell_then}
-use Rattle.pg_base.specs.CountLaws.{number_then}
-use Rattle.pg_base.specs.Counts.{checks_of_next, next_checks, ToRead, behind_cell, bytes_in, count_checks, has_number, not_negative, nothing, number_in, stated}
-use Rattle.pg_base.specs.FormatLaws.{check_failed, checks_met}
+use Rattle.pg_base.proofs.CellLaws.{IsCellThen, bytes_or_none, cell_by, cell_in, cell_then}
+use Rattle.pg_base.proofs.CountLaws.{number_then}
+use Rattle.pg_base.specs.Counts.{checks_of_next, next_checks, ToRead, behind_cell, bytes_in, has_number, not_negative, number_in, stated}
+use Rattle.pg_base.proofs.FormatLaws.{check_failed, checks_met}
 use Rattle.pg_base.specs.Formats.{IsGrammar, first_fault_of}
 use Rattle.pg_base.specs.Hstore.{Entry, SpellsText, SpellsEntry, SpellsEntries, SpellsCount, FormHstore, key_checks, value_checks, entry_checks, entries_checks, first_fault_hstore, last_value}
 use Rattle.pg_base.specs.Options.{NoneOr}
@@ -132,10 +131,6 @@ hstore_grammar value_at = record {
   single = λ b m n h k. λ q. h.4 q ∙ ap (last_value q) (entries_single b h.1 k.1 h.0 k.0 h.2 h.3 k.2 k.3) ∙ sym (k.4 q);
 }
 
--- a damaged count is the first fault
-pub count_fault : (b : List ℕ) (r : Refusal) → first_fault_of (count_checks b) ≡ Some r → first_fault_hstore b ≡ Some r
-count_fault b r e = check_failed (count_checks b) (entries_checks (stated (number_in b)) (drop 4 b)) r e
-
 next_fault : (n : ℕ) (s : List ℕ) (r : Refusal) → first_fault_of (checks_of_next entry_checks n s) ≡ Some r → first_fault_of (entries_checks n s) ≡ Some r
 next_fault zero s r e = e
 next_fault (suc n) s r e = check_failed (entry_checks s) (entries_checks n (behind_cell (behind_cell s))) r e
@@ -162,18 +157,6 @@ read_next start now next es e t h n is p = record {
   so_many = omega (arith, h.so_many, length-append es (e ∷ []));
   spelled = one_more start.bytes t next.bytes es e now.bytes h.spelled is p;
 }
-
--- where nothing is to be read, the bytes spell the map of what was read
-pub read_all : {A : Type 0} (value_at : A → List ℕ → Option Cell) (b : List ℕ) (start now : ToRead) (es : List Entry) (m : A) → SpellsCount b start → HaveBeenRead start es now → now ≡ nothing
-    → ((q : List ℕ) → value_at m q ≡ last_value q es) → FormHstore value_at b m
-read_all value_at b start now es m c h end is =
-    let all : length es ≡ start.left = omega (arith, h.so_many, ap (λ (r : ToRead). r.left) end) in (
-      es,
-      start.bytes,
-      (c.0, c.1, subst (λ n. IsBe w32 c.0 (pos n)) (sym all) c.2),
-      subst (λ s. SpellsEntries start.bytes es s) (ap (λ (r : ToRead). r.bytes) end) h.spelled,
-      is,
-    )
 
 -- to have the same at each key is an equivalence
 pub value_equivalence : {A : Type 0} (value_at : A → List ℕ → Option Cell) → IsEquivalence (λ m n. (q : List ℕ) → value_at m q ≡ value_at n q)

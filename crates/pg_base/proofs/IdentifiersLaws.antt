@@ -1,7 +1,7 @@
 -- Laws of identifiers: their formats are grammars.
 use Rattle.std.specs.Prelude.{◌≡◌, ℕ}
 use Rattle.std.proofs.Common.{sym, ◌∙◌}
-use Rattle.pg_base.specs.FormatLaws.{passes_number}
+use Rattle.pg_base.proofs.FormatLaws.{passes_number}
 use Rattle.pg_base.specs.Formats.{IsGrammar}
 use Rattle.pg_base.specs.Identifiers.{FormIdentifier}
 use Rattle.pg_base.specs.Numbers.{first_fault_number}

@@ -1,5 +1,5 @@
 -- Laws of dates and times.
-use Rattle.std.specs.Prelude.{◌≡◌, ℕ, ◌<◌, ◌+◌, ◌*◌, ◌/◌, ◌^◌, ℤ, pos, negsuc, neg_ℤ, ◌+ℤ◌, ◌-ℤ◌, ◌*ℤ◌, int_div, ◌↔◌, ◌≤ℤ◌, int_le, List, Some, None, true, false, Result, Ok, Err, IsOkAnd, FitsSigned, refl}
+use Rattle.std.specs.Prelude.{◌≡◌, ℕ, ◌<◌, ◌+◌, ◌*◌, ◌/◌, ◌^◌, ℤ, pos, negsuc, neg_ℤ, ◌-ℤ◌, int_div, ◌≤ℤ◌, int_le, List, Some, None, true, false, Result, Ok, Err, IsOkAnd, FitsSigned, refl}
 use Rattle.std.proofs.Common.{sym, ◌∙◌, ap, arith}
 use Rattle.std.proofs.lemmas.Bool.{and_from, and_parts, false_from_ne_true, true_from_ne_false, eq-eqb}
 use Rattle.std.proofs.lemmas.Option.{IfSome_then}
@@ -10,20 +10,16 @@ use Rattle.jiff.proofs.SpanFacts.{signed_arith}
 use borrow.Author.Differences.{le-true, le-false}
 use mir.Val.{bits}
 use Rattle.jiff.specs.Types.{Date, Time, DateTime, Timestamp}
-use Rattle.jiff.specs.Words.{epoch_day, time_nanos, civil_nanos, IsBetween, IsTimestampNanos}
+use Rattle.jiff.specs.Words.{epoch_day, time_nanos, civil_nanos, IsBetween}
 use Rattle.pg_base.specs.Cells.{be, IsBe, signed_in}
 use Rattle.pg_base.specs.Civil.{is_between, first_fault_count, FormCount, CountGives, base_day, first_day, last_day, IsDayOf, last_micros, IsAfterMidnight, first_civil, last_civil, first_instant, last_instant, instant_nanos, wire_date, wire_time, wire_datetime, wire_instant, ReadsDate, ReadsTime, ReadsDateTime, ReadsInstant}
 use Rattle.pg_base.specs.Faults.{Outcome, Answers, refusal_of, decode}
-use Rattle.pg_base.specs.FormatLaws.{be-back, be-length, be-single, fits}
+use Rattle.pg_base.proofs.FormatLaws.{be-back, be-length, be-single, fits}
 use Rattle.pg_base.specs.Formats.{IsGrammar, Decodes}
 use Rattle.pg_base.specs.Moments.{base_nanos, cut_micros, IsAfterBase}
 use Rattle.pg_base.specs.Numbers.{FormSigned, wire_signed}
 use Rattle.pg_base.specs.Appending.{Wire}
 use Rattle.pg_base.specs.declared.fault.Fault.{Fault}
-
--- the counts of the first and the last instant are those of the range that `jiff` has
-pub instant_bounds : (u : ℤ) → IsBetween first_instant last_instant u ↔ IsTimestampNanos (base_nanos +ℤ u *ℤ pos 1000)
-instant_bounds u = (λ h. omega (arith, signed_arith, h), λ h. omega (arith, signed_arith, h))
 
 test_le : (a b : ℤ) → a ≤ℤ b → int_le a b ≡ true
 test_le a b h = true_from_ne_false _ (λ f. let over = le-false a b f in omega (arith, signed_arith, h))

@@ -5,12 +5,12 @@ use Rattle.std.proofs.Math.Dec.{leb-zero}
 use Rattle.std.proofs.Math.Seq.{take-append_seam, drop-append_seam}
 use Rattle.std.proofs.lemmas.Bool.Decides.{nat_tests}
 use Rattle.std.proofs.lemmas.List.{length-append}
-use Rattle.pg_base.specs.Cells.{Cell, Spells, SpellsNone, SpellsAll, CellsInRow, frame, frames}
-use Rattle.pg_base.specs.CountLaws.{IsNumberThen, number_then}
+use Rattle.pg_base.specs.Cells.{Cell, Spells, SpellsNone, SpellsAll, CellsInRow, frame, frames, FramesSingle, FramesInFrontSingle}
+use Rattle.pg_base.proofs.CountLaws.{IsNumberThen, number_then}
 use Rattle.pg_base.specs.Counts.{has_number, number_in, has_cell, bytes_in, behind_cell, cell_checks}
 use Rattle.pg_base.specs.Faults.{Refusal, size}
 use Rattle.pg_base.specs.Formats.{first_fault_of}
-use Rattle.pg_base.specs.FrameLaws.{bytes-frame, frame_spells, parts_of}
+use Rattle.pg_base.proofs.FrameLaws.{bytes-frame, frame_spells, parts_of}
 
 -- the bytes of a cell; NULL has none
 abbrev pub bytes_or_none : Cell → List ℕ
@@ -111,19 +111,12 @@ pub frames_in_row : (cs : List Cell) (b s : List ℕ) → frames cs ≡ Some b �
 frames_in_row cs b s e = (frames_spell cs b s e, omega arith, inl refl)
 
 -- the frames of cells are those of no others
-abbrev pub FramesSingle : Type 0
-FramesSingle = (cs ds : List Cell) (b : List ℕ) → frames cs ≡ Some b → frames ds ≡ Some b → cs ≡ ds
-
 pub frames_single : FramesSingle
 frames_single cs ds b e f =
     let none : SpellsNone [] = no_cell [] size refl in
     (cells_single b (length cs + length ds) cs ds [] [] (frames_alone cs b e, omega arith, inr none) (frames_alone ds b f, omega arith, inr none)).0
 
 -- nor, whatever comes behind them, of other cells that are as many
-abbrev pub FramesInFrontSingle : Type 0
-FramesInFrontSingle =
-    (cs ds : List Cell) (a b s t : List ℕ) → length cs ≡ length ds → frames cs ≡ Some a → frames ds ≡ Some b → a ++ s ≡ b ++ t → (cs ≡ ds) × (s ≡ t)
-
 pub frames_in_front_single : FramesInFrontSingle
 frames_in_front_single cs ds a b s t many e f is =
     let other : CellsInRow (a ++ s) (length cs) ds t = (subst (λ x. SpellsAll x ds t) (sym is) (frames_spell ds b t f), omega (arith, many), inl (sym many)) in

@@ -7,8 +7,8 @@ use Rattle.std.proofs.lemmas.Nat.{from_be_bytes-to_be_bytes_4}
 use Rattle.std.specs.Int.{w32}
 use Rattle.pg_base.specs.Cells.{be, IsBe, signed_in}
 use Rattle.pg_base.specs.Counts.{IsCount, count_bytes, has_number, number_in}
-use Rattle.pg_base.specs.FormatLaws.{be-back}
-use Rattle.pg_base.specs.FrameLaws.{fits_length, some_of}
+use Rattle.pg_base.proofs.FormatLaws.{be-back}
+use Rattle.pg_base.proofs.FrameLaws.{fits_length, some_of}
 
 -- what is known of bytes with this number in front of u
 pub record IsNumberThen (s : List ℕ) (n : ℤ) (u : List ℕ) : Type 0 where
