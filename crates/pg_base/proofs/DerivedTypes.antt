@@ -1,17 +1,21 @@
--- What the derived == of types, kinds and fields compares.
+-- What the derived == of types, kinds, views of kinds and fields compares.
 use Rattle.std.proofs.Common.{◌≡◌, ◌∙◌, refl, ap, sym, ◌==◌, ◌&&◌, true, string_bytes, ℕ, List, [], ◌∷◌, map, String, Global}
 use Rattle.std.specs.Cmp.Lexicographic.{pointwise}
 use Rattle.std.specs.String.{string_eq}
+use Rattle.std.specs.Cow.{cow_value}
 use mathlib.Core.Former.{Count}
 use denote.Hole.Carrier as Carrier
 use Rattle.pg_base.specs.declared.types.PgType.{PgType}
 use Rattle.pg_base.specs.declared.types.Inner.{Inner, BuiltIn, Made'}
 use Rattle.pg_base.specs.declared.types.kind.Field.{Field}
+use Rattle.pg_base.specs.declared.types.kind.KindRef.{KindRef}
+use Rattle.pg_base.specs.declared.types.kind.KindRef.TheVariants as view
 use Rattle.pg_base.specs.declared.types.kind.Kind.{Kind, out-Kind, Simple, Enum, Pseudo, Array', Range', Multirange', Domain', Composite', Row_of-Field, end_of-Field, more_of-Field, items-the_row-Field, items_shown-the_row-Field-0}
 use Rattle.pg_base.specs.contracts.types.PgTypePartialEq.TheImpl.{ghosts as types}
 use Rattle.pg_base.specs.contracts.types.InnerPartialEq.TheImpl.{ghosts as inners}
 use Rattle.pg_base.specs.contracts.types.kind.KindPartialEq.TheImpl.{ghosts as kinds}
 use Rattle.pg_base.specs.contracts.types.kind.FieldPartialEq.TheImpl.{ghosts as fields}
+use Rattle.pg_base.specs.contracts.types.kind.KindRefPartialEq.TheImpl.{ghosts as views}
 use Rattle.pg_base.specs.contracts.types.PgTypePartialEq.TheImpl.Laws as type_laws
 use Rattle.pg_base.specs.contracts.types.InnerPartialEq.TheImpl.Laws as inner_laws
 use Rattle.pg_base.specs.contracts.types.MadePartialEq.TheImpl.Laws as made_laws
@@ -23,7 +27,8 @@ use Rattle.pg_base.specs.contracts.types.kind.FieldHash.TheImpl.{ghosts as field
 use Rattle.pg_base.specs.contracts.types.PgTypeHash.TheImpl.Laws as type_hash_laws
 use Rattle.pg_base.specs.contracts.types.kind.KindHash.TheImpl.Laws as kind_hash_laws
 use Rattle.pg_base.specs.contracts.types.kind.FieldHash.TheImpl.Laws as field_hash_laws
-use Rattle.pg_base.specs.Content.{Content, SameField, content, field_name, field_type, inner_content, kind_content, row_content, same_fields, same_kind_content, same_type}
+use Rattle.pg_base.specs.Content.{Content, SameField, content, field_name, field_type, fields_content, inner_content, kind_content, row_content, same_fields, same_kind_content, same_type}
+use Rattle.pg_base.specs.Seen.{seen}
 use Rattle.pg_base.proofs.Contents.{both, bytes-same, bytes-self, kind-same, kind-self, type-same, type-self}
 
 -- lists of strings are compared by their texts
@@ -107,6 +112,35 @@ named-alike m n s t e f = rw (e, f, bytes-self m, type-self s) refl
 -- fields of one name and one type are equal
 pub eq_from_same_field : (a b : Field) → SameField a b → fields.eq a b ≡ true
 eq_from_same_field a b h = eq_field_content a b ∙ named-alike _ _ _ _ h.0 h.1
+
+-- what == of two lists of fields answers
+eq_lists : (fs gs : List Field) → pointwise fields.eq fs gs ≡ same_fields (fields_content fs) (fields_content gs)
+eq_lists [] [] = refl
+eq_lists [] (g ∷ gs) = refl
+eq_lists (f ∷ fs) [] = refl
+eq_lists (f ∷ fs) (g ∷ gs) =
+    let e = eq_field_content f g in
+    let h = eq_lists fs gs in cc
+
+-- what == of two views of kinds answers
+eq_seen : (a b : KindRef) → views.eq a b ≡ same_kind_content (seen a) (seen b)
+eq_seen view.Simple view.Simple = refl
+eq_seen (view.Enum z) (view.Enum y) = strings z.now y.now
+eq_seen view.Pseudo view.Pseudo = refl
+eq_seen (view.Array z) (view.Array y) = eq_content (cow_value z) (cow_value y)
+eq_seen (view.Range z) (view.Range y) = eq_content (cow_value z) (cow_value y)
+eq_seen (view.Multirange z) (view.Multirange y) = eq_content (cow_value z) (cow_value y)
+eq_seen (view.Domain z) (view.Domain y) = eq_content (cow_value z) (cow_value y)
+eq_seen (view.Composite z) (view.Composite y) = eq_lists z.now y.now
+eq_seen a b = refl
+
+-- equal views stand for the same
+pub same_seen_from_eq : (a b : KindRef) → views.eq a b ≡ true → seen a ≡ seen b
+same_seen_from_eq a b h = kind-same _ _ (sym (eq_seen a b) ∙ h)
+
+-- views that stand for the same are equal
+pub eq_from_same_seen : (a b : KindRef) → seen a ≡ seen b → views.eq a b ≡ true
+eq_from_same_seen a b h = eq_seen a b ∙ ap (λ k. same_kind_content (seen a) k) (sym h) ∙ kind-self (seen a)
 
 -- types that stand for the same are hashed alike
 pub hash_from_same : (a b : PgType) → content a ≡ content b → type_hashes.hash_input a ≡ type_hashes.hash_input b

@@ -37,8 +37,7 @@ no_refusal (Some x) b old new fault e h a = let same : x ≡ b = cc in omega (ar
 
 -- and takes no more room than they do
 pub appended : {u : ⊤} (w : Bytes) (b : List ℕ) (old new : Filled) → w ≡ Some b → Appends w old new (Ok u) → (new.items ≡ old.items ++ b) × (old.spare ≤ new.spare + length b)
-appended None b old new e a = absurd a
-appended (Some x) b old new e a = let same : x ≡ b = cc in subst (λ (s : List ℕ). (new.items ≡ old.items ++ s) × (old.spare ≤ new.spare + length s)) same a
+appended w b old new e a = subst (λ (w : Bytes). Extends w old new) e a
 
 pub none_of : (o : Bytes) → ((t : List ℕ) → o ≡ Some t → ⊥) → o ≡ None
 none_of None h = refl

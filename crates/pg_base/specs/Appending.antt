@@ -15,24 +15,23 @@ abbrev pub wire_of : Option (List ℕ) → Wire
 wire_of None = Err transmit
 wire_of (Some b) = Ok (Some b)
 
+-- these bytes were appended, and used no more room than they take
+abbrev pub Extends : Option (List ℕ) → Filled → Filled → Type 0
+Extends None old new = ⊥
+Extends (Some b) old new = (new.items ≡ old.items ++ b) × (old.spare ≤ new.spare + length b)
+
 -- an appender appended these bytes, and used no more room than they take; or it left the bytes as they were with
 -- Memory, and there was less room than they take. Where a limit is passed there is nothing to append: it answered
 -- Transmit and left the buffer as it was
 abbrev pub Appends : Option (List ℕ) → Filled → Filled → Result ⊤ Fault → Type 0
-Appends (Some b) old new (Ok done) = (new.items ≡ old.items ++ b) × (old.spare ≤ new.spare + length b)
+Appends bytes old new (Ok done) = Extends bytes old new
 Appends (Some b) old new (Err f) = (new.items ≡ old.items) × (f ≡ Memory) × (old.spare < length b) × (old.spare ≤ new.spare)
-Appends None old new (Ok done) = ⊥
 Appends None old new (Err f) = (new ≡ old) × (f ≡ Transmit)
 
 -- there are bytes to append, and room for them
 abbrev pub HasRoomFor : Option (List ℕ) → ℕ → Type 0
 HasRoomFor None room = ⊥
 HasRoomFor (Some b) room = length b ≤ room
-
--- these bytes were appended, and used no more room than they take
-abbrev pub Extends : Option (List ℕ) → Filled → Filled → Type 0
-Extends None old new = ⊥
-Extends (Some b) old new = (new.items ≡ old.items ++ b) × (old.spare ≤ new.spare + length b)
 
 -- so many bytes are there; Transmit where a limit is passed
 abbrev pub Measures : Option (List ℕ) → Result ℕ Fault → Type 0

@@ -9,7 +9,6 @@ use Rattle.pg_base.specs.declared.types.built_in.BuiltIn.TheVariants.{Bit, Varbi
 use Rattle.pg_base.specs.Content.{Content, is_row}
 use Rattle.pg_base.specs.Faults.{Refusal, Outcome, refusal_of, size, transmit}
 use Rattle.pg_base.specs.declared.fault.Fault.{Fault}
-use Rattle.pg_base.specs.declared.fault.Fault.TheVariants.{Memory}
 use Rattle.pg_base.specs.Formats.{first_fault_of, ReadsPlain}
 
 -- BIT and VARBIT
@@ -62,11 +61,6 @@ most_bits = 2 ^ 64 - 1
 abbrev pub TakesBytes : List ℕ → Result (List Bool) Fault → Type 0
 TakesBytes b (Ok v) = (8 * length b ≤ most_bits) × (v ≡ first_bits (8 * length b) b)
 TakesBytes b (Err f) = refusal_of f ≡ (if nat_le (8 * length b) most_bits then None else Some transmit)
-
--- the bits were made; otherwise only memory was missing
-abbrev pub Makes : List Bool → Result (List Bool) Fault → Type 0
-Makes bits (Ok v) = v ≡ bits
-Makes bits (Err f) = f ≡ Memory
 
 -- the bit was put at the end; or nothing was changed, with Transmit where there are the most bits already, and otherwise
 -- only for memory

@@ -5,7 +5,7 @@ ghost use Rattle.std.specs.Cmp.Lexicographic.{pointwise};
 ghost use Rattle.pg_base.specs.declared.fault.Fault.TheVariants.{Memory};
 ghost use Rattle.std.specs.Cmp.{bool_eq_equiv, partial_equiv_from_equiv};
 ghost use Rattle.std.proofs.lemmas.Cmp.{lists_equiv};
-ghost use Rattle.pg_base.specs.Bits.{Makes, Pops, Pushes, TakesBytes, bit_of, bytes_for, first_bits, packed};
+ghost use Rattle.pg_base.specs.Bits.{Pops, Pushes, TakesBytes, bit_of, bytes_for, first_bits, packed};
 
 pub mod laws;
 
@@ -59,7 +59,8 @@ impl BitVec {
 
     /// The bits of a cell.
     pub fn from_varbit(alloc: Global, bits: Varbit<'_>) -> Result<BitVec, Fault>
-        ensures { Makes (first_bits bits.entry.len bits.entry.bytes.now) result }
+        ensures ok { IfOk result (λ v. v ≡ first_bits bits.entry.len bits.entry.bytes.now) }
+        ensures refused { IfErr result (λ e. e ≡ Memory) }
     {
         let len = bits.len();
         let padded = bits.bytes();

@@ -1,7 +1,7 @@
 //! Reading texts.
-ghost use Rattle.std.specs.Prelude.{◌≡◌, Some, string_bytes};
+ghost use Rattle.std.specs.Prelude.{◌≡◌, IfOk, Some, string_bytes};
 ghost use Rattle.std.specs.Box.{boxed_str_bytes};
-ghost use Rattle.std.specs.Cow.{cow_str_bytes};
+ghost use Rattle.std.specs.Cow.{IsBorrowedStr, cow_str_bytes};
 ghost use Rattle.pg_base.specs.Content.{content};
 ghost use Rattle.pg_base.specs.Faults.{Answers, NeverMemory};
 ghost use Rattle.pg_base.proofs.FormatLaws.{text_grammar};
@@ -79,7 +79,11 @@ impl<'a> FromSql<'a> for CowStr<'a> {
 
     ghost single = { λ ty _. plain_single (λ s t. cow_str_bytes s ≡ cow_str_bytes t) (FormText cow_str_bytes (has_version ty)) (first_fault_text (has_version ty)) (text_grammar cow_str_bytes (has_version ty)) };
 
-    fn from_sql(_alloc: Global, ty: &PgType, raw: &'a [u8]) -> Result<CowStr<'a>, Fault> {
+    fn from_sql(_alloc: Global, ty: &PgType, raw: &'a [u8]) -> Result<CowStr<'a>, Fault>
+        ensures outcome { Answers (ReadsText cow_str_bytes (has_version (content ty.now)) (Some raw.now)) result }
+        ensures never_memory { NeverMemory result }
+        ensures borrowed { IfOk result IsBorrowedStr }
+    {
         Ok(CowStr::Borrowed(text_of(ty, raw)?))
     }
 

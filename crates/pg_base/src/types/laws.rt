@@ -2,8 +2,9 @@
 ghost use Rattle.std.specs.Prelude.{◌≡◌, ◌↔◌, IsTrue};
 ghost use Rattle.pg_base.specs.Content.{SameField, content, kind_content};
 ghost use Rattle.pg_base.specs.Digest.{digest};
+ghost use Rattle.pg_base.specs.Seen.{seen};
 
-use super::{Field, Kind, PgType};
+use super::{Field, Kind, KindRef, PgType};
 use std::hash::{DefaultHasher, Hash, Hasher};
 
 /// Whether two types are equal: the same built-in type, or made of equal parts.
@@ -20,6 +21,14 @@ pub fn same_kind(k: &Kind, l: &Kind) -> bool
     ensures { IsTrue result ↔ (kind_content k.now ≡ kind_content l.now) }
 {
     *k == *l
+}
+
+/// Whether two views of kinds are equal: the same variant of equal parts, borrowed or owned.
+#[tactic(auto, using(crate::proofs::DerivedTypes::same_seen_from_eq, crate::proofs::DerivedTypes::eq_from_same_seen))]
+pub fn same_kind_ref(v: &KindRef<'_>, w: &KindRef<'_>) -> bool
+    ensures { IsTrue result ↔ (seen v.now ≡ seen w.now) }
+{
+    *v == *w
 }
 
 /// Whether two fields are equal: of one name and of equal types.

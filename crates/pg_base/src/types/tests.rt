@@ -1,5 +1,6 @@
 use super::laws::{
-    fields_hash_alike, hash_alike, kinds_hash_alike, same_field, same_kind, same_type,
+    fields_hash_alike, hash_alike, kinds_hash_alike, same_field, same_kind, same_kind_ref,
+    same_type,
 };
 use super::{Field, Kind, KindRef, PgType};
 use crate::fault::Fault;
@@ -180,7 +181,7 @@ fn assert_cloned(rt: &impl Abort, alloc: Global, kind: Kind) -> Result<(), Fail>
     let shared = whole.try_clone()?;
     assert!(rt; same_type(&whole, &shared));
     assert!(rt; whole.clone()? == shared);
-    assert!(rt; whole.kind() == shared.kind());
+    assert!(rt; same_kind_ref(&whole.kind(), &shared.kind()));
     Ok(())
 }
 

@@ -21,8 +21,8 @@ invariant_of-result c =
           rw w.bytes-is (none_tidy n p count none)
     ]
 
-pub returns : goal.returns
-returns c =
+pub returns-clause-ok : goal.returns-clause-ok
+returns-clause-ok c =
     let n = c.len-len.result in
     let p = c.in_ok-bytes.bytes.items in
     let copied = c.in_ok-bytes.ensures.items in
