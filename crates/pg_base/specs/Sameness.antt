@@ -52,8 +52,8 @@ module _ {A : Type 0} (same : A → A → Type 0) (law : IsEquivalence same) whe
   pub option_equivalence : IsEquivalence (SameOption same)
   option_equivalence = record { reflexive = option_reflexive; symmetric = option_symmetric; transitive = option_transitive }
 
--- lists are the same where their values are, one after another
-abbrev pub SameList : {A : Type 0} → (A → A → Type 0) → List A → List A → Type 0
+-- lists are the same where their values are, one after another; `same` may relate values of two types
+abbrev pub SameList : {A B : Type 0} → (A → B → Type 0) → List A → List B → Type 0
 SameList same [] [] = Unit {0}
 SameList same [] (w ∷ ws) = ⊥
 SameList same (v ∷ vs) [] = ⊥
