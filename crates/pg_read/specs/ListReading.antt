@@ -57,8 +57,8 @@ ReadsArray items elements (Some b) (Err r) =
 abbrev pub ReadsList : {A X : Type 0} → (X → List A) → (Cell → Outcome A → Type 0) → Cell → Outcome X → Type 0
 ReadsList items reads = ReadsArray items (ReadsElements reads)
 
--- what the cell of an array gives by the type of its elements
-abbrev pub ReadsMembers : {X : Type 0} → (Content → Cell → Outcome X → Type 0) → Option Content → Cell → Outcome X → Type 0
+-- what a cell, or another thing that gives lists, gives by the type of the elements
+abbrev pub ReadsMembers : {C X : Type 0} → (Content → C → Outcome X → Type 0) → Option Content → C → Outcome X → Type 0
 ReadsMembers lists None c outcome = ⊥
 ReadsMembers lists (Some member) c outcome = lists member c outcome
 

@@ -17,7 +17,7 @@ use Rattle.pg_read.specs.ListReading.{ReadsAll, ReadsArray, ReadsChecked, ReadsE
 use Rattle.pg_read.specs.Reading.{no_fault}
 use Rattle.pg_write.specs.ListWriting.{element_cells, framed, in_front, lower_bound_of, wire_array, wire_fixed, wire_list, wire_members}
 use Rattle.postgres_types.specs.BackLaws.{kept}
-use Rattle.postgres_types.specs.ReadingBack.{IsLawful, WrittenAsBytes, BackList, BackMembers}
+use Rattle.postgres_types.specs.ReadingBack.{IsLawful, WrittenAsBytes, BackList}
 use Rattle.postgres_types.specs.RelatedLists.{flipped, related_give, related_length}
 use Rattle.postgres_types.specs.WrittenArrays.{AllWritten, array_body, array_cell, elements_written, tested}
 
@@ -251,7 +251,7 @@ module _ {A X : Type 0} (items : X → List A) (same : A → A → Type 0) (acce
   Same x y = SameList same (items x) (items y)
 
   abbrev Back : Option Content → X → Outcome X → Type 0
-  Back = BackMembers (λ member. BackList items (back member))
+  Back = ReadsMembers (λ member. BackList items (back member))
 
   module _ (wanted : ℕ → Bool) (elements : (Cell → Outcome A → Type 0) → ℕ → List Cell → List ℕ → Outcome (List A) → Type 0)
       (its_cells : (r : Cell → Outcome A → Type 0) → ReadsItsCells r wanted (elements r)) where

@@ -6,7 +6,6 @@ use Rattle.pg_base.specs.declared.format.IsNull.{IsNull}
 use Rattle.pg_base.specs.declared.format.IsNull.TheVariants.{Yes, No}
 use Rattle.pg_base.specs.Appending.{Wire}
 use Rattle.pg_base.specs.Cells.{Cell}
-use Rattle.pg_base.specs.Content.{Content}
 use Rattle.pg_base.specs.Faults.{Outcome, was_null}
 use Rattle.pg_base.specs.Special.{IsFiniteCell, ReadsSpecial, Special, pos_infinity, neg_infinity, value}
 use Rattle.pg_read.specs.ListReading.{ReadsAll}
@@ -117,11 +116,6 @@ BackSpecial w seen wire back (value v) outcome = BackValue w seen (wire v) (back
 abbrev pub BackList : {A X : Type 0} → (X → List A) → (A → Outcome A → Type 0) → X → Outcome X → Type 0
 BackList items back x (Ok y) = ReadsAll back (items x) (Ok (items y))
 BackList items back x (Err r) = ReadsAll back (items x) (Err r)
-
--- what a list is read back as by the type of its elements
-abbrev pub BackMembers : {X : Type 0} → (Content → X → Outcome X → Type 0) → Option Content → X → Outcome X → Type 0
-BackMembers lists None x outcome = ⊥
-BackMembers lists (Some member) x outcome = lists member x outcome
 
 -- ---- rewriting
 
