@@ -6,10 +6,10 @@ use Rattle.pg_base.specs.Lists.{accepted_member, accepted_list, member_of}
 use Rattle.pg_base.specs.ArrayLaws.{body_single, head_passes}
 use Rattle.pg_base.specs.Cells.{Cell}
 use Rattle.pg_base.specs.Content.{Content}
-use Rattle.pg_base.specs.Faults.{Refusal, Outcome, was_null, size, too_few, excess}
-use Rattle.pg_base.specs.Formats.{Checks, first_fault_of}
+use Rattle.pg_base.specs.Faults.{Refusal, Outcome, size, too_few, excess}
+use Rattle.pg_base.specs.Formats.{Checks, NotNull, first_fault_of}
 use Rattle.pg_base.specs.Sameness.{SameList}
-use Rattle.pg_read.specs.Reading.{SameOutcome, ReadsSingle, no_fault}
+use Rattle.pg_read.specs.Reading.{SameOutcome, GivesSingle, ReadsSingle, no_fault, not_null_single}
 
 -- what cells, or other things that give values, give in their order: the values, or the first fault
 abbrev pub ReadsAll : {A C : Type 0} → (C → Outcome A → Type 0) → List C → Outcome (List A) → Type 0
@@ -43,15 +43,17 @@ fixed_checks expected n cs rest = (nat_le (length cs) expected, excess expected)
 abbrev pub ReadsFixed : {A : Type 0} → ℕ → (Cell → Outcome A → Type 0) → ℕ → List Cell → List ℕ → Outcome (List A) → Type 0
 ReadsFixed expected reads n cs rest = ReadsChecked reads (fixed_checks expected n cs rest) (take expected cs)
 
--- NULL is WasNull; bytes that begin with no sound head give its first fault, and all others what their elements give
-abbrev pub ReadsArray : {A X : Type 0} → (X → List A) → (ℕ → List Cell → List ℕ → Outcome (List A) → Type 0) → Cell → Outcome X → Type 0
-ReadsArray items elements None (Ok x) = ⊥
-ReadsArray items elements None (Err r) = r ≡ was_null
-ReadsArray items elements (Some b) (Ok x) =
+-- bytes that begin with no sound head give its first fault, and all others what their elements give
+abbrev pub DecodesArray : {A X : Type 0} → (X → List A) → (ℕ → List Cell → List ℕ → Outcome (List A) → Type 0) → List ℕ → Outcome X → Type 0
+DecodesArray items elements b (Ok x) =
     (n : ℕ) × (cs : List Cell) × (rest : List ℕ) × ArrayBody b n cs rest × elements n cs rest (Ok (items x))
-ReadsArray items elements (Some b) (Err r) =
+DecodesArray items elements b (Err r) =
     (first_fault_of (head_checks b) ≡ Some r)
     ⊎ ((n : ℕ) × (cs : List Cell) × (rest : List ℕ) × ArrayBody b n cs rest × elements n cs rest (Err r))
+
+-- what the cell of an array gives: NULL is WasNull
+abbrev pub ReadsArray : {A X : Type 0} → (X → List A) → (ℕ → List Cell → List ℕ → Outcome (List A) → Type 0) → Cell → Outcome X → Type 0
+ReadsArray items elements = NotNull (DecodesArray items elements)
 
 -- what the cell of a list gives
 abbrev pub ReadsList : {A X : Type 0} → (X → List A) → (Cell → Outcome A → Type 0) → Cell → Outcome X → Type 0
@@ -106,23 +108,23 @@ module _ {A X : Type 0} (items : X → List A) (same : A → A → Type 0) (elem
   no_head_fault : (b : List ℕ) (n : ℕ) (cs : List Cell) (u : List ℕ) (r : Refusal) → ArrayBody b n cs u → first_fault_of (head_checks b) ≡ Some r → ⊥
   no_head_fault b n cs u r p e = no_fault (first_fault_of (head_checks b)) r (head_passes b (record { left = n; bytes = p.0 }) p.1) e
 
-  pub array_single : ReadsSingle (λ x y. SameList same (items x) (items y)) (ReadsArray items elements)
-  array_single None (Ok x) s h k = absurd h
-  array_single None (Err r) (Ok y) h k = absurd k
-  array_single None (Err r) (Err f) h k = h ∙ sym k
-  array_single (Some b) (Ok x) (Ok y) h k = body_outcome b h.0 k.0 h.1 k.1 h.2 k.2 (Ok (items x)) (Ok (items y)) h.3 k.3 h.4 k.4
-  array_single (Some b) (Ok x) (Err f) h k = elim k [
+  one_decoded : (b : List ℕ) → GivesSingle (λ x y. SameList same (items x) (items y)) (DecodesArray items elements b)
+  one_decoded b (Ok x) (Ok y) h k = body_outcome b h.0 k.0 h.1 k.1 h.2 k.2 (Ok (items x)) (Ok (items y)) h.3 k.3 h.4 k.4
+  one_decoded b (Ok x) (Err f) h k = elim k [
     | inl y ↦ no_head_fault b h.0 h.1 h.2 f h.3 y
     | inr y ↦ body_outcome b h.0 y.0 h.1 y.1 h.2 y.2 (Ok (items x)) (Err f) h.3 y.3 h.4 y.4
   ]
-  array_single (Some b) (Err r) (Ok y) h k = elim h [
+  one_decoded b (Err r) (Ok y) h k = elim h [
     | inl z ↦ no_head_fault b k.0 k.1 k.2 r k.3 z
     | inr z ↦ body_outcome b z.0 k.0 z.1 k.1 z.2 k.2 (Err r) (Ok (items y)) z.3 k.3 z.4 k.4
   ]
-  array_single (Some b) (Err r) (Err f) h k = elim h [
+  one_decoded b (Err r) (Err f) h k = elim h [
     | inl z ↦ elim k [ inl y ↦ let e : Some r ≡ Some f = sym z ∙ y in cc | inr y ↦ absurd (no_head_fault b y.0 y.1 y.2 r y.3 z) ]
     | inr z ↦ elim k [ inl y ↦ absurd (no_head_fault b z.0 z.1 z.2 f z.3 y) | inr y ↦ body_outcome b z.0 y.0 z.1 y.1 z.2 y.2 (Err r) (Err f) z.3 y.3 z.4 y.4 ]
   ]
+
+  pub array_single : ReadsSingle (λ x y. SameList same (items x) (items y)) (ReadsArray items elements)
+  array_single = not_null_single (λ x y. SameList same (items x) (items y)) (DecodesArray items elements) one_decoded
 
 -- lists of each accepted member have one outcome, and so have those of an accepted array
 module _ {X : Type 0} (same : X → X → Type 0) (inside : Content → Bool) (lists : Content → Cell → Outcome X → Type 0) (single : (member : Content) → IsTrue (inside member) → ReadsSingle same (lists member)) where

@@ -1,12 +1,12 @@
 -- Reading values with infinities.
-use Rattle.std.specs.Prelude.{◌≡◌, ℕ, List, length, Some, None, Ok, Err}
+use Rattle.std.specs.Prelude.{◌≡◌, ℕ, List, length, Some, Ok, Err}
 use Rattle.std.proofs.Common.{sym, ◌∙◌, ap, inl, inr}
 use Rattle.std.specs.Int.{Width}
 use Rattle.pg_base.specs.Cells.{Cell}
 use Rattle.pg_base.specs.Faults.{Refusal, Outcome}
-use Rattle.pg_base.specs.Special.{Special, pos_infinity, neg_infinity, value, FormSpecial, RefusedSpecial, ReadsSpecial, SameSpecial}
+use Rattle.pg_base.specs.Special.{Special, pos_infinity, neg_infinity, value, DecodesSpecial, FormSpecial, RefusedSpecial, ReadsSpecial, SameSpecial}
 use Rattle.pg_base.specs.SpecialLaws.{infinity_width, minus_infinity_width, infinities_apart}
-use Rattle.pg_read.specs.Reading.{ReadsSingle}
+use Rattle.pg_read.specs.Reading.{GivesSingle, ReadsSingle, not_null_single}
 
 module _ {A : Type 0} (w : Width) (same : A → A → Type 0) (reads : Cell → Outcome A → Type 0) (single : ReadsSingle same reads) (b : List ℕ) where
   abbrev Forms : Special A → Type 0
@@ -37,12 +37,13 @@ module _ {A : Type 0} (w : Width) (same : A → A → Type 0) (reads : Cell → 
     | inr y ↦ elim k [ inl z ↦ absurd (z.0 y.0.width) | inr z ↦ single (Some b) (Err r) (Err s) y.1 z.1 ]
   ]
 
+  one_decoded : {B : Type 0} (seen : B → Special A) → GivesSingle (λ s t. SameSpecial same (seen s) (seen t)) (DecodesSpecial w seen (reads (Some b)) b)
+  one_decoded seen (Ok s) (Ok t) h k = one_form (seen s) (seen t) h k
+  one_decoded seen (Ok s) (Err f) h k = form_or_refused (seen s) f h k
+  one_decoded seen (Err r) (Ok t) h k = form_or_refused (seen t) r k h
+  one_decoded seen (Err r) (Err f) h k = one_refusal r f h k
+
 -- one outcome inside gives one outcome of the values with infinities
 pub special_single : {A B : Type 0} (w : Width) (seen : B → Special A) (same : A → A → Type 0) (reads : Cell → Outcome A → Type 0) → ReadsSingle same reads → ReadsSingle (λ s t. SameSpecial same (seen s) (seen t)) (ReadsSpecial w seen reads)
-special_single w seen same reads single None (Ok s) o h k = absurd h
-special_single w seen same reads single None (Err r) (Ok t) h k = absurd k
-special_single w seen same reads single None (Err r) (Err f) h k = h ∙ sym k
-special_single w seen same reads single (Some b) (Ok s) (Ok t) h k = one_form w same reads single b (seen s) (seen t) h k
-special_single w seen same reads single (Some b) (Ok s) (Err f) h k = form_or_refused w same reads single b (seen s) f h k
-special_single w seen same reads single (Some b) (Err r) (Ok t) h k = form_or_refused w same reads single b (seen t) r k h
-special_single w seen same reads single (Some b) (Err r) (Err f) h k = one_refusal w same reads single b r f h k
+special_single w seen same reads single =
+    not_null_single (λ s t. SameSpecial same (seen s) (seen t)) (λ b. DecodesSpecial w seen (reads (Some b)) b) (λ b. one_decoded w same reads single b seen)

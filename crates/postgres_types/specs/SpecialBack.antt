@@ -37,8 +37,7 @@ module _ {A B : Type 0} (w : Width) (seen : B → Special A) where
 
   -- what is said of the value inside may be replaced
   special_map : (P Q : Cell → Outcome A → Type 0) (c : Cell) → ((o : Outcome A) → P c o → Q c o) → (o : Outcome B) → ReadsSpecial w seen P c o → ReadsSpecial w seen Q c o
-  special_map P Q None f (Ok v) h = h
-  special_map P Q None f (Err r) h = h
+  special_map P Q None f o h = h
   special_map P Q (Some b) f (Ok v) h = form_map (λ u. P (Some b) (Ok u)) (λ u. Q (Some b) (Ok u)) (λ u. f (Ok u)) b (seen v) h
   special_map P Q (Some b) f (Err r) h = elim h [ inl z ↦ inl z | inr z ↦ inr (z.0, f (Err r) z.1) ]
 
