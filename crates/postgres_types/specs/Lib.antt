@@ -55,11 +55,12 @@ pub use Rattle.pg_base.specs.SpecialLaws
 pub use Rattle.pg_base.specs.Texts
 pub use Rattle.pg_read.specs.BoxReading
 pub use Rattle.pg_read.specs.Framed
+pub use Rattle.pg_read.specs.ListLaws
 pub use Rattle.pg_read.specs.ListReading
 pub use Rattle.pg_read.specs.OptionReading
 pub use Rattle.pg_read.specs.Reading
+pub use Rattle.pg_read.specs.ReadingLaws
 pub use Rattle.pg_read.specs.RunReading
-pub use Rattle.pg_read.specs.SpecialReading
 pub use Rattle.pg_write.specs.ListWriting
 pub use Rattle.pg_write.specs.OptionWriting
 pub use Rattle.pg_write.specs.ParamWriting

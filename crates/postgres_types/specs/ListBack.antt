@@ -14,7 +14,7 @@ use Rattle.pg_base.specs.Formats.{Checks, first_fault_of}
 use Rattle.pg_base.specs.Lists.{accepted_list, accepted_member, member_of}
 use Rattle.pg_base.specs.Sameness.{SameList}
 use Rattle.pg_read.specs.ListReading.{ReadsAll, ReadsArray, ReadsChecked, ReadsElements, ReadsFixed, ReadsList, ReadsMembers, end_checks, fixed_checks}
-use Rattle.pg_read.specs.Reading.{no_fault}
+use Rattle.pg_read.specs.ReadingLaws.{no_fault}
 use Rattle.pg_write.specs.ListWriting.{element_cells, framed, in_front, lower_bound_of, wire_array, wire_fixed, wire_list, wire_members}
 use Rattle.postgres_types.specs.BackLaws.{kept}
 use Rattle.postgres_types.specs.ReadingBack.{IsLawful, WrittenAsBytes, BackList}

@@ -18,7 +18,8 @@ impl<'a> FromSql<'a> for Days {
     ghost use Rattle.postgres_types.specs.FormatLaws.{int4_grammar};
     ghost use Rattle.postgres_types.specs.Formats.{ReadsPlain};
     ghost use Rattle.postgres_types.specs.Numbers.{FormSigned, first_fault_number};
-    ghost use Rattle.postgres_types.specs.Reading.{EveryCell, plain_single};
+    ghost use Rattle.postgres_types.specs.Reading.{EveryCell};
+    ghost use Rattle.postgres_types.specs.ReadingLaws.{plain_single};
     ghost use Rattle.postgres_types.specs.Sameness.{content_equivalence};
 
     ghost same = { λ v w. v.0 ≡ w.0 };
@@ -132,7 +133,8 @@ impl<'a> FromSql<'a> for NoDay {
     ghost use Rattle.postgres_types.specs.Content.{is_row};
     ghost use Rattle.postgres_types.specs.Faults.{decode};
     ghost use Rattle.postgres_types.specs.Formats.{ReadsPlain};
-    ghost use Rattle.postgres_types.specs.Reading.{EveryCell, plain_single};
+    ghost use Rattle.postgres_types.specs.Reading.{EveryCell};
+    ghost use Rattle.postgres_types.specs.ReadingLaws.{plain_single};
     ghost use Rattle.postgres_types.specs.Sameness.{equal_equivalence};
 
     ghost same = { λ v w. v ≡ w };
