@@ -104,7 +104,7 @@ impl<'a> Paired<'a> for Degrees {
     ghost use Rattle.std.specs.Prelude.{◌≡◌, refl};
     ghost use Rattle.std.specs.Int.{w32};
     ghost use Rattle.postgres_types.specs.FormatLaws.{int4_grammar};
-    ghost use Rattle.postgres_types.specs.LawfulFormats.{signed_written};
+    ghost use Rattle.postgres_types.specs.FormatBackLaws.{signed_written};
     ghost use Rattle.postgres_types.specs.Numbers.{FormSigned, first_fault_number, wire_signed};
     ghost use Rattle.postgres_types.specs.PlainLaws.{plain_lawful};
     ghost use Rattle.postgres_types.specs.ReadingBack.{BackKept};

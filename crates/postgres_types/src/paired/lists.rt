@@ -2,7 +2,7 @@
 ghost use Rattle.std.specs.Box.{boxed_slice_items};
 ghost use Rattle.pg_base.specs.Lists.{member_of};
 ghost use Rattle.pg_read.specs.ListReading.{ReadsMembers};
-ghost use Rattle.postgres_types.specs.ListBack.{array_lawful, fixed_lawful, same_lists};
+ghost use Rattle.postgres_types.specs.ListBackLaws.{array_lawful, fixed_lawful, same_lists};
 ghost use Rattle.postgres_types.specs.ReadingBack.{BackList};
 
 use crate::paired::Paired;
