@@ -1,17 +1,12 @@
 -- Two contents are the same just where the test says so.
-use Rattle.std.proofs.Common.{rules, ◌≡◌, refl, ap, ◌==◌, ◌&&◌, Bool, true, false, ℕ, List, [], ◌∷◌}
+use Rattle.std.proofs.Common.{rules, ◌≡◌, refl, ap, ◌==◌, ◌&&◌, true, ℕ, List, [], ◌∷◌}
 use Rattle.std.specs.Cmp.Lexicographic.{pointwise}
-use Rattle.std.proofs.lemmas.Bool.{eqb-true, eq-eqb}
+use Rattle.std.proofs.lemmas.Bool.{and_parts, eqb-true, eq-eqb}
 use denote.Enum.Bare.{same_true, true_same}
 use Rattle.pg_base.specs.contracts.types.built_in.BuiltIn.{the_type}
 use Rattle.pg_base.specs.contracts.types.built_in.BuiltInPartialEq.TheImpl.{ghosts as rows}
 use Rattle.pg_base.specs.declared.types.built_in.BuiltIn.{BuiltIn as Row}
 use Rattle.pg_base.specs.Content.{Content, BuiltInType, MadeType, KindContent, SimpleKind, EnumKind, PseudoKind, ArrayKind, RangeKind, MultirangeKind, DomainKind, CompositeKind, FieldsContent, NoFields, FieldAnd, same_type, same_kind_content, same_fields}
-
--- both sides of a true &&
-pub both : (a b : Bool) → (a && b) ≡ true → (a ≡ true) × (b ≡ true)
-both true b h = (refl, h)
-both false b h = cc
 
 -- texts that the test finds the same are the same
 pub bytes-same : (m n : List ℕ) → pointwise ◌==◌ m n ≡ true → m ≡ n
@@ -19,7 +14,7 @@ bytes-same [] [] h = refl
 bytes-same [] (y ∷ ys) h = cc
 bytes-same (x ∷ xs) [] h = cc
 bytes-same (x ∷ xs) (y ∷ ys) h =
-    let p = both (x == y) (pointwise ◌==◌ xs ys) h in
+    let p = and_parts (x == y) (pointwise ◌==◌ xs ys) h in
     let e = eqb-true x y p.0 in
     let f = bytes-same xs ys p.1 in cc
 
@@ -29,7 +24,7 @@ texts-same [] [] h = refl
 texts-same [] (y ∷ ys) h = cc
 texts-same (x ∷ xs) [] h = cc
 texts-same (x ∷ xs) (y ∷ ys) h =
-    let p = both (pointwise ◌==◌ x y) (pointwise (pointwise ◌==◌) xs ys) h in
+    let p = and_parts (pointwise ◌==◌ x y) (pointwise (pointwise ◌==◌) xs ys) h in
     let e = bytes-same x y p.0 in
     let f = texts-same xs ys p.1 in cc
 
@@ -42,9 +37,9 @@ mutual
   pub type-same : (a b : Content) → same_type a b ≡ true → a ≡ b
   type-same (BuiltInType a) (BuiltInType b) h = ap BuiltInType (row-same a b h)
   type-same (MadeType m i k s) (MadeType n j l t) h =
-      let p = both (pointwise ◌==◌ m n) (i == j && (same_kind_content k l && pointwise ◌==◌ s t)) h in
-      let q = both (i == j) (same_kind_content k l && pointwise ◌==◌ s t) p.1 in
-      let r = both (same_kind_content k l) (pointwise ◌==◌ s t) q.1 in
+      let p = and_parts (pointwise ◌==◌ m n) (i == j && (same_kind_content k l && pointwise ◌==◌ s t)) h in
+      let q = and_parts (i == j) (same_kind_content k l && pointwise ◌==◌ s t) p.1 in
+      let r = and_parts (same_kind_content k l) (pointwise ◌==◌ s t) q.1 in
       let e = bytes-same m n p.0 in
       let f = eqb-true i j q.0 in
       let g = kind-same k l r.0 in
@@ -68,8 +63,8 @@ mutual
   pub fields-same : (a b : FieldsContent) → same_fields a b ≡ true → a ≡ b
   fields-same NoFields NoFields h = refl
   fields-same (FieldAnd m a p) (FieldAnd n b q) h =
-      let u = both (pointwise ◌==◌ m n && same_type a b) (same_fields p q) h in
-      let v = both (pointwise ◌==◌ m n) (same_type a b) u.0 in
+      let u = and_parts (pointwise ◌==◌ m n && same_type a b) (same_fields p q) h in
+      let v = and_parts (pointwise ◌==◌ m n) (same_type a b) u.0 in
       let e = bytes-same m n v.0 in
       let f = type-same a b v.1 in
       let g = fields-same p q u.1 in cc

@@ -1,5 +1,6 @@
 -- What the derived == of types, kinds, views of kinds and fields compares.
 use Rattle.std.proofs.Common.{◌≡◌, ◌∙◌, refl, ap, sym, ◌==◌, ◌&&◌, true, string_bytes, ℕ, List, [], ◌∷◌, map, String, Global}
+use Rattle.std.proofs.lemmas.Bool.{and_parts}
 use Rattle.std.specs.Cmp.Lexicographic.{pointwise}
 use Rattle.std.specs.String.{string_eq}
 use Rattle.std.specs.Cow.{cow_value}
@@ -29,7 +30,7 @@ use Rattle.pg_base.specs.contracts.types.kind.KindHash.TheImpl.Laws as kind_hash
 use Rattle.pg_base.specs.contracts.types.kind.FieldHash.TheImpl.Laws as field_hash_laws
 use Rattle.pg_base.specs.Content.{Content, SameField, content, field_name, field_type, fields_content, inner_content, kind_content, row_content, same_fields, same_kind_content, same_type}
 use Rattle.pg_base.specs.Seen.{seen}
-use Rattle.pg_base.proofs.Contents.{both, bytes-same, bytes-self, kind-same, kind-self, type-same, type-self}
+use Rattle.pg_base.proofs.Contents.{bytes-same, bytes-self, kind-same, kind-self, type-same, type-self}
 
 -- lists of strings are compared by their texts
 strings : (xs ys : List (String Global)) → pointwise string_eq xs ys ≡ pointwise (pointwise ◌==◌) (map string_bytes xs) (map string_bytes ys)
@@ -102,7 +103,7 @@ eq_field_content a b = field_laws.is a b ∙ ap (λ c. string_eq a.name b.name &
 -- equal fields have one name and one type
 pub same_field_from_eq : (a b : Field) → fields.eq a b ≡ true → SameField a b
 same_field_from_eq a b h =
-    let p = both _ _ (sym (eq_field_content a b) ∙ h) in
+    let p = and_parts _ _ (sym (eq_field_content a b) ∙ h) in
     (sym (bytes-same _ _ p.0), sym (type-same _ _ p.1))
 
 -- the test finds one name and one type the same

@@ -17,11 +17,19 @@ abbrev pub Decodes : {A : Type 0} → (List ℕ → A → Type 0) → (List ℕ 
 Decodes form first_fault b (Ok v) = form b v
 Decodes form first_fault b (Err r) = first_fault b ≡ Some r
 
--- what a cell gives: NULL is refused
+-- the outcome WasNull
+abbrev pub IsWasNull : {A : Type 0} → Outcome A → Type 0
+IsWasNull (Ok v) = ⊥
+IsWasNull (Err r) = r ≡ was_null
+
+-- NULL is WasNull, and bytes are read by `reads`
+abbrev pub NotNull : {A : Type 0} → (List ℕ → Outcome A → Type 0) → Cell → Outcome A → Type 0
+NotNull reads None outcome = IsWasNull outcome
+NotNull reads (Some b) outcome = reads b outcome
+
+-- what a cell gives in a plain format
 abbrev pub ReadsPlain : {A : Type 0} → (List ℕ → A → Type 0) → (List ℕ → Option Refusal) → Cell → Outcome A → Type 0
-ReadsPlain form first_fault None (Ok v) = ⊥
-ReadsPlain form first_fault None (Err r) = r ≡ was_null
-ReadsPlain form first_fault (Some b) outcome = Decodes form first_fault b outcome
+ReadsPlain form first_fault = NotNull (Decodes form first_fault)
 
 -- a format is a grammar: bytes that spell a value pass every check, and spell no other value
 pub record IsGrammar {A : Type 0} (same : A → A → Type 0) (form : List ℕ → A → Type 0) (first_fault : List ℕ → Option Refusal) : Type 0 where

@@ -14,8 +14,8 @@ SameOption same None (Some b) = ⊥
 SameOption same (Some a) None = ⊥
 SameOption same (Some a) (Some b) = same a b
 
--- lists are the same where their values are, one after another
-abbrev pub SameList : {A : Type 0} → (A → A → Type 0) → List A → List A → Type 0
+-- lists are the same where their values are, one after another; `same` may relate values of two types
+abbrev pub SameList : {A B : Type 0} → (A → B → Type 0) → List A → List B → Type 0
 SameList same [] [] = Unit {0}
 SameList same [] (w ∷ ws) = ⊥
 SameList same (v ∷ vs) [] = ⊥

@@ -11,7 +11,8 @@ use Rattle.pg_base.specs.declared.types.built_in.BuiltIn.TheVariants.{Date as Da
 use Rattle.pg_base.specs.Appending.{Wire}
 use Rattle.pg_base.specs.Cells.{Cell, be}
 use Rattle.pg_base.specs.Content.{Content, is_row}
-use Rattle.pg_base.specs.Faults.{Refusal, Outcome, was_null, size}
+use Rattle.pg_base.specs.Faults.{Refusal, Outcome, size}
+use Rattle.pg_base.specs.Formats.{NotNull}
 use Rattle.pg_base.specs.Moments.{accepted_moment}
 
 -- a value, or what comes after all values or before them
@@ -64,12 +65,14 @@ FormSpecial w form b (value v) = IsFiniteCell w b × form v
 abbrev pub RefusedSpecial : Width → (Refusal → Type 0) → List ℕ → Refusal → Type 0
 RefusedSpecial w refused b r = ((length b ≢ byte_len w) × (r ≡ size)) ⊎ (IsFiniteCell w b × refused r)
 
--- NULL is WasNull; an infinity is itself, before the value's reading is asked; all else is a value or its fault
+-- what bytes give: an infinity is itself, before the value's reading is asked; all else is a value or its fault
+abbrev pub DecodesSpecial : {A B : Type 0} → Width → (B → Special A) → (Outcome A → Type 0) → List ℕ → Outcome B → Type 0
+DecodesSpecial w seen reads b (Ok s) = FormSpecial w (λ v. reads (Ok v)) b (seen s)
+DecodesSpecial w seen reads b (Err r) = RefusedSpecial w (λ f. reads (Err f)) b r
+
+-- what a cell gives: NULL is WasNull, whatever the value's reading says of it
 abbrev pub ReadsSpecial : {A B : Type 0} → Width → (B → Special A) → (Cell → Outcome A → Type 0) → Cell → Outcome B → Type 0
-ReadsSpecial w seen reads None (Ok s) = ⊥
-ReadsSpecial w seen reads None (Err r) = r ≡ was_null
-ReadsSpecial w seen reads (Some b) (Ok s) = FormSpecial w (λ v. reads (Some b) (Ok v)) b (seen s)
-ReadsSpecial w seen reads (Some b) (Err r) = RefusedSpecial w (λ f. reads (Some b) (Err f)) b r
+ReadsSpecial w seen reads = NotNull (λ b. DecodesSpecial w seen (reads (Some b)) b)
 
 -- NULL, an infinity and a cell of another width are read without memory, and a value where its own reading is
 abbrev pub FreeSpecial : Width → (List ℕ → Type 0) → Cell → Type 0

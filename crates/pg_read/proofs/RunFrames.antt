@@ -5,7 +5,8 @@ use Rattle.pg_base.specs.Cells.{Cell, CellsInRow}
 use Rattle.pg_base.specs.Faults.{Refusal, Outcome, refusal_of}
 use Rattle.pg_base.specs.declared.fault.Fault.{Fault}
 use Rattle.pg_read.proofs.ListSteps.{fault_more, fault_stays}
-use Rattle.pg_read.specs.ListReading.{ReadsAll, all_single}
+use Rattle.pg_read.specs.ListLaws.{all_single}
+use Rattle.pg_read.specs.ListReading.{ReadsAll}
 use Rattle.pg_read.specs.Reading.{ReadsSingle}
 use Rattle.pg_read.specs.RunReading.{AnswersValues, ReadsFrames, ReadsRun, RunEnds, RunStops}
 

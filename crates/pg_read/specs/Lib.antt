@@ -1,8 +1,9 @@
 -- The words of reading.
 pub mod BoxReading
 pub mod Framed
+pub mod ListLaws
 pub mod ListReading
 pub mod OptionReading
 pub mod Reading
+pub mod ReadingLaws
 pub mod RunReading
-pub mod SpecialReading

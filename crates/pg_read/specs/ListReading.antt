@@ -1,15 +1,10 @@
 -- Reading a list from an array's cell.
-use Rattle.std.specs.Prelude.{◌≡◌, ◌⊎◌, ◌==◌, nat_le, ℕ, List, [], ◌∷◌, ◌++◌, length, take, Option, Some, None, Ok, Err, Bool, IsTrue}
-use Rattle.std.proofs.Common.{sym, ◌∙◌, subst, inl, inr, true≢false}
+use Rattle.std.specs.Prelude.{◌≡◌, ◌⊎◌, ◌==◌, nat_le, ℕ, List, [], ◌∷◌, ◌++◌, length, take, Option, Some, None, Ok, Err}
 use Rattle.pg_base.specs.Arrays.{ArrayBody, head_checks}
-use Rattle.pg_base.specs.Lists.{accepted_member, accepted_list, member_of}
-use Rattle.pg_base.proofs.ArrayLaws.{body_single, head_passes}
 use Rattle.pg_base.specs.Cells.{Cell}
 use Rattle.pg_base.specs.Content.{Content}
-use Rattle.pg_base.specs.Faults.{Refusal, Outcome, was_null, size, too_few, excess}
-use Rattle.pg_base.specs.Formats.{Checks, first_fault_of}
-use Rattle.pg_base.specs.Sameness.{SameList}
-use Rattle.pg_read.specs.Reading.{SameOutcome, ReadsSingle, no_fault}
+use Rattle.pg_base.specs.Faults.{Outcome, size, too_few, excess}
+use Rattle.pg_base.specs.Formats.{Checks, NotNull, first_fault_of}
 
 -- what cells, or other things that give values, give in their order: the values, or the first fault
 abbrev pub ReadsAll : {A C : Type 0} → (C → Outcome A → Type 0) → List C → Outcome (List A) → Type 0
@@ -43,101 +38,23 @@ fixed_checks expected n cs rest = (nat_le (length cs) expected, excess expected)
 abbrev pub ReadsFixed : {A : Type 0} → ℕ → (Cell → Outcome A → Type 0) → ℕ → List Cell → List ℕ → Outcome (List A) → Type 0
 ReadsFixed expected reads n cs rest = ReadsChecked reads (fixed_checks expected n cs rest) (take expected cs)
 
--- NULL is WasNull; bytes that begin with no sound head give its first fault, and all others what their elements give
-abbrev pub ReadsArray : {A X : Type 0} → (X → List A) → (ℕ → List Cell → List ℕ → Outcome (List A) → Type 0) → Cell → Outcome X → Type 0
-ReadsArray items elements None (Ok x) = ⊥
-ReadsArray items elements None (Err r) = r ≡ was_null
-ReadsArray items elements (Some b) (Ok x) =
+-- bytes that begin with no sound head give its first fault, and all others what their elements give
+abbrev pub DecodesArray : {A X : Type 0} → (X → List A) → (ℕ → List Cell → List ℕ → Outcome (List A) → Type 0) → List ℕ → Outcome X → Type 0
+DecodesArray items elements b (Ok x) =
     (n : ℕ) × (cs : List Cell) × (rest : List ℕ) × ArrayBody b n cs rest × elements n cs rest (Ok (items x))
-ReadsArray items elements (Some b) (Err r) =
+DecodesArray items elements b (Err r) =
     (first_fault_of (head_checks b) ≡ Some r)
     ⊎ ((n : ℕ) × (cs : List Cell) × (rest : List ℕ) × ArrayBody b n cs rest × elements n cs rest (Err r))
+
+-- what the cell of an array gives: NULL is WasNull
+abbrev pub ReadsArray : {A X : Type 0} → (X → List A) → (ℕ → List Cell → List ℕ → Outcome (List A) → Type 0) → Cell → Outcome X → Type 0
+ReadsArray items elements = NotNull (DecodesArray items elements)
 
 -- what the cell of a list gives
 abbrev pub ReadsList : {A X : Type 0} → (X → List A) → (Cell → Outcome A → Type 0) → Cell → Outcome X → Type 0
 ReadsList items reads = ReadsArray items (ReadsElements reads)
 
--- what the cell of an array gives by the type of its elements
-abbrev pub ReadsMembers : {X : Type 0} → (Content → Cell → Outcome X → Type 0) → Option Content → Cell → Outcome X → Type 0
+-- what a cell, or another thing that gives lists, gives by the type of the elements
+abbrev pub ReadsMembers : {C X : Type 0} → (Content → C → Outcome X → Type 0) → Option Content → C → Outcome X → Type 0
 ReadsMembers lists None c outcome = ⊥
 ReadsMembers lists (Some member) c outcome = lists member c outcome
-
-module _ {A : Type 0} (same : A → A → Type 0) (reads : Cell → Outcome A → Type 0) (single : ReadsSingle same reads) where
-  -- cells give one list, or one fault
-  pub all_single : (cs : List Cell) (r s : Outcome (List A)) → ReadsAll reads cs r → ReadsAll reads cs s → SameOutcome (SameList same) r s
-  all_single [] (Ok []) (Ok []) h k = tt
-  all_single [] (Ok []) (Ok (w ∷ ws)) h k = absurd k
-  all_single [] (Ok []) (Err f) h k = absurd k
-  all_single [] (Ok (v ∷ vs)) s h k = absurd h
-  all_single [] (Err r) s h k = absurd h
-  all_single (c ∷ cs) (Ok []) s h k = absurd h
-  all_single (c ∷ cs) (Ok (v ∷ vs)) (Ok []) h k = absurd k
-  all_single (c ∷ cs) (Ok (v ∷ vs)) (Ok (w ∷ ws)) h k = (single c (Ok v) (Ok w) h.0 k.0, all_single cs (Ok vs) (Ok ws) h.1 k.1)
-  all_single (c ∷ cs) (Ok (v ∷ vs)) (Err f) h k = elim k [ inl y ↦ single c (Ok v) (Err f) h.0 y | inr y ↦ all_single cs (Ok vs) (Err f) h.1 y.2 ]
-  all_single (c ∷ cs) (Err r) (Ok []) h k = absurd k
-  all_single (c ∷ cs) (Err r) (Ok (w ∷ ws)) h k = elim h [ inl z ↦ single c (Err r) (Ok w) z k.0 | inr z ↦ all_single cs (Err r) (Ok ws) z.2 k.1 ]
-  all_single (c ∷ cs) (Err r) (Err f) h k = elim h [
-    | inl z ↦ elim k [ inl y ↦ single c (Err r) (Err f) z y | inr y ↦ absurd (single c (Err r) (Ok y.0) z y.1) ]
-    | inr z ↦ elim k [ inl y ↦ absurd (single c (Ok z.0) (Err f) z.1 y) | inr y ↦ all_single cs (Err r) (Err f) z.2 y.2 ]
-  ]
-
-  -- and so they do with checks behind them
-  pub checked_single : (checks : Checks) (cs : List Cell) (r s : Outcome (List A)) → ReadsChecked reads checks cs r → ReadsChecked reads checks cs s → SameOutcome (SameList same) r s
-  checked_single checks cs (Ok vs) (Ok ws) h k = all_single cs (Ok vs) (Ok ws) h.0 k.0
-  checked_single checks cs (Ok vs) (Err f) h k = elim k [ inl y ↦ all_single cs (Ok vs) (Err f) h.0 y | inr y ↦ absurd (no_fault (first_fault_of checks) f h.1 y.2) ]
-  checked_single checks cs (Err r) (Ok ws) h k = elim h [ inl z ↦ all_single cs (Err r) (Ok ws) z k.0 | inr z ↦ absurd (no_fault (first_fault_of checks) r k.1 z.2) ]
-  checked_single checks cs (Err r) (Err f) h k = elim h [
-    | inl z ↦ elim k [ inl y ↦ all_single cs (Err r) (Err f) z y | inr y ↦ absurd (all_single cs (Err r) (Ok y.0) z y.1) ]
-    | inr z ↦ elim k [ inl y ↦ absurd (all_single cs (Ok z.0) (Err f) z.1 y) | inr y ↦ let e : Some r ≡ Some f = sym z.2 ∙ y.2 in cc ]
-  ]
-
--- elements of which so many are stated have one outcome
-abbrev pub ElementsSingle : {A : Type 0} → (A → A → Type 0) → (ℕ → List Cell → List ℕ → Outcome (List A) → Type 0) → Type 0
-ElementsSingle {A} same elements =
-    (n : ℕ) (cs : List Cell) (rest : List ℕ) (r s : Outcome (List A)) → elements n cs rest r → elements n cs rest s → SameOutcome (SameList same) r s
-
--- where elements have one outcome, so has the cell of their array
-module _ {A X : Type 0} (items : X → List A) (same : A → A → Type 0) (elements : ℕ → List Cell → List ℕ → Outcome (List A) → Type 0) (single : ElementsSingle same elements) where
-  body_outcome : (b : List ℕ) (n m : ℕ) (cs ds : List Cell) (u w : List ℕ) (r s : Outcome (List A)) → ArrayBody b n cs u → ArrayBody b m ds w → elements n cs u r → elements m ds w s → SameOutcome (SameList same) r s
-  body_outcome b n m cs ds u w r s p q h k =
-      let e = body_single b n m cs ds u w p q in
-      single n cs u r s h (subst (λ x. elements x cs u s) (sym e.0) (subst (λ x. elements m x u s) (sym e.1) (subst (λ x. elements m ds x s) (sym e.2) k)))
-
-  no_head_fault : (b : List ℕ) (n : ℕ) (cs : List Cell) (u : List ℕ) (r : Refusal) → ArrayBody b n cs u → first_fault_of (head_checks b) ≡ Some r → ⊥
-  no_head_fault b n cs u r p e = no_fault (first_fault_of (head_checks b)) r (head_passes b (record { left = n; bytes = p.0 }) p.1) e
-
-  pub array_single : ReadsSingle (λ x y. SameList same (items x) (items y)) (ReadsArray items elements)
-  array_single None (Ok x) s h k = absurd h
-  array_single None (Err r) (Ok y) h k = absurd k
-  array_single None (Err r) (Err f) h k = h ∙ sym k
-  array_single (Some b) (Ok x) (Ok y) h k = body_outcome b h.0 k.0 h.1 k.1 h.2 k.2 (Ok (items x)) (Ok (items y)) h.3 k.3 h.4 k.4
-  array_single (Some b) (Ok x) (Err f) h k = elim k [
-    | inl y ↦ no_head_fault b h.0 h.1 h.2 f h.3 y
-    | inr y ↦ body_outcome b h.0 y.0 h.1 y.1 h.2 y.2 (Ok (items x)) (Err f) h.3 y.3 h.4 y.4
-  ]
-  array_single (Some b) (Err r) (Ok y) h k = elim h [
-    | inl z ↦ no_head_fault b k.0 k.1 k.2 r k.3 z
-    | inr z ↦ body_outcome b z.0 k.0 z.1 k.1 z.2 k.2 (Err r) (Ok (items y)) z.3 k.3 z.4 k.4
-  ]
-  array_single (Some b) (Err r) (Err f) h k = elim h [
-    | inl z ↦ elim k [ inl y ↦ let e : Some r ≡ Some f = sym z ∙ y in cc | inr y ↦ absurd (no_head_fault b y.0 y.1 y.2 r y.3 z) ]
-    | inr z ↦ elim k [ inl y ↦ absurd (no_head_fault b z.0 z.1 z.2 f z.3 y) | inr y ↦ body_outcome b z.0 y.0 z.1 y.1 z.2 y.2 (Err r) (Err f) z.3 y.3 z.4 y.4 ]
-  ]
-
--- lists of each accepted member have one outcome, and so have those of an accepted array
-module _ {X : Type 0} (same : X → X → Type 0) (inside : Content → Bool) (lists : Content → Cell → Outcome X → Type 0) (single : (member : Content) → IsTrue (inside member) → ReadsSingle same (lists member)) where
-  member_single : (member : Option Content) → IsTrue (accepted_member inside member) → ReadsSingle same (ReadsMembers lists member)
-  member_single None h = absurd (true≢false (sym h))
-  member_single (Some member) h = single member h
-
-  pub members_single : (ty : Content) → IsTrue (accepted_list inside ty) → ReadsSingle same (ReadsMembers lists (member_of ty))
-  members_single ty h = member_single (member_of ty) h
-
--- a list's elements, read by what has one outcome, have one outcome
-pub list_single : {A X : Type 0} (items : X → List A) (same : A → A → Type 0) (reads : Cell → Outcome A → Type 0) → ReadsSingle same reads → ReadsSingle (λ x y. SameList same (items x) (items y)) (ReadsList items reads)
-list_single items same reads single = array_single items same (ReadsElements reads) (λ n cs rest. checked_single same reads single (end_checks n cs rest) cs)
-
--- and so have those of so many values
-pub fixed_single : {A X : Type 0} (items : X → List A) (expected : ℕ) (same : A → A → Type 0) (reads : Cell → Outcome A → Type 0) → ReadsSingle same reads → ReadsSingle (λ x y. SameList same (items x) (items y)) (ReadsArray items (ReadsFixed expected reads))
-fixed_single items expected same reads single =
-    array_single items same (ReadsFixed expected reads) (λ n cs rest. checked_single same reads single (fixed_checks expected n cs rest) (take expected cs))

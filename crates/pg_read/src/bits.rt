@@ -3,7 +3,8 @@ ghost use Rattle.std.specs.Prelude.{◌≡◌};
 ghost use Rattle.pg_base.specs.Bits.{FormBits, accepted_bits, ReadsBits, first_fault_bits};
 ghost use Rattle.pg_base.proofs.BitsLaws.{bits_grammar};
 ghost use Rattle.pg_base.proofs.SamenessLaws.{equal_equivalence};
-ghost use Rattle.pg_read.specs.Reading.{NullAlone, plain_single};
+ghost use Rattle.pg_read.specs.Reading.{NullAlone};
+ghost use Rattle.pg_read.specs.ReadingLaws.{plain_single};
 
 use crate::from_sql::FromSql;
 use pg_base::acceptance::is_bits;

@@ -1,7 +1,8 @@
 //! Reading a box.
 ghost use Rattle.pg_base.proofs.SamenessLaws.{inside_equivalence};
-ghost use Rattle.pg_read.specs.BoxReading.{ReadsBox, box_single};
+ghost use Rattle.pg_read.specs.BoxReading.{ReadsBox};
 ghost use Rattle.pg_read.specs.Reading.{NullAlone};
+ghost use Rattle.pg_read.specs.ReadingLaws.{box_single};
 
 use crate::from_sql::FromSql;
 use pg_base::fault::Fault;

@@ -9,7 +9,8 @@ ghost use Rattle.pg_base.specs.Faults.{Answers, NeverMemory};
 ghost use Rattle.pg_base.specs.Moments.{IsAfterBase};
 ghost use Rattle.pg_base.proofs.SamenessLaws.{content_equivalence};
 ghost use Rattle.pg_base.specs.declared.types.built_in.BuiltIn.TheVariants.{Date as DateRow, Time as TimeRow, Timestamp as TimestampRow, Timestamptz};
-ghost use Rattle.pg_read.specs.Reading.{EveryCell, plain_single};
+ghost use Rattle.pg_read.specs.Reading.{EveryCell};
+ghost use Rattle.pg_read.specs.ReadingLaws.{plain_single};
 
 use crate::from_sql::FromSql;
 use jiff::civil::{Date, DateTime, Time};

@@ -5,7 +5,8 @@ ghost use Rattle.pg_base.specs.Cells.{cell_of};
 ghost use Rattle.pg_base.specs.Hstore.{FormHstore, ReadsHstore, SameMap, first_fault_hstore, value_at};
 ghost use Rattle.pg_base.proofs.HstoreLaws.{hstore_grammar, value_equivalence};
 ghost use Rattle.pg_base.specs.Texts.{is_named};
-ghost use Rattle.pg_read.specs.Reading.{NullAlone, plain_single};
+ghost use Rattle.pg_read.specs.Reading.{NullAlone};
+ghost use Rattle.pg_read.specs.ReadingLaws.{plain_single};
 
 use crate::from_sql::FromSql;
 use pg_base::acceptance::is_hstore;

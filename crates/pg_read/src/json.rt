@@ -7,7 +7,8 @@ ghost use Rattle.pg_base.specs.Faults.{Answers};
 ghost use Rattle.pg_base.specs.Json.{FormJson, ReadsJson, accepted_json, first_fault_json};
 ghost use Rattle.pg_base.proofs.JsonLaws.{json_grammar};
 ghost use Rattle.pg_base.proofs.SamenessLaws.{content_equivalence};
-ghost use Rattle.pg_read.specs.Reading.{NullAlone, plain_single};
+ghost use Rattle.pg_read.specs.Reading.{NullAlone};
+ghost use Rattle.pg_read.specs.ReadingLaws.{plain_single};
 
 use crate::from_sql::FromSql;
 use pg_base::acceptance::{is_json, is_jsonb};

@@ -6,7 +6,8 @@ ghost use Rattle.pg_base.specs.Content.{content};
 ghost use Rattle.pg_base.specs.Faults.{Answers};
 ghost use Rattle.pg_base.proofs.SamenessLaws.{list_equivalence};
 ghost use Rattle.pg_base.specs.Sameness.{SameList};
-ghost use Rattle.pg_read.specs.ListReading.{ReadsList, ReadsMembers, list_single, members_single};
+ghost use Rattle.pg_read.specs.ListLaws.{list_single, members_single};
+ghost use Rattle.pg_read.specs.ListReading.{ReadsList, ReadsMembers};
 ghost use Rattle.pg_read.specs.Reading.{NullAlone};
 
 use crate::from_sql::{FromSql, from_sql_nullable};

@@ -6,7 +6,8 @@ ghost use Rattle.pg_base.specs.Content.{is_row};
 ghost use Rattle.pg_base.proofs.LsnLaws.{lsn_grammar};
 ghost use Rattle.pg_base.specs.Numbers.{FormUnsigned, ReadsUnsigned, first_fault_number};
 ghost use Rattle.pg_base.proofs.SamenessLaws.{equal_equivalence};
-ghost use Rattle.pg_read.specs.Reading.{EveryCell, plain_single};
+ghost use Rattle.pg_read.specs.Reading.{EveryCell};
+ghost use Rattle.pg_read.specs.ReadingLaws.{plain_single};
 
 use crate::from_sql::FromSql;
 use pg_base::fault::Fault;

@@ -4,7 +4,8 @@ ghost use Rattle.pg_base.specs.Moments.{FormTimestamp, ReadsTimestamp, accepted_
 ghost use Rattle.pg_base.proofs.MomentsLaws.{timestamp_grammar};
 ghost use Rattle.pg_base.specs.Numbers.{first_fault_number};
 ghost use Rattle.pg_base.proofs.SamenessLaws.{content_equivalence};
-ghost use Rattle.pg_read.specs.Reading.{EveryCell, plain_single};
+ghost use Rattle.pg_read.specs.Reading.{EveryCell};
+ghost use Rattle.pg_read.specs.ReadingLaws.{plain_single};
 
 use crate::from_sql::FromSql;
 use pg_base::acceptance::is_moment;

@@ -5,7 +5,8 @@ ghost use Rattle.pg_base.specs.Content.{is_row};
 ghost use Rattle.pg_base.specs.Network.{FormAddress, FormCidr, FormInet, ReadsAddress, ReadsCidr, ReadsInet, first_fault_cidr, first_fault_inet};
 ghost use Rattle.pg_base.proofs.NetworkLaws.{address_grammar, cidr_grammar, inet_grammar};
 ghost use Rattle.pg_base.proofs.SamenessLaws.{equal_equivalence};
-ghost use Rattle.pg_read.specs.Reading.{EveryCell, plain_single};
+ghost use Rattle.pg_read.specs.Reading.{EveryCell};
+ghost use Rattle.pg_read.specs.ReadingLaws.{plain_single};
 
 use crate::from_sql::FromSql;
 use pg_base::fault::Fault;

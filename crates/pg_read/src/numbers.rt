@@ -6,7 +6,8 @@ ghost use Rattle.pg_base.specs.Content.{is_row};
 ghost use Rattle.pg_base.proofs.FormatLaws.{bool_grammar, char_grammar, int2_grammar, int4_grammar, int8_grammar, oid_grammar};
 ghost use Rattle.pg_base.specs.Numbers.{FormBool, FormSigned, FormUnsigned, first_fault_number, ReadsBool, ReadsSigned, ReadsUnsigned};
 ghost use Rattle.pg_base.proofs.SamenessLaws.{equal_equivalence};
-ghost use Rattle.pg_read.specs.Reading.{EveryCell, plain_single};
+ghost use Rattle.pg_read.specs.Reading.{EveryCell};
+ghost use Rattle.pg_read.specs.ReadingLaws.{plain_single};
 
 use crate::from_sql::FromSql;
 use pg_base::fault::Fault;

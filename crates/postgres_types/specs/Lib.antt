@@ -1,17 +1,17 @@
 -- The words of reading and writing together, and those of the layers below.
 pub mod BackLaws
-pub mod BoxBack
-pub mod HstoreBack
-pub mod LawfulFormats
-pub mod ListBack
+pub mod BoxBackLaws
+pub mod FormatBackLaws
+pub mod HstoreBackLaws
+pub mod ListBackLaws
 pub mod MomentBack
 pub mod MomentBackLaws
-pub mod OptionBack
+pub mod OptionBackLaws
 pub mod PlainLaws
 pub mod ReadingBack
 pub mod RelatedLists
 pub mod Rewriting
-pub mod SpecialBack
+pub mod SpecialBackLaws
 pub mod WrittenArrays
 pub use Rattle.pg_base.specs.Appending
 pub use Rattle.pg_base.specs.Arrays
@@ -41,11 +41,12 @@ pub use Rattle.pg_base.specs.Special
 pub use Rattle.pg_base.specs.Texts
 pub use Rattle.pg_read.specs.BoxReading
 pub use Rattle.pg_read.specs.Framed
+pub use Rattle.pg_read.specs.ListLaws
 pub use Rattle.pg_read.specs.ListReading
 pub use Rattle.pg_read.specs.OptionReading
 pub use Rattle.pg_read.specs.Reading
+pub use Rattle.pg_read.specs.ReadingLaws
 pub use Rattle.pg_read.specs.RunReading
-pub use Rattle.pg_read.specs.SpecialReading
 pub use Rattle.pg_write.specs.ListWriting
 pub use Rattle.pg_write.specs.OptionWriting
 pub use Rattle.pg_write.specs.ParamWriting

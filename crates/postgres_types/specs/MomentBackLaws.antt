@@ -13,7 +13,7 @@ use Rattle.pg_base.specs.Faults.{Refusal, Outcome}
 use Rattle.pg_base.proofs.FormatLaws.{int8_grammar}
 use Rattle.pg_base.specs.Moments.{base_nanos, cut_micros, IsAfterBase, FormTimestamp, ReadsTimestamp, wire_timestamp}
 use Rattle.pg_base.specs.Numbers.{ReadsSigned, first_fault_number, wire_signed}
-use Rattle.postgres_types.specs.LawfulFormats.{signed_finite, signed_lawful}
+use Rattle.postgres_types.specs.FormatBackLaws.{signed_finite, signed_lawful}
 use Rattle.postgres_types.specs.MomentBack.{KeptMicros, KeptMicrosOfDay}
 use Rattle.postgres_types.specs.PlainLaws.{WrittenAsKept, cut_lawful}
 use Rattle.postgres_types.specs.ReadingBack.{BackKept, IsLawful, KeepsFinite, WrittenFinite}

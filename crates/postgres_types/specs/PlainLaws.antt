@@ -5,7 +5,7 @@ use Rattle.pg_base.specs.Appending.{Wire}
 use Rattle.pg_base.specs.Cells.{Cell}
 use Rattle.pg_base.specs.Faults.{Refusal, Outcome}
 use Rattle.pg_base.specs.Formats.{IsGrammar, ReadsPlain}
-use Rattle.pg_read.specs.Reading.{no_fault}
+use Rattle.pg_read.specs.ReadingLaws.{no_fault}
 use Rattle.postgres_types.specs.ReadingBack.{BackKept, IsLawful, WrittenAsBytes}
 
 -- a value is written as bytes that have no fault and spell what is kept of it, and nothing else; or refused

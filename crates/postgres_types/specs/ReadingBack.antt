@@ -6,9 +6,10 @@ use Rattle.pg_base.specs.declared.format.IsNull.{IsNull}
 use Rattle.pg_base.specs.declared.format.IsNull.TheVariants.{Yes, No}
 use Rattle.pg_base.specs.Appending.{Wire}
 use Rattle.pg_base.specs.Cells.{Cell}
-use Rattle.pg_base.specs.Content.{Content}
-use Rattle.pg_base.specs.Faults.{Outcome, was_null}
+use Rattle.pg_base.specs.Faults.{Outcome}
+use Rattle.pg_base.specs.Formats.{IsWasNull}
 use Rattle.pg_base.specs.Special.{IsFiniteCell, ReadsSpecial, Special, pos_infinity, neg_infinity, value}
+use Rattle.pg_read.specs.BoxReading.{InBox}
 use Rattle.pg_read.specs.ListReading.{ReadsAll}
 use Rattle.pg_read.specs.OptionReading.{IsNoneOutcome}
 
@@ -70,19 +71,9 @@ abbrev pub BackOption : {A : Type 0} → (A → Wire) → (A → Outcome A → T
 BackOption wire back None outcome = IsNoneOutcome outcome
 BackOption wire back (Some v) outcome = IfNull (wire v) (IsNoneOutcome outcome) (InSome (back v) outcome)
 
--- the outcome WasNull
-abbrev pub IsWasNullOutcome : {A : Type 0} → Outcome A → Type 0
-IsWasNullOutcome (Ok v) = ⊥
-IsWasNullOutcome (Err r) = r ≡ was_null
-
--- a box of what the value inside is read back as, or its fault
-abbrev pub InBox : {A B : Type 0} → (B → A) → (Outcome A → Type 0) → Outcome B → Type 0
-InBox inside back (Ok v) = back (Ok (inside v))
-InBox inside back (Err r) = back (Err r)
-
 -- WasNull where the value inside is written as NULL, and otherwise a box of what that is read back as
 abbrev pub BackBox : {A B : Type 0} → (B → A) → (A → Wire) → (A → Outcome A → Type 0) → B → Outcome B → Type 0
-BackBox inside wire back v outcome = IfNull (wire (inside v)) (IsWasNullOutcome outcome) (InBox inside (back (inside v)) outcome)
+BackBox inside wire back v outcome = IfNull (wire (inside v)) (IsWasNull outcome) (InBox inside (back (inside v)) outcome)
 
 -- an infinity
 abbrev pub IsInfinityOutcome : {A B : Type 0} → (B → Special A) → Special A → Outcome B → Type 0
@@ -117,11 +108,6 @@ BackSpecial w seen wire back (value v) outcome = BackValue w seen (wire v) (back
 abbrev pub BackList : {A X : Type 0} → (X → List A) → (A → Outcome A → Type 0) → X → Outcome X → Type 0
 BackList items back x (Ok y) = ReadsAll back (items x) (Ok (items y))
 BackList items back x (Err r) = ReadsAll back (items x) (Err r)
-
--- what a list is read back as by the type of its elements
-abbrev pub BackMembers : {X : Type 0} → (Content → X → Outcome X → Type 0) → Option Content → X → Outcome X → Type 0
-BackMembers lists None x outcome = ⊥
-BackMembers lists (Some member) x outcome = lists member x outcome
 
 -- ---- rewriting
 

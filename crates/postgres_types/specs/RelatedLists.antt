@@ -5,23 +5,16 @@ use Rattle.pg_base.specs.Faults.{Outcome}
 use Rattle.pg_base.specs.Sameness.{SameList}
 use Rattle.pg_read.specs.ListReading.{ReadsAll}
 
--- the items of the lists are related, one after another
-abbrev pub Related : {C D : Type 0} → (C → D → Type 0) → List C → List D → Type 0
-Related related [] [] = Unit {0}
-Related related [] (d ∷ ds) = ⊥
-Related related (c ∷ cs) [] = ⊥
-Related related (c ∷ cs) (d ∷ ds) = related c d × Related related cs ds
-
 module _ {C D : Type 0} (related : C → D → Type 0) where
   -- the lists are as long as each other
-  pub related_length : (cs : List C) (ds : List D) → Related related cs ds → length cs ≡ length ds
+  pub related_length : (cs : List C) (ds : List D) → SameList related cs ds → length cs ≡ length ds
   related_length [] [] h = refl
   related_length [] (d ∷ ds) h = absurd h
   related_length (c ∷ cs) [] h = absurd h
   related_length (c ∷ cs) (d ∷ ds) h = ap suc (related_length cs ds h.1)
 
   -- and related the other way round
-  pub flipped : (cs : List C) (ds : List D) → Related related cs ds → Related (λ d c. related c d) ds cs
+  pub flipped : (cs : List C) (ds : List D) → SameList related cs ds → SameList (λ d c. related c d) ds cs
   flipped [] [] h = tt
   flipped [] (d ∷ ds) h = absurd h
   flipped (c ∷ cs) [] h = absurd h
@@ -29,7 +22,7 @@ module _ {C D : Type 0} (related : C → D → Type 0) where
 
   -- where each item gives what the one related to it gives, so do the lists
   pub related_give : {A : Type 0} (P : C → Outcome A → Type 0) (Q : D → Outcome A → Type 0) → ((c : C) (d : D) (o : Outcome A) → related c d → P c o → Q d o)
-      → (cs : List C) (ds : List D) (o : Outcome (List A)) → Related related cs ds → ReadsAll P cs o → ReadsAll Q ds o
+      → (cs : List C) (ds : List D) (o : Outcome (List A)) → SameList related cs ds → ReadsAll P cs o → ReadsAll Q ds o
   related_give P Q f [] [] (Ok []) h k = tt
   related_give P Q f [] [] (Ok (v ∷ vs)) h k = absurd k
   related_give P Q f [] [] (Err r) h k = absurd k
@@ -41,10 +34,3 @@ module _ {C D : Type 0} (related : C → D → Type 0) where
     | inl z ↦ inl (f c d (Err r) h.0 z)
     | inr z ↦ inr (z.0, f c d (Ok z.0) h.0 z.1, related_give P Q f cs ds (Err r) h.1 z.2)
   ]
-
--- lists that are the same are related by sameness
-pub same_related : {A : Type 0} (same : A → A → Type 0) (vs ws : List A) → SameList same vs ws → Related same vs ws
-same_related same [] [] h = tt
-same_related same [] (w ∷ ws) h = absurd h
-same_related same (v ∷ vs) [] h = absurd h
-same_related same (v ∷ vs) (w ∷ ws) h = (h.0, same_related same vs ws h.1)

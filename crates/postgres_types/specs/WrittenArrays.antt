@@ -10,12 +10,12 @@ use Rattle.pg_base.proofs.CountLaws.{count_is}
 use Rattle.pg_base.specs.Counts.{IsCount, count_bytes}
 use Rattle.pg_base.specs.Faults.{Outcome, transmit}
 use Rattle.pg_base.proofs.FrameLaws.{parts_of}
+use Rattle.pg_base.specs.Sameness.{SameList}
 use Rattle.pg_write.specs.ListWriting.{element_cells, framed, in_front, with_frame, wire_array}
-use Rattle.postgres_types.specs.RelatedLists.{Related}
 
 -- the cells are those that the values are written as
 abbrev pub AllWritten : {A : Type 0} → (A → Wire) → List A → List Cell → Type 0
-AllWritten wire = Related (λ v c. wire v ≡ Ok c)
+AllWritten wire = SameList (λ v c. wire v ≡ Ok c)
 
 has_frame : (c d : Cell) (f : Option (List ℕ)) → with_frame c f ≡ Ok d → c ≡ d
 has_frame c d None e = cc

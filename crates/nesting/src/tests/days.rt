@@ -18,7 +18,8 @@ impl<'a> FromSql<'a> for Days {
     ghost use Rattle.pg_base.proofs.FormatLaws.{int4_grammar};
     ghost use Rattle.postgres_types.specs.Formats.{ReadsPlain};
     ghost use Rattle.postgres_types.specs.Numbers.{FormSigned, first_fault_number};
-    ghost use Rattle.postgres_types.specs.Reading.{EveryCell, plain_single};
+    ghost use Rattle.postgres_types.specs.Reading.{EveryCell};
+    ghost use Rattle.postgres_types.specs.ReadingLaws.{plain_single};
     ghost use Rattle.pg_base.proofs.SamenessLaws.{content_equivalence};
 
     ghost same = { λ v w. v.0 ≡ w.0 };
@@ -100,7 +101,7 @@ impl<'a> Paired<'a> for Days {
     ghost use Rattle.std.specs.Prelude.{◌≡◌, refl};
     ghost use Rattle.std.specs.Int.{w32};
     ghost use Rattle.pg_base.proofs.FormatLaws.{int4_grammar};
-    ghost use Rattle.postgres_types.specs.LawfulFormats.{signed_written};
+    ghost use Rattle.postgres_types.specs.FormatBackLaws.{signed_written};
     ghost use Rattle.postgres_types.specs.Numbers.{FormSigned, first_fault_number, wire_signed};
     ghost use Rattle.postgres_types.specs.PlainLaws.{plain_lawful};
     ghost use Rattle.postgres_types.specs.ReadingBack.{BackKept};
@@ -115,7 +116,7 @@ impl<'a> Paired<'a> for Days {
 /// A day of a finite cell is written as that cell.
 impl<'a> Finite<'a> for Days {
     ghost use Rattle.std.specs.Int.{w32, w64};
-    ghost use Rattle.postgres_types.specs.LawfulFormats.{signed_finite};
+    ghost use Rattle.postgres_types.specs.FormatBackLaws.{signed_finite};
 
     ghost dates = { λ _ _ _ b v. signed_finite w32 w32 b v.0 };
 
@@ -132,7 +133,8 @@ impl<'a> FromSql<'a> for NoDay {
     ghost use Rattle.postgres_types.specs.Content.{is_row};
     ghost use Rattle.postgres_types.specs.Faults.{decode};
     ghost use Rattle.postgres_types.specs.Formats.{ReadsPlain};
-    ghost use Rattle.postgres_types.specs.Reading.{EveryCell, plain_single};
+    ghost use Rattle.postgres_types.specs.Reading.{EveryCell};
+    ghost use Rattle.postgres_types.specs.ReadingLaws.{plain_single};
     ghost use Rattle.pg_base.proofs.SamenessLaws.{equal_equivalence};
 
     ghost same = { λ v w. v ≡ w };

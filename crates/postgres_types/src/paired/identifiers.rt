@@ -1,6 +1,6 @@
 //! Hardware addresses and UUIDs are read back as themselves.
 ghost use Rattle.std.specs.Prelude.{◌≡◌, refl};
-ghost use Rattle.postgres_types.specs.LawfulFormats.{identifier_lawful};
+ghost use Rattle.postgres_types.specs.FormatBackLaws.{identifier_lawful};
 ghost use Rattle.postgres_types.specs.ReadingBack.{BackKept};
 
 use crate::paired::Paired;

@@ -1,8 +1,9 @@
 //! Reading lists back.
 ghost use Rattle.std.specs.Box.{boxed_slice_items};
 ghost use Rattle.pg_base.specs.Lists.{member_of};
-ghost use Rattle.postgres_types.specs.ListBack.{array_lawful, fixed_lawful, same_lists};
-ghost use Rattle.postgres_types.specs.ReadingBack.{BackList, BackMembers};
+ghost use Rattle.pg_read.specs.ListReading.{ReadsMembers};
+ghost use Rattle.postgres_types.specs.ListBackLaws.{array_lawful, fixed_lawful, same_lists};
+ghost use Rattle.postgres_types.specs.ReadingBack.{BackList};
 
 use crate::paired::Paired;
 use std::boxed::BoxedSlice;
@@ -10,7 +11,7 @@ use std::boxed::BoxedSlice;
 /// A list is read back as the list of what its elements are read back as, in order, or the first
 /// refusal among them: a `Box` of an element that was written as NULL is `WasNull`.
 impl<'a, T: Paired<'a>> Paired<'a> for Vec<T> {
-    ghost back = { λ ty. BackMembers (λ member. BackList (λ v. v.items) (T.back member)) (member_of ty) };
+    ghost back = { λ ty. ReadsMembers (λ member. BackList (λ v. v.items) (T.back member)) (member_of ty) };
 
     ghost types = { same_lists T.FromSql.accepted T.ToSql.accepted T.types };
 
@@ -19,7 +20,7 @@ impl<'a, T: Paired<'a>> Paired<'a> for Vec<T> {
 
 /// Read back as a `Vec` of these elements is.
 impl<'a, T: Paired<'a>> Paired<'a> for BoxedSlice<T> {
-    ghost back = { λ ty. BackMembers (λ member. BackList boxed_slice_items (T.back member)) (member_of ty) };
+    ghost back = { λ ty. ReadsMembers (λ member. BackList boxed_slice_items (T.back member)) (member_of ty) };
 
     ghost types = { same_lists T.FromSql.accepted T.ToSql.accepted T.types };
 
@@ -28,7 +29,7 @@ impl<'a, T: Paired<'a>> Paired<'a> for BoxedSlice<T> {
 
 /// Read back as a `Vec` of these elements is.
 impl<'a, T: Paired<'a>, const N: usize> Paired<'a> for [T; N] {
-    ghost back = { λ ty. BackMembers (λ member. BackList (λ vs. vs) (T.back member)) (member_of ty) };
+    ghost back = { λ ty. ReadsMembers (λ member. BackList (λ vs. vs) (T.back member)) (member_of ty) };
 
     ghost types = { same_lists T.FromSql.accepted T.ToSql.accepted T.types };
 

@@ -14,11 +14,11 @@ use Rattle.pg_base.specs.Formats.{Checks, first_fault_of}
 use Rattle.pg_base.specs.Lists.{accepted_list, accepted_member, member_of}
 use Rattle.pg_base.specs.Sameness.{SameList}
 use Rattle.pg_read.specs.ListReading.{ReadsAll, ReadsArray, ReadsChecked, ReadsElements, ReadsFixed, ReadsList, ReadsMembers, end_checks, fixed_checks}
-use Rattle.pg_read.specs.Reading.{no_fault}
+use Rattle.pg_read.specs.ReadingLaws.{no_fault}
 use Rattle.pg_write.specs.ListWriting.{element_cells, framed, in_front, lower_bound_of, wire_array, wire_fixed, wire_list, wire_members}
 use Rattle.postgres_types.specs.BackLaws.{kept}
-use Rattle.postgres_types.specs.ReadingBack.{IsLawful, WrittenAsBytes, BackList, BackMembers}
-use Rattle.postgres_types.specs.RelatedLists.{flipped, related_give, related_length, same_related}
+use Rattle.postgres_types.specs.ReadingBack.{IsLawful, WrittenAsBytes, BackList}
+use Rattle.postgres_types.specs.RelatedLists.{flipped, related_give, related_length}
 use Rattle.postgres_types.specs.WrittenArrays.{AllWritten, array_body, array_cell, elements_written, tested}
 
 -- ---- the values of a list, one after another
@@ -33,7 +33,7 @@ module _ {A : Type 0} (same : A → A → Type 0) (reads : Cell → Outcome A �
       ap (λ u. in_front (framed u) (element_cells wire vs)) (law.same_wire v w h.0) ∙ ap (in_front (framed (wire w))) (same_cells vs ws h.1)
 
   all_same_back : (vs ws : List A) (o : Outcome (List A)) → SameList same vs ws → ReadsAll back vs o → ReadsAll back ws o
-  all_same_back vs ws o h = related_give same back back law.same_back vs ws o (same_related same vs ws h)
+  all_same_back = related_give same back back law.same_back
 
   all_reads : (vs : List A) (cs : List Cell) (o : Outcome (List A)) → AllWritten wire vs cs → ReadsAll back vs o → ReadsAll reads cs o
   all_reads = related_give (λ v c. wire v ≡ Ok c) back reads law.back_reads
@@ -107,7 +107,7 @@ module _ {A X : Type 0} (items : X → List A) (same : A → A → Type 0) (read
 
   list_same_wire : (vs ws : List A) → SameList same vs ws → Written vs ≡ Written ws
   list_same_wire vs ws h =
-      ap (λ n. written_of n (element_cells wire vs)) (related_length same vs ws (same_related same vs ws h))
+      ap (λ n. written_of n (element_cells wire vs)) (related_length same vs ws h)
       ∙ ap (written_of (length ws)) (same_cells same reads wire back law vs ws h)
 
   list_same_back : (x y : X) (o : Outcome X) → SameList same (items x) (items y) → BackList items back x o → BackList items back y o
@@ -251,7 +251,7 @@ module _ {A X : Type 0} (items : X → List A) (same : A → A → Type 0) (acce
   Same x y = SameList same (items x) (items y)
 
   abbrev Back : Option Content → X → Outcome X → Type 0
-  Back = BackMembers (λ member. BackList items (back member))
+  Back = ReadsMembers (λ member. BackList items (back member))
 
   module _ (wanted : ℕ → Bool) (elements : (Cell → Outcome A → Type 0) → ℕ → List Cell → List ℕ → Outcome (List A) → Type 0)
       (its_cells : (r : Cell → Outcome A → Type 0) → ReadsItsCells r wanted (elements r)) where

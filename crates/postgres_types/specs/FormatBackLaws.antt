@@ -1,7 +1,7 @@
 -- Laws of the formats of plain types: each value is written as bytes that read as it, or refused, so the types are lawful.
-use Rattle.std.specs.Prelude.{◌≡◌, ℕ, ℤ, pos, ◌^◌, ◌==◌, ◌&&◌, ◌++◌, nat_le, nat_lt, FitsSigned, Bool, true, false, if◌then◌else◌, List, length, Some, None, Ok, Err, refl}
+use Rattle.std.specs.Prelude.{◌≡◌, ℕ, ℤ, pos, ◌^◌, ◌==◌, ◌++◌, nat_le, nat_lt, FitsSigned, Bool, true, false, if◌then◌else◌, List, length, Some, None, Ok, Err, refl}
 use Rattle.std.proofs.Common.{sym, ◌∙◌, subst, arith}
-use Rattle.std.proofs.lemmas.Bool.{eqb-true, leb-true, ltb-true}
+use Rattle.std.proofs.lemmas.Bool.{and_parts, eqb-true, leb-true, ltb-true}
 use Rattle.std.proofs.lemmas.Str.{IsUtf8-from_is_utf8}
 use Rattle.std.specs.Int.{Width, w32, byte_len}
 use Rattle.std.specs.Str.{is_utf8}
@@ -78,21 +78,17 @@ pub bytes_lawful : {A : Type 0} (bytes_of : A → List ℕ)
 bytes_lawful bytes_of = plain_lawful bytes_of (FormBytes (λ s. s)) first_fault_bytes (bytes_grammar (λ s. s)) wire_bytes (λ s. refl)
 
 -- ---- addresses
-both : (s t : Bool) → (s && t) ≡ true → (s ≡ true) × (t ≡ true)
-both true t h = (refl, h)
-both false t h = let no : ⊥ = cc in absurd no
-
 -- what is a network is spelt by its bytes
 is_spelt : (n : Network) → is_network n ≡ true → FormInet (network_bytes 0 n) n
 is_spelt n h =
-    let k = both _ _ h in
+    let k = and_parts _ _ h in
     (0, refl, eqb-true _ _ k.0, leb-true _ _ k.1)
 
 inet_written : (n : Network) → WrittenAsBytes ReadsInet n (wire_inet n)
 inet_written n = written_if ReadsInet n (is_network n) _ _ (is_spelt n)
 
 cidr_written : (n : Network) → WrittenAsBytes ReadsCidr n (wire_cidr n)
-cidr_written n = written_if ReadsCidr n _ _ _ (λ h. let k = both _ _ h in (is_spelt n k.0, eqb-true _ _ k.1))
+cidr_written n = written_if ReadsCidr n _ _ _ (λ h. let k = and_parts _ _ h in (is_spelt n k.0, eqb-true _ _ k.1))
 
 address_written : (a : IpAddr) → WrittenAsBytes ReadsAddress a (wire_address a)
 address_written a = written_if ReadsAddress a _ _ _ (λ h. (address_bits a, is_spelt (with_netmask a (address_bits a)) h))

@@ -5,9 +5,10 @@ use Rattle.std.specs.Int.{Width}
 use Rattle.pg_base.specs.Appending.{Wire}
 use Rattle.pg_base.specs.Cells.{Cell}
 use Rattle.pg_base.specs.Faults.{Outcome}
-use Rattle.pg_read.specs.BoxReading.{ReadsBox}
+use Rattle.pg_base.specs.Formats.{IsWasNull}
+use Rattle.pg_read.specs.BoxReading.{InBox, ReadsBox}
 use Rattle.postgres_types.specs.BackLaws.{if_null_map}
-use Rattle.postgres_types.specs.ReadingBack.{IsLawful, WrittenAsBytes, IfNull, IsWasNullOutcome, InBox, BackBox, KeepsFinite}
+use Rattle.postgres_types.specs.ReadingBack.{IsLawful, WrittenAsBytes, IfNull, BackBox, KeepsFinite}
 
 module _ {A B : Type 0} (inside : B → A) (same : A → A → Type 0) (reads : Cell → Outcome A → Type 0) (wire : A → Wire) (back : A → Outcome A → Type 0)
     (law : IsLawful same reads wire back) where
@@ -17,25 +18,17 @@ module _ {A B : Type 0} (inside : B → A) (same : A → A → Type 0) (reads : 
 
   -- what a box is read back as, where the value inside is written so
   abbrev BackFrom : Wire → A → Outcome B → Type 0
-  BackFrom w v o = IfNull w (IsWasNullOutcome o) (InBox inside (back v) o)
+  BackFrom w v o = IfNull w (IsWasNull o) (InBox inside (back v) o)
 
   box_same_back : (v w : B) (o : Outcome B) → same (inside v) (inside w) → BackBox inside wire back v o → BackBox inside wire back w o
   box_same_back v w o h k =
-      if_null_map (wire (inside w)) (IsWasNullOutcome o) (InBox inside (back (inside v)) o) (InBox inside (back (inside w)) o) (in_box_map (inside v) (inside w) h o)
+      if_null_map (wire (inside w)) (IsWasNull o) (InBox inside (back (inside v)) o) (InBox inside (back (inside w)) o) (in_box_map (inside v) (inside w) h o)
       (subst (λ u. BackFrom u (inside v) o) (law.same_wire (inside v) (inside w) h) k)
 
   box_written : (v : B) (w : Wire) → WrittenAsBytes reads (inside v) w → WrittenAsBytes (ReadsBox inside reads) v w
   box_written v (Ok None) h = h
   box_written v (Ok (Some b)) h = h
   box_written v (Err r) h = tt
-
-  null_reads : (o : Outcome B) → IsWasNullOutcome o → ReadsBox inside reads None o
-  null_reads (Ok v) h = h
-  null_reads (Err r) h = h
-
-  null_back : (o : Outcome B) → ReadsBox inside reads None o → IsWasNullOutcome o
-  null_back (Ok v) h = h
-  null_back (Err r) h = h
 
   bytes_reads : (b : List ℕ) (v : A) → wire v ≡ Ok (Some b) → (o : Outcome B) → InBox inside (back v) o → ReadsBox inside reads (Some b) o
   bytes_reads b v e (Ok x) h = law.back_reads v (Some b) (Ok (inside x)) e h
@@ -46,11 +39,11 @@ module _ {A B : Type 0} (inside : B → A) (same : A → A → Type 0) (reads : 
   bytes_back b v e (Err r) h = law.reads_back v (Some b) (Err r) e h
 
   box_back_reads : (v : B) (c : Cell) (o : Outcome B) → wire (inside v) ≡ Ok c → BackBox inside wire back v o → ReadsBox inside reads c o
-  box_back_reads v None o e h = null_reads o (subst (λ u. BackFrom u (inside v) o) e h)
+  box_back_reads v None o e h = subst (λ u. BackFrom u (inside v) o) e h
   box_back_reads v (Some b) o e h = bytes_reads b (inside v) e o (subst (λ u. BackFrom u (inside v) o) e h)
 
   box_reads_back : (v : B) (c : Cell) (o : Outcome B) → wire (inside v) ≡ Ok c → ReadsBox inside reads c o → BackBox inside wire back v o
-  box_reads_back v None o e h = subst (λ u. BackFrom u (inside v) o) (sym e) (null_back o h)
+  box_reads_back v None o e h = subst (λ u. BackFrom u (inside v) o) (sym e) h
   box_reads_back v (Some b) o e h = subst (λ u. BackFrom u (inside v) o) (sym e) (bytes_back b (inside v) e o h)
 
   -- boxes are lawful where the values inside are

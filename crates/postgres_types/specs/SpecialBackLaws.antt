@@ -1,6 +1,7 @@
 -- Values with infinities are read back as they are written, and stay finite, where the values inside do both.
-use Rattle.std.specs.Prelude.{◌≡◌, ℕ, List, Some, None, Ok, Err, IsTrue, Bool, true, false, ◌&&◌, refl}
+use Rattle.std.specs.Prelude.{◌≡◌, ℕ, List, Some, None, Ok, Err, IsTrue, Bool, ◌&&◌, refl}
 use Rattle.std.proofs.Common.{sym, subst, inl, inr, true≢false}
+use Rattle.std.proofs.lemmas.Bool.{and_parts}
 use Rattle.std.specs.Int.{Width}
 use Rattle.pg_base.specs.declared.types.built_in.BuiltIn.TheVariants.{Date as DateRow}
 use Rattle.pg_base.specs.Appending.{Wire}
@@ -21,8 +22,7 @@ not_both ty date moment =
 
 -- what is accepted is a type of dates, or of moments
 pub row_accepted : (x y : Bool) → IsTrue (x && y) → IsTrue x
-row_accepted true y h = refl
-row_accepted false y h = absurd (true≢false (sym h))
+row_accepted x y h = (and_parts x y h).0
 
 module _ {A B : Type 0} (w : Width) (seen : B → Special A) where
   form_map : (F G : A → Type 0) → ((v : A) → F v → G v) → (b : List ℕ) (s : Special A) → FormSpecial w F b s → FormSpecial w G b s
@@ -37,8 +37,7 @@ module _ {A B : Type 0} (w : Width) (seen : B → Special A) where
 
   -- what is said of the value inside may be replaced
   special_map : (P Q : Cell → Outcome A → Type 0) (c : Cell) → ((o : Outcome A) → P c o → Q c o) → (o : Outcome B) → ReadsSpecial w seen P c o → ReadsSpecial w seen Q c o
-  special_map P Q None f (Ok v) h = h
-  special_map P Q None f (Err r) h = h
+  special_map P Q None f o h = h
   special_map P Q (Some b) f (Ok v) h = form_map (λ u. P (Some b) (Ok u)) (λ u. Q (Some b) (Ok u)) (λ u. f (Ok u)) b (seen v) h
   special_map P Q (Some b) f (Err r) h = elim h [ inl z ↦ inl z | inr z ↦ inr (z.0, f (Err r) z.1) ]
 

@@ -1,0 +1,106 @@
+-- Laws of reading: a cell has at most one outcome, in plain formats, and in what holds a value that is read.
+use Rattle.std.specs.Prelude.{◌≡◌, ℕ, List, length, Option, Some, None, Ok, Err}
+use Rattle.std.proofs.Common.{sym, ◌∙◌, ap, inl, inr}
+use Rattle.std.specs.Int.{Width}
+use Rattle.pg_base.specs.Cells.{Cell}
+use Rattle.pg_base.specs.Faults.{Refusal, Outcome}
+use Rattle.pg_base.specs.Formats.{Decodes, NotNull, ReadsPlain, IsGrammar}
+use Rattle.pg_base.specs.Sameness.{SameOption}
+use Rattle.pg_base.specs.Special.{Special, pos_infinity, neg_infinity, value, DecodesSpecial, FormSpecial, RefusedSpecial, ReadsSpecial, SameSpecial}
+use Rattle.pg_base.proofs.SpecialLaws.{infinity_width, minus_infinity_width, infinities_apart}
+use Rattle.pg_read.specs.BoxReading.{InBox, ReadsBox}
+use Rattle.pg_read.specs.OptionReading.{ReadsOption}
+use Rattle.pg_read.specs.Reading.{GivesSingle, ReadsSingle}
+
+-- ---- plain formats
+
+-- a value and a fault exclude each other
+pub no_fault : {A : Type 0} (o : Option A) (a : A) → o ≡ None → o ≡ Some a → ⊥
+no_fault o a e f = let bad : None ≡ Some a = sym e ∙ f in cc
+
+-- where bytes have one outcome, and NULL is WasNull, a cell has one
+pub not_null_single : {A : Type 0} (same : A → A → Type 0) (reads : List ℕ → Outcome A → Type 0) → ((b : List ℕ) → GivesSingle same (reads b)) → ReadsSingle same (NotNull reads)
+not_null_single same reads single None (Ok v) s h k = absurd h
+not_null_single same reads single None (Err r) (Ok w) h k = absurd k
+not_null_single same reads single None (Err r) (Err s) h k = h ∙ sym k
+not_null_single same reads single (Some b) r s h k = single b r s h k
+
+decodes_single : {A : Type 0} (same : A → A → Type 0) (form : List ℕ → A → Type 0) (first_fault : List ℕ → Option Refusal) → IsGrammar same form first_fault → (b : List ℕ) → GivesSingle same (Decodes form first_fault b)
+decodes_single same form first_fault law b (Ok v) (Ok w) h k = law.single b v w h k
+decodes_single same form first_fault law b (Ok v) (Err s) h k = no_fault (first_fault b) s (law.passes b v h) k
+decodes_single same form first_fault law b (Err r) (Ok w) h k = no_fault (first_fault b) r (law.passes b w k) h
+decodes_single same form first_fault law b (Err r) (Err s) h k = let e : Some r ≡ Some s = sym h ∙ k in cc
+
+-- a plain format that is a grammar gives a cell one outcome
+pub plain_single : {A : Type 0} (same : A → A → Type 0) (form : List ℕ → A → Type 0) (first_fault : List ℕ → Option Refusal) → IsGrammar same form first_fault → ReadsSingle same (ReadsPlain form first_fault)
+plain_single same form first_fault law = not_null_single same (Decodes form first_fault) (decodes_single same form first_fault law)
+
+-- ---- boxes and options
+
+one_in_box : {A B : Type 0} (inside : B → A) (same : A → A → Type 0) (gives : Outcome A → Type 0) → GivesSingle same gives → GivesSingle (λ v w. same (inside v) (inside w)) (InBox inside gives)
+one_in_box inside same gives single (Ok v) (Ok w) h k = single (Ok (inside v)) (Ok (inside w)) h k
+one_in_box inside same gives single (Ok v) (Err s) h k = single (Ok (inside v)) (Err s) h k
+one_in_box inside same gives single (Err r) (Ok w) h k = single (Err r) (Ok (inside w)) h k
+one_in_box inside same gives single (Err r) (Err s) h k = single (Err r) (Err s) h k
+
+-- one outcome inside gives one of the box
+pub box_single : {A B : Type 0} (inside : B → A) (same : A → A → Type 0) (reads : Cell → Outcome A → Type 0) → ReadsSingle same reads → ReadsSingle (λ v w. same (inside v) (inside w)) (ReadsBox inside reads)
+box_single inside same reads single =
+    not_null_single (λ v w. same (inside v) (inside w)) (λ b. InBox inside (reads (Some b))) (λ b. one_in_box inside same (reads (Some b)) (single (Some b)))
+
+-- one outcome inside gives one of the option
+pub option_single : {A : Type 0} (same : A → A → Type 0) (reads : Cell → Outcome A → Type 0) → ReadsSingle same reads → ReadsSingle (SameOption same) (ReadsOption reads)
+option_single same reads single None (Ok None) (Ok None) h k = tt
+option_single same reads single None (Ok None) (Ok (Some w)) h k = absurd k
+option_single same reads single None (Ok None) (Err s) h k = absurd k
+option_single same reads single None (Ok (Some v)) s h k = absurd h
+option_single same reads single None (Err r) s h k = absurd h
+option_single same reads single (Some b) (Ok None) s h k = absurd h
+option_single same reads single (Some b) (Ok (Some v)) (Ok None) h k = absurd k
+option_single same reads single (Some b) (Ok (Some v)) (Ok (Some w)) h k = single (Some b) (Ok v) (Ok w) h k
+option_single same reads single (Some b) (Ok (Some v)) (Err s) h k = single (Some b) (Ok v) (Err s) h k
+option_single same reads single (Some b) (Err r) (Ok None) h k = absurd k
+option_single same reads single (Some b) (Err r) (Ok (Some w)) h k = single (Some b) (Err r) (Ok w) h k
+option_single same reads single (Some b) (Err r) (Err s) h k = single (Some b) (Err r) (Err s) h k
+
+-- ---- infinities
+
+module _ {A : Type 0} (w : Width) (same : A → A → Type 0) (reads : Cell → Outcome A → Type 0) (single : ReadsSingle same reads) (b : List ℕ) where
+  abbrev Forms : Special A → Type 0
+  Forms = FormSpecial w (λ v. reads (Some b) (Ok v)) b
+
+  abbrev Refused : Refusal → Type 0
+  Refused = RefusedSpecial w (λ f. reads (Some b) (Err f)) b
+
+  one_form : (s t : Special A) → Forms s → Forms t → SameSpecial same s t
+  one_form pos_infinity pos_infinity h k = tt
+  one_form pos_infinity neg_infinity h k = infinities_apart w (sym h ∙ k)
+  one_form pos_infinity (value u) h k = k.0.not_infinity h
+  one_form neg_infinity pos_infinity h k = infinities_apart w (sym k ∙ h)
+  one_form neg_infinity neg_infinity h k = tt
+  one_form neg_infinity (value u) h k = k.0.not_minus_infinity h
+  one_form (value v) pos_infinity h k = h.0.not_infinity k
+  one_form (value v) neg_infinity h k = h.0.not_minus_infinity k
+  one_form (value v) (value u) h k = single (Some b) (Ok v) (Ok u) h.1 k.1
+
+  form_or_refused : (s : Special A) (r : Refusal) → Forms s → Refused r → ⊥
+  form_or_refused pos_infinity r h k = elim k [ inl z ↦ z.0 (ap length h ∙ infinity_width w) | inr z ↦ z.0.not_infinity h ]
+  form_or_refused neg_infinity r h k = elim k [ inl z ↦ z.0 (ap length h ∙ minus_infinity_width w) | inr z ↦ z.0.not_minus_infinity h ]
+  form_or_refused (value v) r h k = elim k [ inl z ↦ z.0 h.0.width | inr z ↦ single (Some b) (Ok v) (Err r) h.1 z.1 ]
+
+  one_refusal : (r s : Refusal) → Refused r → Refused s → r ≡ s
+  one_refusal r s h k = elim h [
+    | inl y ↦ elim k [ inl z ↦ y.1 ∙ sym z.1 | inr z ↦ absurd (y.0 z.0.width) ]
+    | inr y ↦ elim k [ inl z ↦ absurd (z.0 y.0.width) | inr z ↦ single (Some b) (Err r) (Err s) y.1 z.1 ]
+  ]
+
+  one_decoded : {B : Type 0} (seen : B → Special A) → GivesSingle (λ s t. SameSpecial same (seen s) (seen t)) (DecodesSpecial w seen (reads (Some b)) b)
+  one_decoded seen (Ok s) (Ok t) h k = one_form (seen s) (seen t) h k
+  one_decoded seen (Ok s) (Err f) h k = form_or_refused (seen s) f h k
+  one_decoded seen (Err r) (Ok t) h k = form_or_refused (seen t) r k h
+  one_decoded seen (Err r) (Err f) h k = one_refusal r f h k
+
+-- one outcome inside gives one outcome of the values with infinities
+pub special_single : {A B : Type 0} (w : Width) (seen : B → Special A) (same : A → A → Type 0) (reads : Cell → Outcome A → Type 0) → ReadsSingle same reads → ReadsSingle (λ s t. SameSpecial same (seen s) (seen t)) (ReadsSpecial w seen reads)
+special_single w seen same reads single =
+    not_null_single (λ s t. SameSpecial same (seen s) (seen t)) (λ b. DecodesSpecial w seen (reads (Some b)) b) (λ b. one_decoded w same reads single b seen)
