@@ -14,13 +14,10 @@ use bytes::BytesMut;
 use pg_base::acceptance::member_type;
 use pg_base::fault::Fault;
 use pg_base::format::{Format, IsNull};
-use pg_base::protocol::array_to_sql;
+use pg_base::protocol::{MAX_LEN, array_to_sql};
 use pg_base::types::PgType;
 use std::alloc::Global;
 use std::boxed::BoxedSlice;
-
-/// The most members of an array, and the most bytes of a member's cell.
-const MAX_LEN: usize = 2_147_483_647;
 
 /// An array of a type that `T` writes (`array_send`): one dimension, the member type's OID, the
 /// elements in their order, and the lower bound 1, or 0 for OID_VECTOR and INT2_VECTOR. More than

@@ -9,11 +9,9 @@ use crate::to_sql::ToSql;
 use bytes::{BufMut, BytesMut};
 use pg_base::fault::Fault;
 use pg_base::format::IsNull;
+use pg_base::protocol::MAX_LEN;
 use pg_base::types::PgType;
 use std::alloc::Global;
-
-/// The most bytes of a parameter's cell.
-const MAX_CELL: usize = 2_147_483_647;
 
 /// How many bytes the length of a cell takes.
 const LEN: usize = 4;
@@ -69,7 +67,7 @@ fn frame_from(start: usize, out: &mut BytesMut) -> Result<(), Fault>
     ensures { FramesFrom start out.old.items out.new.items result }
 {
     let len = out.len() - start - LEN;
-    if len > MAX_CELL {
+    if len > MAX_LEN {
         return Err(Fault::Transmit);
     }
     set_len(start, len as u32, out);

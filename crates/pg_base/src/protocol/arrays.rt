@@ -8,7 +8,7 @@ ghost use Rattle.pg_base.specs.Appending.{Appends, Extends, HasRoomFor, Measures
 ghost use Rattle.pg_base.specs.Cells.{cell_of, frames};
 
 use super::counts::{split_cell, split_count};
-use super::frames::{extend_by_frame, frame_len};
+use super::frames::{MAX_LEN, extend_by_frame, frame_len};
 use crate::fault::Fault;
 use crate::types::Oid;
 use bytes::BytesMut;
@@ -97,9 +97,6 @@ impl<'a> ArrayCells<'a> {
     }
 }
 
-/// The most cells of an array.
-const MAX_CELLS: usize = 2_147_483_647;
-
 /// The bytes in front of the cells' frames.
 const HEAD_LEN: usize = 20;
 
@@ -117,7 +114,7 @@ pub fn array_to_sql(
 ) -> Result<(), Fault>
     ensures { Appends (array_bytes lower_bound oid (map owned_cell cells.now)) out.old out.new result }
 {
-    if cells.len() > MAX_CELLS {
+    if cells.len() > MAX_LEN {
         return Err(Fault::Transmit);
     }
     out.reserve(HEAD_LEN + frames_len(cells)?)?;

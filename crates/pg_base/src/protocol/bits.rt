@@ -6,12 +6,10 @@ ghost use Rattle.pg_base.specs.Formats.{Decodes};
 ghost use Rattle.pg_base.specs.Appending.{Appends};
 
 use super::counts::split_count;
+use super::frames::MAX_LEN;
 use crate::fault::Fault;
 use bytes::BytesMut;
 use std::alloc::Global;
-
-/// The most bits of a cell.
-const MAX_BITS: usize = 2_147_483_647;
 
 /// The bits of a cell, in place.
 #[derive(Debug, Clone, Copy)]
@@ -67,7 +65,7 @@ pub fn varbit_to_sql(
     requires { length bytes.now ≡ bytes_for len }
     ensures { Appends (bits_cell (first_bits len bytes.now)) out.old out.new result }
 {
-    if len > MAX_BITS {
+    if len > MAX_LEN {
         return Err(Fault::Transmit);
     }
     out.reserve(4 + bytes.len())?;

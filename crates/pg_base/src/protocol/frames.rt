@@ -7,8 +7,8 @@ use crate::fault::Fault;
 use bytes::BytesMut;
 use std::alloc::Global;
 
-/// The most bytes of a cell that has a frame.
-const MAX_CELL: usize = 2_147_483_647;
+/// The greatest length and the greatest count that a cell states: that of an `i32`.
+pub const MAX_LEN: usize = 2_147_483_647;
 
 /// Appends the frame of a cell, of which `None` is NULL: its length in 4 bytes, highest first, and
 /// its bytes; for NULL the length -1. A cell of more than 2,147,483,647 bytes is `Transmit`.
@@ -28,7 +28,7 @@ pub(super) fn frame_len(cell: Option<&[u8]>) -> Result<usize, Fault>
     let Some(bytes) = cell else {
         return Ok(4);
     };
-    if bytes.len() > MAX_CELL {
+    if bytes.len() > MAX_LEN {
         return Err(Fault::Transmit);
     }
     Ok(4 + bytes.len())

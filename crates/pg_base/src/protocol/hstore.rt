@@ -8,7 +8,7 @@ ghost use Rattle.pg_base.specs.Formats.{Decodes, first_fault_of};
 ghost use Rattle.pg_base.specs.Hstore.{SpellsCount, SpellsEntry, SpellsText, TakesEntry, entry_checks, hstore_bytes, lent_entry, value_checks};
 
 use super::counts::{split_cell, split_count};
-use super::frames::{frame_len, frame_to_sql};
+use super::frames::{MAX_LEN, frame_len, frame_to_sql};
 use super::numbers::int4_to_sql;
 use super::texts::text_from_sql;
 use crate::fault::Fault;
@@ -100,9 +100,6 @@ fn split_text(bytes: &[u8]) -> Result<(Option<&str>, &[u8]), Fault>
     Ok((Some(text_from_sql(text)?), bytes))
 }
 
-/// The most entries of an hstore.
-const MAX_ENTRIES: usize = 2_147_483_647;
-
 /// Appends an hstore (`hstore_send`): the number of its entries in 4 bytes, highest first, and for
 /// each entry, in the order of the list, the frame of its key and the frame of its value, which for
 /// NULL is the length -1. Where the number of entries, a key or a value passes 2,147,483,647 it
@@ -134,7 +131,7 @@ fn text_frame_to_sql(alloc: Global, text: Option<&str>, out: &mut BytesMut) -> R
 fn hstore_len(entries: &[(&str, Option<&str>)]) -> Result<usize, Fault>
     ensures { Measures (hstore_bytes (map lent_entry entries.now)) result }
 {
-    if entries.len() > MAX_ENTRIES {
+    if entries.len() > MAX_LEN {
         return Err(Fault::Transmit);
     }
     let mut len = 4;

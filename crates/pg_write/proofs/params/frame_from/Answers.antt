@@ -2,10 +2,10 @@ use Rattle.std.proofs.Common.{◌≡◌, ◌<◌, ◌≤◌, ◌-◌, ◌+◌, d
 use Rattle.pg_write.proofs.ParamFrames.{long_frame, made_frame}
 use Rattle.pg_write.proofs.params.frame_from.Goals as goal
 
-pub returns-then-len-gt-MAX_CELL : goal.returns-then-len-gt-MAX_CELL
-returns-then-len-gt-MAX_CELL c =
+pub returns-then-len-gt-MAX_LEN : goal.returns-then-len-gt-MAX_LEN
+returns-then-len-gt-MAX_LEN c =
     let cell = drop (c.args.start + 4) c.args.out.now.items in
-    let many : 2147483647 < length cell = omega (arith, c.if-len-gt-MAX_CELL.true, c.len.ensures.value, length-drop (c.args.start + 4) c.args.out.now.items) in
+    let many : 2147483647 < length cell = omega (arith, c.if-len-gt-MAX_LEN.true, c.len.ensures.value, length-drop (c.args.start + 4) c.args.out.now.items) in
     (refl, refl, long_frame cell many)
 
 pub returns : goal.returns
@@ -13,5 +13,5 @@ returns c =
     let cell = drop (c.args.start + 4) c.args.out.now.items in
     let len = c.len.result - c.args.start - 4 in
     let same : len ≡ length cell = omega (arith, c.len.ensures.value, length-drop (c.args.start + 4) c.args.out.now.items) in
-    let few : length cell ≤ 2147483647 = omega (arith, same, c.if-len-gt-MAX_CELL.false) in
+    let few : length cell ≤ 2147483647 = omega (arith, same, c.if-len-gt-MAX_LEN.false) in
     (_, made_frame cell len few same, c.set_len.ensures)

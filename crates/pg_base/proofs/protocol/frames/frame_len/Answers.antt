@@ -9,5 +9,5 @@ returns-in_default-clause-len c = (be w32 (negsuc 0), rw c.in_default.is refl, r
 
 pub returns-clause-len : goal.returns-clause-len
 returns-clause-len c =
-    let short = short_frame c.in-Some.bytes.now c.if-bytes-gt-MAX_CELL.false in
+    let short = short_frame c.in-Some.bytes.now c.if-bytes-gt-MAX_LEN.false in
     (short.0, rw c.in-Some.is short.1, short.2)

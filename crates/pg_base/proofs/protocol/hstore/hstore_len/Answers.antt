@@ -30,4 +30,4 @@ loop-key-preserved c =
 pub returns : goal.returns
 returns c =
     let so_far = c.loop-key.invariant in
-    (_, short_list c.args.entries.now c.loop-key.key-index so_far.0 c.if-entries-gt-MAX_ENTRIES.false c.loop-key-test.false so_far.1, omega (arith, so_far.2))
+    (_, short_list c.args.entries.now c.loop-key.key-index so_far.0 c.if-entries-gt-MAX_LEN.false c.loop-key-test.false so_far.1, omega (arith, so_far.2))
