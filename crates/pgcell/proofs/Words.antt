@@ -1,9 +1,8 @@
 -- Lemmas on what a line asks for.
-use Rattle.std.proofs.Common.{◌≡◌, ℕ, List, [], ◌∷◌, ◌++◌, Bool, true, false, Some, None, option_map, cond, IsUtf8, refl, ap, ◌∙◌}
+use Rattle.std.proofs.Common.{◌≡◌, ℕ, List, [], ◌∷◌, ◌++◌, Bool, true, false, Some, None, option_map, cond, if◌then◌else◌, IsUtf8, refl, ap, ◌∙◌}
 use Rattle.std.specs.Str.{is_utf8}
 use Rattle.std.proofs.lemmas.Bool.{eq-eqb}
 use Rattle.std.proofs.lemmas.Str.{IsUtf8-from_is_utf8}
-use Rattle.pgcell.specs.Request.{lsn_of_text}
 use Rattle.pgcell.specs.Split.{Lacks, split}
 
 -- the first part ends at the first separator
@@ -23,7 +22,7 @@ split_none separator (byte ∷ bytes) h =
     ap (λ t. cond t (Some ([], bytes)) (rest (split separator bytes))) h.0
     ∙ ap rest (split_none separator bytes h.1)
 
--- what is no UTF-8 asks for no log position
-pub no_lsn : (text : List ℕ) (told : Bool) → is_utf8 text ≡ told → (IsUtf8 text → ⊥) → None ≡ lsn_of_text text
-no_lsn text true e h = absurd (h (IsUtf8-from_is_utf8 text e))
-no_lsn text false e h = rw e refl
+-- what is no UTF-8 fails the test for it
+pub no_text : {A : Type 0} (text : List ℕ) (x : A) (told : Bool) → is_utf8 text ≡ told → (IsUtf8 text → ⊥) → None ≡ (if is_utf8 text then Some x else None)
+no_text text x true e h = absurd (h (IsUtf8-from_is_utf8 text e))
+no_text text x false e h = rw e refl

@@ -1,5 +1,6 @@
 -- What `norm` answers.
-use Rattle.std.specs.Prelude.{◌≡◌, ℕ, ◌++◌, Bool, List, [], ◌∷◌, Option, Some, None, Result, Ok, Err, IfSome, ◌⊎◌, codes, map, string_bytes, String, Vec}
+use Rattle.std.specs.Prelude.{◌≡◌, ℕ, ◌++◌, Bool, List, [], ◌∷◌, Option, Some, None, Result, Ok, Err, IfSome, ◌⊎◌, codes, cond, map, string_bytes, String, Vec}
+use Prim.Native.String.{String as Literal}
 use Rattle.std.specs.Fmt.{decimal}
 use Rattle.std.specs.Int.{w8, w16, w32, w64}
 use Rattle.std.specs.Global.{Global}
@@ -31,10 +32,7 @@ use Rattle.pg_base.specs.declared.fault.Fault.{Fault}
 use Rattle.pg_base.specs.declared.format.IsNull.{IsNull}
 use Rattle.pg_base.specs.declared.types.built_in.BuiltIn.{BuiltIn as Row}
 use Rattle.pg_base.specs.declared.types.built_in.BuiltIn.TheVariants.{Bool as BoolRow, BoolArray, Char as CharRow, CharArray, Int2 as Int2Row, Int2Array, Int4 as Int4Row, Int4Array, Int8 as Int8Row, Int8Array, Oid as OidRow, OidArray, Text as TextRow, TextArray, Varchar as VarcharRow, VarcharArray, Bpchar as BpcharRow, BpcharArray, Name as NameRow, NameArray, Bytea as ByteaRow, ByteaArray, Bit as BitRow, BitArray, Varbit as VarbitRow, VarbitArray, Inet as InetRow, InetArray, Cidr as CidrRow, CidrArray, Macaddr as MacaddrRow, MacaddrArray, Uuid as UuidRow, UuidArray, PgLsn as PgLsnRow, PgLsnArray, Date as DateRow, DateArray, Time as TimeRow, TimeArray, Timestamp as TimestampRow, TimestampArray, Timestamptz as TimestamptzRow, TimestamptzArray, Unknown as UnknownRow, Int2Vector as Int2VectorRow, OidVector as OidVectorRow}
-use Rattle.pgcell.specs.Names.{type_in}
-use Rattle.pgcell.specs.declared.names.Base.{Base}
-use Rattle.pgcell.specs.declared.names.Base.TheVariants.{Bool as BoolName, Char, Int2, Int4, Int8, Oid, Text, Varchar, Bpchar, Name, Unknown, Bytea, Bit, Varbit, Inet, Addr, Cidr, Macaddr, Uuid, PgLsn, Date, DateInf, Time, Timestamp, TimestampInf, Timestamptz, Unix, UnixInf, Int2Vector, OidVector, Ltree, Hstore}
-use Rattle.pgcell.specs.declared.names.Conversion.{Conversion}
+use Rattle.pgcell.specs.Names.{same_word, type_in}
 use Rattle.pgcell.specs.declared.names.Form.{Form}
 use Rattle.pgcell.specs.declared.names.Form.TheVariants.{Plain, Optional, Array, OptionalArray}
 
@@ -113,41 +111,59 @@ Alone own = AnswersIn own None
 abbrev pub Map : Type 0
 Map = HashMap (String Global) (Option (String Global)) (BuildHasherDefault FoldHasher)
 
--- what a base name stands for: its Postgres type and the type of its arrays, and how its Rust type reads and writes a cell
-abbrev pub AnswersBase : Base → Form → Cell → List ℕ → Type 0
-AnswersBase BoolName = ByRows BoolRow BoolArray (RewrittenPlain ReadsBool wire_bool)
-AnswersBase Char = ByRows CharRow CharArray (RewrittenPlain (ReadsSigned w8) (wire_signed w8))
-AnswersBase Int2 = ByRows Int2Row Int2Array (RewrittenPlain (ReadsSigned w16) (wire_signed w16))
-AnswersBase Int4 = ByRows Int4Row Int4Array (RewrittenPlain (ReadsSigned w32) (wire_signed w32))
-AnswersBase Int8 = ByRows Int8Row Int8Array (RewrittenPlain (ReadsSigned w64) (wire_signed w64))
-AnswersBase Oid = ByRows OidRow OidArray (RewrittenPlain (ReadsUnsigned w32) (wire_unsigned w32))
-AnswersBase Text = ByRows TextRow TextArray RewrittenText
-AnswersBase Varchar = ByRows VarcharRow VarcharArray RewrittenText
-AnswersBase Bpchar = ByRows BpcharRow BpcharArray RewrittenText
-AnswersBase Name = ByRows NameRow NameArray RewrittenText
-AnswersBase Unknown = Alone (BuiltInType UnknownRow) RewrittenText
-AnswersBase Bytea = ByRows ByteaRow ByteaArray (RewrittenPlain {A = Vec ℕ Global} (ReadsBytes (λ v. v.items)) (λ v. wire_bytes v.items))
-AnswersBase Bit = ByRows BitRow BitArray (RewrittenPlain (ReadsBits (λ v. v)) wire_bits)
-AnswersBase Varbit = ByRows VarbitRow VarbitArray (RewrittenPlain (ReadsBits (λ v. v)) wire_bits)
-AnswersBase Inet = ByRows InetRow InetArray (RewrittenPlain ReadsInet wire_inet)
-AnswersBase Addr = ByRows InetRow InetArray (RewrittenPlain ReadsAddress wire_address)
-AnswersBase Cidr = ByRows CidrRow CidrArray (RewrittenPlain ReadsCidr wire_cidr)
-AnswersBase Macaddr = ByRows MacaddrRow MacaddrArray (RewrittenPlain (ReadsIdentifier 6) (wire_identifier 6))
-AnswersBase Uuid = ByRows UuidRow UuidArray (RewrittenPlain (ReadsIdentifier 16) (wire_identifier 16))
-AnswersBase PgLsn = ByRows PgLsnRow PgLsnArray (RewrittenPlain (ReadsUnsigned w64) (wire_unsigned w64))
-AnswersBase Date = ByRows DateRow DateArray (RewrittenPlain ReadsDate wire_date)
-AnswersBase DateInf = ByRows DateRow DateArray (RewrittenPlain (ReadsSpecial w32 date_seen ReadsDate) (λ v. wire_special w32 wire_date (date_seen v)))
-AnswersBase Time = ByRows TimeRow TimeArray (RewrittenPlain ReadsTime wire_time)
-AnswersBase Timestamp = ByRows TimestampRow TimestampArray (RewrittenPlain ReadsDateTime wire_datetime)
-AnswersBase TimestampInf = ByRows TimestampRow TimestampArray (RewrittenPlain (ReadsSpecial w64 timestamp_seen ReadsDateTime) (λ v. wire_special w64 wire_datetime (timestamp_seen v)))
-AnswersBase Timestamptz = ByRows TimestamptzRow TimestamptzArray (RewrittenPlain ReadsInstant wire_instant)
-AnswersBase Unix = ByRows TimestampRow TimestampArray (RewrittenPlain (ReadsTimestamp nanos_of) (λ v. wire_timestamp (nanos_of v)))
-AnswersBase UnixInf = ByRows TimestampRow TimestampArray (RewrittenPlain (ReadsSpecial w64 timestamp_seen (ReadsTimestamp nanos_of)) (λ v. wire_special w64 (λ u. wire_timestamp (nanos_of u)) (timestamp_seen v)))
-AnswersBase Int2Vector = Alone (BuiltInType Int2VectorRow) (RewrittenAs (ReadsVec (λ _. ReadsSigned w16)) (wire_vec (λ _. wire_signed w16)))
-AnswersBase OidVector = Alone (BuiltInType OidVectorRow) (RewrittenAs (ReadsVec (λ _. ReadsUnsigned w32)) (wire_vec (λ _. wire_unsigned w32)))
-AnswersBase Ltree = Alone (MadeType (codes "ltree") 100001 SimpleKind (codes "public")) RewrittenText
-AnswersBase Hstore = Alone (MadeType (codes "hstore") 100002 SimpleKind (codes "public")) (RewrittenPlain {A = Map} ReadsHstore (λ m. wire_hstore (map owned_entry m.entries)))
+-- what one base name is answered, and what the others are
+infix 5 if◌is◌then◌else◌
+abbrev pub if◌is◌then◌else◌ : List ℕ → Literal → (Form → Cell → List ℕ → Type 0) → (Form → Cell → List ℕ → Type 0) → Form → Cell → List ℕ → Type 0
+if base is name then answered else others = cond (same_word base (codes name)) answered others
 
--- the text answers `norm` of what a name stands for, and a cell
-abbrev pub AnswersNorm : Conversion → Cell → List ℕ → Type 0
-AnswersNorm conversion = AnswersBase conversion.base conversion.form
+-- a word that is no base name is a bad line
+abbrev pub BadLine : Form → Cell → List ℕ → Type 0
+BadLine form cell text = text ≡ codes "bad line"
+
+-- what a base name stands for, of no number, text, date, time or moment: its Postgres type and the type of its arrays, and
+-- how its Rust type reads and writes a cell
+unfoldable pub AnswersOther : List ℕ → Form → Cell → List ℕ → Type 0
+AnswersOther base =
+    if base is "bytea" then ByRows ByteaRow ByteaArray (RewrittenPlain {A = Vec ℕ Global} (ReadsBytes (λ v. v.items)) (λ v. wire_bytes v.items))
+    else if base is "bit" then ByRows BitRow BitArray (RewrittenPlain (ReadsBits (λ v. v)) wire_bits)
+    else if base is "varbit" then ByRows VarbitRow VarbitArray (RewrittenPlain (ReadsBits (λ v. v)) wire_bits)
+    else if base is "inet" then ByRows InetRow InetArray (RewrittenPlain ReadsInet wire_inet)
+    else if base is "addr" then ByRows InetRow InetArray (RewrittenPlain ReadsAddress wire_address)
+    else if base is "cidr" then ByRows CidrRow CidrArray (RewrittenPlain ReadsCidr wire_cidr)
+    else if base is "macaddr" then ByRows MacaddrRow MacaddrArray (RewrittenPlain (ReadsIdentifier 6) (wire_identifier 6))
+    else if base is "uuid" then ByRows UuidRow UuidArray (RewrittenPlain (ReadsIdentifier 16) (wire_identifier 16))
+    else if base is "pg_lsn" then ByRows PgLsnRow PgLsnArray (RewrittenPlain (ReadsUnsigned w64) (wire_unsigned w64))
+    else if base is "int2vector" then Alone (BuiltInType Int2VectorRow) (RewrittenAs (ReadsVec (λ _. ReadsSigned w16)) (wire_vec (λ _. wire_signed w16)))
+    else if base is "oidvector" then Alone (BuiltInType OidVectorRow) (RewrittenAs (ReadsVec (λ _. ReadsUnsigned w32)) (wire_vec (λ _. wire_unsigned w32)))
+    else if base is "hstore" then Alone (MadeType (codes "hstore") 100002 SimpleKind (codes "public")) (RewrittenPlain {A = Map} ReadsHstore (λ m. wire_hstore (map owned_entry m.entries)))
+    else BadLine
+
+-- the same, also of a date, a time or a moment
+unfoldable pub AnswersMoment : List ℕ → Form → Cell → List ℕ → Type 0
+AnswersMoment base =
+    if base is "date" then ByRows DateRow DateArray (RewrittenPlain ReadsDate wire_date)
+    else if base is "date_inf" then ByRows DateRow DateArray (RewrittenPlain (ReadsSpecial w32 date_seen ReadsDate) (λ v. wire_special w32 wire_date (date_seen v)))
+    else if base is "time" then ByRows TimeRow TimeArray (RewrittenPlain ReadsTime wire_time)
+    else if base is "timestamp" then ByRows TimestampRow TimestampArray (RewrittenPlain ReadsDateTime wire_datetime)
+    else if base is "timestamp_inf" then ByRows TimestampRow TimestampArray (RewrittenPlain (ReadsSpecial w64 timestamp_seen ReadsDateTime) (λ v. wire_special w64 wire_datetime (timestamp_seen v)))
+    else if base is "timestamptz" then ByRows TimestamptzRow TimestamptzArray (RewrittenPlain ReadsInstant wire_instant)
+    else if base is "unix" then ByRows TimestampRow TimestampArray (RewrittenPlain (ReadsTimestamp nanos_of) (λ v. wire_timestamp (nanos_of v)))
+    else if base is "unix_inf" then ByRows TimestampRow TimestampArray (RewrittenPlain (ReadsSpecial w64 timestamp_seen (ReadsTimestamp nanos_of)) (λ v. wire_special w64 (λ u. wire_timestamp (nanos_of u)) (timestamp_seen v)))
+    else AnswersOther base
+
+-- the text answers `norm` of a base name in a form, and a cell: the same of any base name, also of a number or a text
+abbrev pub AnswersNorm : List ℕ → Form → Cell → List ℕ → Type 0
+AnswersNorm base =
+    if base is "bool" then ByRows BoolRow BoolArray (RewrittenPlain ReadsBool wire_bool)
+    else if base is "char" then ByRows CharRow CharArray (RewrittenPlain (ReadsSigned w8) (wire_signed w8))
+    else if base is "int2" then ByRows Int2Row Int2Array (RewrittenPlain (ReadsSigned w16) (wire_signed w16))
+    else if base is "int4" then ByRows Int4Row Int4Array (RewrittenPlain (ReadsSigned w32) (wire_signed w32))
+    else if base is "int8" then ByRows Int8Row Int8Array (RewrittenPlain (ReadsSigned w64) (wire_signed w64))
+    else if base is "oid" then ByRows OidRow OidArray (RewrittenPlain (ReadsUnsigned w32) (wire_unsigned w32))
+    else if base is "text" then ByRows TextRow TextArray RewrittenText
+    else if base is "varchar" then ByRows VarcharRow VarcharArray RewrittenText
+    else if base is "bpchar" then ByRows BpcharRow BpcharArray RewrittenText
+    else if base is "name" then ByRows NameRow NameArray RewrittenText
+    else if base is "unknown" then Alone (BuiltInType UnknownRow) RewrittenText
+    else if base is "ltree" then Alone (MadeType (codes "ltree") 100001 SimpleKind (codes "public")) RewrittenText
+    else AnswersMoment base

@@ -6,9 +6,9 @@ use Rattle.std.specs.Str.Parse.{digits_value}
 use Rattle.hex.specs.Hex.{decode_of}
 use Rattle.hex.specs.declared.error.FromHexError.{FromHexError}
 use Rattle.postgres_types.specs.Cells.{Cell}
-use Rattle.pgcell.specs.Names.{same_word, conversion_of}
+use Rattle.pgcell.specs.Names.{same_word, name_of, seen_name}
 use Rattle.pgcell.specs.Split.{split}
-use Rattle.pgcell.specs.declared.names.Conversion.{Conversion}
+use Rattle.pgcell.specs.declared.names.Form.{Form}
 use Rattle.pgcell.specs.declared.request.Request.{Request}
 use Rattle.pgcell.specs.declared.request.Request.TheVariants.{Norm, TypeOf, Lsn}
 
@@ -34,14 +34,14 @@ oid_of_word word =
 
 -- what is asked for: to rewrite a cell, to show a type, to show a log position
 pub data Asked : Type 0 where
-  norm : Conversion → Cell → Asked
+  norm : List ℕ × Form → Cell → Asked
   type_of : ℕ → Asked
   lsn : List ℕ → Asked
 
 -- `norm NAME CELL`
 abbrev pub norm_of : List ℕ → Option Asked
 norm_of words =
-    option_and_then (λ parts. option_and_then (λ c. option_map (norm c) (cell_of_word parts.1)) (conversion_of parts.0)) (split 32 words)
+    option_and_then (λ parts. option_and_then (λ name. option_map (norm name) (cell_of_word parts.1)) (name_of parts.0)) (split 32 words)
 
 -- `lsn TEXT`, the whole rest of the line, which is UTF-8
 abbrev pub lsn_of_text : List ℕ → Option Asked
@@ -66,6 +66,6 @@ seen_bytes (Some bytes) = Some bytes.items
 
 -- what a request asks for
 abbrev pub seen : Request → Asked
-seen (Norm conversion cell) = norm conversion (seen_bytes cell)
+seen (Norm name cell) = norm (seen_name name) (seen_bytes cell)
 seen (TypeOf oid) = type_of oid
 seen (Lsn text) = lsn text.now

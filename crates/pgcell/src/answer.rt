@@ -18,7 +18,7 @@ pub fn answer(alloc: Global, line: &[u8], pending: &mut Vec<u8>) -> Result<(), A
 {
     match Request::parse(alloc, line)? {
         None => pending.extend_from_slice(b"bad line"),
-        Some(Request::Norm(conversion, cell)) => norm(alloc, conversion, lent(&cell), pending),
+        Some(Request::Norm(name, cell)) => norm(alloc, name, lent(&cell), pending),
         Some(Request::TypeOf(oid)) => show_type(alloc, oid, pending),
         Some(Request::Lsn(text)) => show_lsn(alloc, text, pending),
     }

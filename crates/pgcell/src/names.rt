@@ -1,46 +1,9 @@
-//! What a name stands for.
+//! What a name is: a base name in a form.
 ghost use Rattle.std.specs.Prelude.{◌≡◌, option_map};
 ghost use Rattle.postgres_types.specs.Content.{content};
-ghost use Rattle.pgcell.specs.Names.{base_of, conversion_of, form_of, moment_of, number_or_text_of, other_of, type_in};
+ghost use Rattle.pgcell.specs.Names.{form_of, name_of, seen_name, type_in};
 
 use postgres_types::Type;
-
-/// A base name. The Rust type and the Postgres type that it stands for are its line of `norm`.
-#[derive(Debug, Clone, Copy, PartialEq, Eq)]
-pub enum Base {
-    Bool,
-    Char,
-    Int2,
-    Int4,
-    Int8,
-    Oid,
-    Text,
-    Varchar,
-    Bpchar,
-    Name,
-    Unknown,
-    Bytea,
-    Bit,
-    Varbit,
-    Inet,
-    Addr,
-    Cidr,
-    Macaddr,
-    Uuid,
-    PgLsn,
-    Date,
-    DateInf,
-    Time,
-    Timestamp,
-    TimestampInf,
-    Timestamptz,
-    Unix,
-    UnixInf,
-    Int2Vector,
-    OidVector,
-    Ltree,
-    Hstore,
-}
 
 /// What may follow a base name. A base name without arrays stands for nothing in the last two forms.
 #[derive(Debug, Clone, Copy, PartialEq, Eq)]
@@ -55,10 +18,10 @@ pub enum Form {
     OptionalArray,
 }
 
-/// What a name stands for: a base name in a form.
-#[derive(Debug, Clone, Copy, PartialEq, Eq)]
-pub struct Conversion {
-    pub base: Base,
+/// A name: a base name in a form. What it stands for is the base name's line of `norm`.
+#[derive(Debug, Clone, Copy)]
+pub struct Name<'a> {
+    pub base: &'a str,
     pub form: Form,
 }
 
@@ -89,93 +52,15 @@ impl Form {
     }
 }
 
-impl Conversion {
-    /// What the word stands for.
-    pub fn parse(word: &[u8]) -> Option<Conversion>
-        ensures { result ≡ conversion_of word.now }
+impl<'a> Name<'a> {
+    /// The name that the word is, or `None` where its base name is not UTF-8.
+    pub fn parse(word: &'a [u8]) -> Option<Name<'a>>
+        ensures { option_map seen_name result ≡ name_of word.now }
     {
-        let (name, form) = Form::parse(word);
-        let base = Base::parse(name)?;
-        Some(Conversion { base, form })
-    }
-}
-
-impl Base {
-    /// What the base name stands for.
-    fn parse(word: &[u8]) -> Option<Base>
-        ensures { result ≡ base_of word.now }
-    {
-        if let Some(base) = Base::parse_number_or_text(word) {
-            return Some(base);
-        }
-        if let Some(base) = Base::parse_moment(word) {
-            return Some(base);
-        }
-        Base::parse_other(word)
-    }
-
-    /// What the base name of a number or of a text stands for.
-    fn parse_number_or_text(word: &[u8]) -> Option<Base>
-        ensures { result ≡ number_or_text_of word.now }
-    {
-        match word {
-            b"bool" => Some(Base::Bool),
-            b"char" => Some(Base::Char),
-            b"int2" => Some(Base::Int2),
-            b"int4" => Some(Base::Int4),
-            b"int8" => Some(Base::Int8),
-            b"oid" => Some(Base::Oid),
-            b"text" => Some(Base::Text),
-            b"varchar" => Some(Base::Varchar),
-            b"bpchar" => Some(Base::Bpchar),
-            b"name" => Some(Base::Name),
-            b"unknown" => Some(Base::Unknown),
-            b"ltree" => Some(Base::Ltree),
-            _ => None,
-        }
-    }
-
-    /// What every other base name stands for: of bytes, bits, an address, an identifier, a log
-    /// position, a vector or a map.
-    fn parse_other(word: &[u8]) -> Option<Base>
-        ensures { result ≡ other_of word.now }
-    {
-        match word {
-            b"bytea" => Some(Base::Bytea),
-            b"bit" => Some(Base::Bit),
-            b"varbit" => Some(Base::Varbit),
-            b"inet" => Some(Base::Inet),
-            b"addr" => Some(Base::Addr),
-            b"cidr" => Some(Base::Cidr),
-            b"macaddr" => Some(Base::Macaddr),
-            b"uuid" => Some(Base::Uuid),
-            b"pg_lsn" => Some(Base::PgLsn),
-            b"int2vector" => Some(Base::Int2Vector),
-            b"oidvector" => Some(Base::OidVector),
-            b"hstore" => Some(Base::Hstore),
-            _ => None,
-        }
-    }
-
-    /// What the base name of a date, a time or a moment stands for.
-    fn parse_moment(word: &[u8]) -> Option<Base>
-        ensures { result ≡ moment_of word.now }
-    {
-        // The longest names are compared whole: of a pattern the prover follows the first bytes alone.
-        if word == b"timestamptz".as_slice() {
-            return Some(Base::Timestamptz);
-        }
-        if word == b"timestamp_inf".as_slice() {
-            return Some(Base::TimestampInf);
-        }
-        match word {
-            b"date" => Some(Base::Date),
-            b"date_inf" => Some(Base::DateInf),
-            b"time" => Some(Base::Time),
-            b"timestamp" => Some(Base::Timestamp),
-            b"unix" => Some(Base::Unix),
-            b"unix_inf" => Some(Base::UnixInf),
-            _ => None,
+        let (base, form) = Form::parse(word);
+        match str::from_utf8(base) {
+            Ok(base) => Some(Name { base, form }),
+            Err(_) => None,
         }
     }
 }

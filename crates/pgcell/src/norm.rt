@@ -5,9 +5,9 @@ ghost use Rattle.postgres_types.specs.Content.{MadeType, SimpleKind, content};
 ghost use Rattle.postgres_types.specs.Cells.{cell_of};
 ghost use Rattle.postgres_types.specs.Faults.{refusal_of};
 ghost use Rattle.postgres_types.specs.Lists.{accepted_list};
-ghost use Rattle.pgcell.specs.Norm.{AnswersIn, AnswersNorm, PrintsRefusal, RewrittenAs, WritesOf, accepted_as, printed};
+ghost use Rattle.pgcell.specs.Norm.{AnswersIn, AnswersMoment, AnswersNorm, AnswersOther, PrintsRefusal, RewrittenAs, WritesOf, accepted_as, printed};
 
-use crate::names::{Base, Conversion, Form};
+use crate::names::{Form, Name};
 use bytes::BytesMut;
 use jiff::civil;
 use postgres_types::{
@@ -22,61 +22,98 @@ use uuid::Uuid;
 /// What an hstore is read as.
 type Map = HashMap<String, Option<String>>;
 
+/// Answers a name by the line of its base name: by a Rust type, a Postgres type and, where it has arrays,
+/// their type. The last line is for every other name.
+macro_rules! answer_by_base {
+    ($alloc:ident, $name:ident, $cell:ident, $pending:ident;
+     $($base:literal => $rust:ty, $own:expr, $arrays:expr;)* _ => $other:expr;) => {
+        match $name.base {
+            $($base => norm_as::<$rust>($alloc, $name.form, $own, $arrays, $cell, $pending),)*
+            _ => $other,
+        }
+    };
+}
+
 /// Rewrites the cell by what the name stands for, and puts what came of it after what is pending.
-/// A name that stands for no Postgres type is answered as no name.
+/// A word that is no base name, and a name that stands for no Postgres type, are answered `bad line`.
 pub fn norm(
     alloc: Global,
-    conversion: Conversion,
+    name: Name<'_>,
     cell: Option<&[u8]>,
     pending: &mut Vec<u8>,
 ) -> Result<(), AllocError>
-    ensures ok { OnOk result ((text : List ℕ) × AnswersNorm conversion (cell_of cell.entry) text
+    ensures ok { OnOk result ((text : List ℕ) × AnswersNorm name.entry.base.now name.entry.form (cell_of cell.entry) text
         × (pending.new.items ≡ pending.old.items ++ text)) }
     ensures err { OnErr result (pending.new.items ≡ pending.old.items) }
 {
-    let form = conversion.form;
-    // What a base name stands for: a Rust type, a Postgres type and, where it has arrays, their type.
-    macro_rules! stands_for {
-        ($rust:ty, $own:ident, $arrays:ident) => {
-            norm_as::<$rust>(alloc, form, Type::$own, Some(Type::$arrays), cell, pending)
-        };
-        ($rust:ty, $own:expr) => {
-            norm_as::<$rust>(alloc, form, $own, None, cell, pending)
-        };
+    answer_by_base! { alloc, name, cell, pending;
+        "bool" => bool, Type::BOOL, Some(Type::BOOL_ARRAY);
+        "char" => i8, Type::CHAR, Some(Type::CHAR_ARRAY);
+        "int2" => i16, Type::INT2, Some(Type::INT2_ARRAY);
+        "int4" => i32, Type::INT4, Some(Type::INT4_ARRAY);
+        "int8" => i64, Type::INT8, Some(Type::INT8_ARRAY);
+        "oid" => u32, Type::OID, Some(Type::OID_ARRAY);
+        "text" => String, Type::TEXT, Some(Type::TEXT_ARRAY);
+        "varchar" => String, Type::VARCHAR, Some(Type::VARCHAR_ARRAY);
+        "bpchar" => String, Type::BPCHAR, Some(Type::BPCHAR_ARRAY);
+        "name" => String, Type::NAME, Some(Type::NAME_ARRAY);
+        "unknown" => String, Type::UNKNOWN, None;
+        "ltree" => String, made(alloc, "ltree", 100_001)?, None;
+        _ => norm_moment(alloc, name, cell, pending);
     }
-    match conversion.base {
-        Base::Bool => stands_for!(bool, BOOL, BOOL_ARRAY),
-        Base::Char => stands_for!(i8, CHAR, CHAR_ARRAY),
-        Base::Int2 => stands_for!(i16, INT2, INT2_ARRAY),
-        Base::Int4 => stands_for!(i32, INT4, INT4_ARRAY),
-        Base::Int8 => stands_for!(i64, INT8, INT8_ARRAY),
-        Base::Oid => stands_for!(u32, OID, OID_ARRAY),
-        Base::Text => stands_for!(String, TEXT, TEXT_ARRAY),
-        Base::Varchar => stands_for!(String, VARCHAR, VARCHAR_ARRAY),
-        Base::Bpchar => stands_for!(String, BPCHAR, BPCHAR_ARRAY),
-        Base::Name => stands_for!(String, NAME, NAME_ARRAY),
-        Base::Unknown => stands_for!(String, Type::UNKNOWN),
-        Base::Bytea => stands_for!(Vec<u8>, BYTEA, BYTEA_ARRAY),
-        Base::Bit => stands_for!(BitVec, BIT, BIT_ARRAY),
-        Base::Varbit => stands_for!(BitVec, VARBIT, VARBIT_ARRAY),
-        Base::Inet => stands_for!(IpInet, INET, INET_ARRAY),
-        Base::Addr => stands_for!(IpAddr, INET, INET_ARRAY),
-        Base::Cidr => stands_for!(IpCidr, CIDR, CIDR_ARRAY),
-        Base::Macaddr => stands_for!(MacAddress, MACADDR, MACADDR_ARRAY),
-        Base::Uuid => stands_for!(Uuid, UUID, UUID_ARRAY),
-        Base::PgLsn => stands_for!(PgLsn, PG_LSN, PG_LSN_ARRAY),
-        Base::Date => stands_for!(civil::Date, DATE, DATE_ARRAY),
-        Base::DateInf => stands_for!(Date<civil::Date>, DATE, DATE_ARRAY),
-        Base::Time => stands_for!(civil::Time, TIME, TIME_ARRAY),
-        Base::Timestamp => stands_for!(civil::DateTime, TIMESTAMP, TIMESTAMP_ARRAY),
-        Base::TimestampInf => stands_for!(Timestamp<civil::DateTime>, TIMESTAMP, TIMESTAMP_ARRAY),
-        Base::Timestamptz => stands_for!(jiff::Timestamp, TIMESTAMPTZ, TIMESTAMPTZ_ARRAY),
-        Base::Unix => stands_for!(UnixTime, TIMESTAMP, TIMESTAMP_ARRAY),
-        Base::UnixInf => stands_for!(Timestamp<UnixTime>, TIMESTAMP, TIMESTAMP_ARRAY),
-        Base::Int2Vector => stands_for!(Vec<i16>, Type::INT2_VECTOR),
-        Base::OidVector => stands_for!(Vec<u32>, Type::OID_VECTOR),
-        Base::Ltree => stands_for!(String, made(alloc, "ltree", 100_001)?),
-        Base::Hstore => stands_for!(Map, made(alloc, "hstore", 100_002)?),
+}
+
+/// The same of a base name that is no number's and no text's.
+#[tactic(auto, unfolding(crate::specs::Norm::AnswersMoment))]
+fn norm_moment(
+    alloc: Global,
+    name: Name<'_>,
+    cell: Option<&[u8]>,
+    pending: &mut Vec<u8>,
+) -> Result<(), AllocError>
+    ensures ok { OnOk result ((text : List ℕ) × AnswersMoment name.entry.base.now name.entry.form (cell_of cell.entry) text
+        × (pending.new.items ≡ pending.old.items ++ text)) }
+    ensures err { OnErr result (pending.new.items ≡ pending.old.items) }
+{
+    answer_by_base! { alloc, name, cell, pending;
+        "date" => civil::Date, Type::DATE, Some(Type::DATE_ARRAY);
+        "date_inf" => Date<civil::Date>, Type::DATE, Some(Type::DATE_ARRAY);
+        "time" => civil::Time, Type::TIME, Some(Type::TIME_ARRAY);
+        "timestamp" => civil::DateTime, Type::TIMESTAMP, Some(Type::TIMESTAMP_ARRAY);
+        "timestamp_inf" => Timestamp<civil::DateTime>, Type::TIMESTAMP, Some(Type::TIMESTAMP_ARRAY);
+        "timestamptz" => jiff::Timestamp, Type::TIMESTAMPTZ, Some(Type::TIMESTAMPTZ_ARRAY);
+        "unix" => UnixTime, Type::TIMESTAMP, Some(Type::TIMESTAMP_ARRAY);
+        "unix_inf" => Timestamp<UnixTime>, Type::TIMESTAMP, Some(Type::TIMESTAMP_ARRAY);
+        _ => norm_other(alloc, name, cell, pending);
+    }
+}
+
+/// The same of one that is no date's, time's or moment's either.
+#[tactic(auto, unfolding(crate::specs::Norm::AnswersOther))]
+fn norm_other(
+    alloc: Global,
+    name: Name<'_>,
+    cell: Option<&[u8]>,
+    pending: &mut Vec<u8>,
+) -> Result<(), AllocError>
+    ensures ok { OnOk result ((text : List ℕ) × AnswersOther name.entry.base.now name.entry.form (cell_of cell.entry) text
+        × (pending.new.items ≡ pending.old.items ++ text)) }
+    ensures err { OnErr result (pending.new.items ≡ pending.old.items) }
+{
+    answer_by_base! { alloc, name, cell, pending;
+        "bytea" => Vec<u8>, Type::BYTEA, Some(Type::BYTEA_ARRAY);
+        "bit" => BitVec, Type::BIT, Some(Type::BIT_ARRAY);
+        "varbit" => BitVec, Type::VARBIT, Some(Type::VARBIT_ARRAY);
+        "inet" => IpInet, Type::INET, Some(Type::INET_ARRAY);
+        "addr" => IpAddr, Type::INET, Some(Type::INET_ARRAY);
+        "cidr" => IpCidr, Type::CIDR, Some(Type::CIDR_ARRAY);
+        "macaddr" => MacAddress, Type::MACADDR, Some(Type::MACADDR_ARRAY);
+        "uuid" => Uuid, Type::UUID, Some(Type::UUID_ARRAY);
+        "pg_lsn" => PgLsn, Type::PG_LSN, Some(Type::PG_LSN_ARRAY);
+        "int2vector" => Vec<i16>, Type::INT2_VECTOR, None;
+        "oidvector" => Vec<u32>, Type::OID_VECTOR, None;
+        "hstore" => Map, made(alloc, "hstore", 100_002)?, None;
+        _ => pending.extend_from_slice(b"bad line");
     }
 }
 

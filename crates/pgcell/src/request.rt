@@ -3,7 +3,7 @@ ghost use Rattle.std.specs.Prelude.{◌≡◌, ◌∷◌, [], ◌==◌, IfSome, 
 ghost use Rattle.pgcell.specs.Split.{split};
 ghost use Rattle.pgcell.specs.Request.{cell_of_word, lsn_of_text, norm_of, oid_of_word, request_of, seen, seen_bytes, type_of};
 
-use crate::names::Conversion;
+use crate::names::Name;
 use crate::split::split_once;
 use hex::FromHexError;
 use postgres_types::Oid;
@@ -13,7 +13,7 @@ use std::alloc::{AllocError, Global};
 #[derive(Debug, Drop)]
 pub enum Request<'a> {
     /// `norm NAME CELL`: to rewrite a cell, of which `None` is NULL.
-    Norm(Conversion, Option<Vec<u8>>),
+    Norm(Name<'a>, Option<Vec<u8>>),
     /// `type OID`: to show a type.
     TypeOf(Oid),
     /// `lsn TEXT`: to show a log position.
@@ -47,13 +47,13 @@ impl<'a> Request<'a> {
         let Some((name, cell)) = split_word(words) else {
             return Ok(None);
         };
-        let Some(conversion) = Conversion::parse(name) else {
+        let Some(name) = Name::parse(name) else {
             return Ok(None);
         };
         let Some(cell) = parse_cell(alloc, cell)? else {
             return Ok(None);
         };
-        Ok(Some(Request::Norm(conversion, cell)))
+        Ok(Some(Request::Norm(name, cell)))
     }
 
     /// What `type` and this word ask for.

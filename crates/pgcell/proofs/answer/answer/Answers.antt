@@ -18,14 +18,14 @@ returns-in-None-clause-ok c =
 
 pub returns-in-Some-Norm-clause-ok : goal.returns-in-Some-Norm-clause-ok
 returns-in-Some-Norm-clause-ok c =
-    let conversion = c.in-Some-Norm.conversion in
+    let name = c.in-Some-Norm.name in
     let cell = seen_bytes c.in-Some-Norm.cell in
     let old = c.args.pending.now.items in
     let new = c.norm.new.pending.items in
     let asked = rw c.in-Some-Norm.field-0-is at (rw c.in-Some-Norm.is at c.in_ok-parse.ensures) in
     let told = rw c.lent.ensures at c.norm.ensures.ok in
-    ok_weaker {P = (text : List ℕ) × AnswersNorm conversion cell text × (new ≡ old ++ text)} c.norm.result
-    (λ answer. (answer.0, answers_line c.args.line.now (Some (norm conversion cell)) answer.0 asked answer.1, answer.2)) told
+    ok_weaker {P = (text : List ℕ) × AnswersNorm name.base.now name.form cell text × (new ≡ old ++ text)} c.norm.result
+    (λ answer. (answer.0, answers_line c.args.line.now (Some (norm (name.base.now, name.form) cell)) answer.0 asked answer.1, answer.2)) told
 
 pub returns-in-Some-TypeOf-clause-ok : goal.returns-in-Some-TypeOf-clause-ok
 returns-in-Some-TypeOf-clause-ok c =
