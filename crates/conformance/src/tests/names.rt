@@ -42,12 +42,7 @@ fn texts_and_bytes_are_named(rt: HostRuntime) -> Result<(), Fail> {
     let bytes = [7u8];
     refuses_odd(alloc, &bytes.as_slice(), "&[u8]")?;
     refuses_odd(alloc, &Vec::from_slice(alloc, &bytes)?, "Vec<u8>")?;
-    refuses_odd(
-        &rt,
-        alloc,
-        &CowSlice::Borrowed(bytes.as_slice()),
-        "Cow<[u8]>",
-    )?;
+    refuses_odd(alloc, &CowSlice::Borrowed(bytes.as_slice()), "Cow<[u8]>")?;
     refuses_odd(alloc, &bytes, "[u8; N]")
 }
 
