@@ -15,9 +15,7 @@ use std::rc::Rc;
 mod built_in;
 mod constants;
 mod kind;
-mod laws;
-#[cfg(test)]
-mod tests;
+pub mod laws;
 
 pub use kind::{Field, Kind, KindRef};
 

@@ -1,11 +1,11 @@
-//! What the tests of conversions share: rows of a value and its cell, run through the library's
-//! public names. Each call fails with what was found and what was expected.
+//! What the tests share: rows of a value and its cell, run through the library's public names. Each
+//! call fails with what was found and what was expected.
 #![tactic(auto)]
 
+pub mod code;
 mod memory;
 mod reading;
-#[cfg(test)]
-mod tests;
+mod texts;
 mod types;
 mod writing;
 
@@ -13,8 +13,11 @@ pub use memory::hoard;
 pub use reading::{read, reads, refusal, refuses};
 use std::fmt::Debug;
 use std::test::Fail;
-pub use types::{made, made_of, unix};
-pub use writing::{reads_back, refuses_type, refuses_value, rewrites, spells, writes, writes_null};
+pub use texts::{debugs, displays};
+pub use types::{accepts, simple_type, unix, user_type};
+pub use writing::{
+    reads_back, refuses_type, refuses_value, refuses_values, rewrites, spells, writes, writes_null,
+};
 
 /// What a row is and what it was to be.
 #[derive(Debug, Drop)]
@@ -24,10 +27,19 @@ struct Differs<T> {
 }
 
 /// Fails where the two are not equal.
-fn same<T: PartialEq + Debug + Drop>(found: T, expected: T) -> Result<(), Fail> {
+pub fn same<T: PartialEq + Debug + Drop>(found: T, expected: T) -> Result<(), Fail> {
     if found == expected {
         Ok(())
     } else {
         Err(Fail::from(Differs { found, expected }))
+    }
+}
+
+/// Fails with that text where the condition does not hold.
+pub fn holds(condition: bool, text: &'static str) -> Result<(), Fail> {
+    if condition {
+        Ok(())
+    } else {
+        Err(Fail::from(text))
     }
 }

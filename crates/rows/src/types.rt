@@ -1,16 +1,17 @@
-//! Types and moments that rows speak of.
+//! Types and times that rows speak of, and which types a conversion accepts.
 
-use postgres_types::{Fault, Kind, Type, UnixTime};
+use crate::same;
+use postgres_types::{Fault, FromSql, Kind, ToSql, Type, UnixTime};
 use std::alloc::Global;
 use std::test::Fail;
 
-/// A made type of kind Simple.
-pub fn made(alloc: Global, name: &str, oid: u32, schema: &str) -> Result<Type, Fault> {
-    made_of(alloc, name, oid, Kind::Simple, schema)
+/// A user-defined type of kind Simple.
+pub fn simple_type(alloc: Global, name: &str, oid: u32, schema: &str) -> Result<Type, Fault> {
+    user_type(alloc, name, oid, Kind::Simple, schema)
 }
 
-/// A made type.
-pub fn made_of(
+/// A user-defined type.
+pub fn user_type(
     alloc: Global,
     name: &str,
     oid: u32,
@@ -22,10 +23,19 @@ pub fn made_of(
     Type::new(alloc, name, oid, kind, schema)
 }
 
-/// A moment of that second and nanosecond.
+/// A table of acceptance: both directions accept each type, or neither does.
+pub fn accepts<'a, T: FromSql<'a> + ToSql>(rows: &[(Type, bool)]) -> Result<(), Fail> {
+    for (ty, accepted) in rows {
+        same(<T as FromSql>::accepts(ty), *accepted)?;
+        same(<T as ToSql>::accepts(ty), *accepted)?;
+    }
+    Ok(())
+}
+
+/// The time of that second and nanosecond.
 pub fn unix(secs: i64, nanos: u32) -> Result<UnixTime, Fail> {
     match UnixTime::new(secs, nanos) {
-        Some(moment) => Ok(moment),
-        None => Err(Fail::from("no moment")),
+        Some(time) => Ok(time),
+        None => Err(Fail::from("no such time")),
     }
 }

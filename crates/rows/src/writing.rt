@@ -1,5 +1,6 @@
 //! Rows of writing.
 
+use crate::code::WRONG_TYPE;
 use crate::{read, reads, same};
 use postgres_types::private::BytesMut;
 use postgres_types::{FromSql, IsNull, Paired, ToSql, Type, rewrite};
@@ -38,9 +39,17 @@ pub fn refuses_value<T: ToSql>(alloc: Global, value: &T, ty: &Type, code: u32) -
     same(out.as_slice(), BEFORE)
 }
 
+/// A table of refusals: writing each value to the type is refused with the fault of its number.
+pub fn refuses_values<T: ToSql>(alloc: Global, ty: &Type, rows: &[(T, u32)]) -> Result<(), Fail> {
+    for (value, code) in rows {
+        refuses_value(alloc, value, ty, *code)?;
+    }
+    Ok(())
+}
+
 /// The type is refused, under that name, and nothing is written.
 pub fn refuses_type<T: ToSql>(alloc: Global, value: &T, ty: &Type, rust: &str) -> Result<(), Fail> {
-    refuses_value(alloc, value, ty, 3)?;
+    refuses_value(alloc, value, ty, WRONG_TYPE)?;
     let mut out = BytesMut::new(alloc);
     let Err(fault) = value.to_sql_checked(alloc, ty, &mut out) else {
         return Err(Fail::from("accepted"));

@@ -1,0 +1,5 @@
+mod copy;
+mod formats;
+mod framed;
+mod params;
+mod row_reader;

@@ -1,0 +1,4 @@
+mod civil;
+mod moments;
+mod nested_moments;
+mod special;

@@ -1,0 +1,2 @@
+mod hstore;
+mod json;

@@ -1,0 +1,5 @@
+//! Lists, arrays and boxes: rows from PostgreSQL's formats.
+#![tactic(auto)]
+
+#[cfg(test)]
+mod tests;

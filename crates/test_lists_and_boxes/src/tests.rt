@@ -1,0 +1,3 @@
+mod boxes;
+mod list_writing;
+mod lists;

@@ -1,0 +1,5 @@
+mod bytes;
+mod memory;
+mod numbers;
+mod texts;
+mod writing;

@@ -1,0 +1,5 @@
+mod days;
+mod nested;
+mod reading_back;
+mod user;
+mod values;

@@ -1,0 +1,3 @@
+mod bits;
+mod lsn;
+mod network;

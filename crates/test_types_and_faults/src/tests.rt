@@ -1,0 +1,6 @@
+mod catalog;
+mod debug;
+mod faults;
+mod names;
+mod rows;
+mod types;
