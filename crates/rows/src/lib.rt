@@ -4,12 +4,14 @@
 
 pub mod code;
 mod memory;
+mod plain;
 mod reading;
 mod texts;
 mod types;
 mod writing;
 
 pub use memory::hoard;
+pub use plain::{appends, fault_code, parses};
 pub use reading::{read, reads, refusal, refuses};
 use std::fmt::Debug;
 use std::test::Fail;

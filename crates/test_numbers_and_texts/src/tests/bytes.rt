@@ -1,13 +1,15 @@
 //! Bytes and frames: a table of rows for each format.
 
 use postgres_types::Type;
-use postgres_types::private::BytesMut;
 use postgres_types::protocol::{bytea_from_sql, bytea_to_sql, frame_to_sql};
-use rows::{read, refuses, spells, writes};
+use rows::code::WAS_NULL;
+use rows::{appends, holds, read, refuses, same, spells, writes};
 use std::borrow::CowSlice;
 use std::test::Fail;
 
 const BYTEA: [(&[u8], &[u8]); 3] = [(&[], &[]), (&[0], &[0]), (&[0, 0xff, 7], &[0, 0xff, 7])];
+
+const DAMAGED: [(Option<&[u8]>, u32); 1] = [(None, WAS_NULL)];
 
 const FRAMES: [(Option<&[u8]>, &[u8]); 3] = [
     (None, &[0xff, 0xff, 0xff, 0xff]),
@@ -16,16 +18,33 @@ const FRAMES: [(Option<&[u8]>, &[u8]); 3] = [
 ];
 
 #[test]
-fn bytes_are_themselves(rt: HostRuntime) -> Result<(), Fail> {
+fn borrowed_bytes_have_their_cells(rt: HostRuntime) -> Result<(), Fail> {
     let alloc = rt.alloc();
     spells(alloc, &Type::BYTEA, &BYTEA)?;
-    refuses::<&[u8]>(alloc, &Type::BYTEA, &[(None, 2)])?;
-    refuses::<Vec<u8>>(alloc, &Type::BYTEA, &[(None, 2)])?;
+    refuses::<&[u8]>(alloc, &Type::BYTEA, &DAMAGED)?;
     for (value, cell) in BYTEA {
-        assert_eq!(rt; bytea_from_sql(cell), value);
+        same(bytea_from_sql(cell), value)?;
+    }
+    Ok(())
+}
+
+#[test]
+fn owned_bytes_have_their_cells(rt: HostRuntime) -> Result<(), Fail> {
+    let alloc = rt.alloc();
+    refuses::<Vec<u8>>(alloc, &Type::BYTEA, &DAMAGED)?;
+    for (value, cell) in BYTEA {
         let owned = Vec::from_slice(alloc, value)?;
         writes(alloc, &owned, &Type::BYTEA, cell)?;
-        assert!(rt; read::<Vec<u8>>(alloc, &Type::BYTEA, Some(cell))? == owned);
+        let found: Vec<u8> = read(alloc, &Type::BYTEA, Some(cell))?;
+        holds(found == owned, "other bytes are read")?;
+    }
+    Ok(())
+}
+
+#[test]
+fn cows_and_arrays_are_written_as_bytes(rt: HostRuntime) -> Result<(), Fail> {
+    let alloc = rt.alloc();
+    for (value, cell) in BYTEA {
         writes(alloc, &CowSlice::Borrowed(value), &Type::BYTEA, cell)?;
     }
     writes(alloc, &[0u8, 0xff, 7], &Type::BYTEA, &[0, 0xff, 7])
@@ -36,22 +55,13 @@ fn no_bytes_are_not_null(rt: HostRuntime) -> Result<(), Fail> {
     let alloc = rt.alloc();
     let none: [u8; 0] = [];
     writes(alloc, &none, &Type::BYTEA, &[])?;
-    assert!(rt; read::<Vec<u8>>(alloc, &Type::BYTEA, Some(&[]))?.is_empty());
-    Ok(())
+    let found: Vec<u8> = read(alloc, &Type::BYTEA, Some(&[]))?;
+    holds(found.is_empty(), "bytes are read")
 }
 
 #[test]
-fn each_appender_writes_into_an_empty_buffer(rt: HostRuntime) -> Result<(), Fail> {
+fn bytes_and_frames_are_appended(rt: HostRuntime) -> Result<(), Fail> {
     let alloc = rt.alloc();
-    for (value, cell) in BYTEA {
-        let mut out = BytesMut::new(alloc);
-        bytea_to_sql(alloc, value, &mut out)?;
-        assert_eq!(rt; out.as_slice(), cell);
-    }
-    for (value, frame) in FRAMES {
-        let mut out = BytesMut::new(alloc);
-        frame_to_sql(alloc, value, &mut out)?;
-        assert_eq!(rt; out.as_slice(), frame);
-    }
-    Ok(())
+    appends(alloc, bytea_to_sql, &BYTEA)?;
+    appends(alloc, frame_to_sql, &FRAMES)
 }

@@ -1,6 +1,9 @@
+//! Calls with ample memory, and where all memory is taken.
+
 use postgres_types::private::BytesMut;
 use postgres_types::{ToSql, Type, from_sql_nullable};
-use rows::hoard;
+use rows::code::{MEMORY, WRONG_TYPE};
+use rows::{hoard, holds, same};
 use std::alloc::Global;
 use std::test::Fail;
 
@@ -15,32 +18,39 @@ fn codes(alloc: Global, room: &mut BytesMut, full: &mut BytesMut) -> [Option<u32
     [written, refused, null, unread, wrong].map(|fault| fault.map(|fault| fault.code()))
 }
 
+/// A write into a buffer with room takes no memory.
 #[test]
-fn where_there_is_room_no_memory_is_wanted(rt: HostRuntime) -> Result<(), Fail> {
+fn writes_into_room_are_not_refused(rt: HostRuntime) -> Result<(), Fail> {
     let alloc = rt.alloc();
     let ample = codes(alloc, &mut BytesMut::new(alloc), &mut BytesMut::new(alloc));
-    assert_eq!(rt; ample, [None, None, None, None, Some(3)]);
+    same(ample, [None, None, None, None, Some(WRONG_TYPE)])?;
     let mut room = BytesMut::with_capacity(alloc, 4)?;
     let mut full = BytesMut::new(alloc);
     let blocks = hoard(alloc)?;
     let hoarded = codes(alloc, &mut room, &mut full);
     drop(blocks);
-    assert_eq!(rt; hoarded, [None, Some(1), None, Some(1), Some(3)]);
-    assert_eq!(rt; room.as_slice(), [0, 0, 0, 7].as_slice());
-    assert!(rt; full.is_empty());
-    Ok(())
+    same(
+        hoarded,
+        [None, Some(MEMORY), None, Some(MEMORY), Some(WRONG_TYPE)],
+    )?;
+    same(room.as_slice(), [0u8, 0, 0, 7].as_slice())?;
+    holds(full.is_empty(), "appended")
 }
 
 #[test]
-fn with_ample_memory_nothing_is_wanted(rt: HostRuntime) -> Result<(), Fail> {
+fn texts_are_read_with_ample_memory(rt: HostRuntime) -> Result<(), Fail> {
     let alloc = rt.alloc();
     let text: String = from_sql_nullable(alloc, &Type::TEXT, Some(b"ab"))?;
-    assert_eq!(rt; text.as_str(), "ab");
+    same(text.as_str(), "ab")?;
     let text: Option<String> = from_sql_nullable(alloc, &Type::TEXT, Some(b"cd"))?;
-    assert_eq!(rt; text.as_ref().map(|text| text.as_str()), Some("cd"));
-    let lent: &str = from_sql_nullable(alloc, &Type::TEXT, Some(b"ef"))?;
-    assert_eq!(rt; lent, "ef");
+    same(text.as_ref().map(|text| text.as_str()), Some("cd"))
+}
+
+#[test]
+fn borrowed_texts_and_null_are_read(rt: HostRuntime) -> Result<(), Fail> {
+    let alloc = rt.alloc();
+    let text: &str = from_sql_nullable(alloc, &Type::TEXT, Some(b"ef"))?;
+    same(text, "ef")?;
     let number: Option<i32> = from_sql_nullable(alloc, &Type::INT4, None)?;
-    assert_eq!(rt; number, None);
-    Ok(())
+    same(number, None)
 }

@@ -1,11 +1,16 @@
-//! Whole numbers and truth values: a table of rows for each format.
+//! Integers, booleans and OIDs: a table of rows for each format.
 
 use postgres_types::private::BytesMut;
 use postgres_types::protocol::{
     bool_from_sql, bool_to_sql, char_to_sql, int2_to_sql, int4_to_sql, int8_to_sql, oid_to_sql,
 };
-use postgres_types::{FromSql, ToSql, Type, rewrite, to_sql_checked_as};
-use rows::{made, read, refuses, rewrites, spells, writes};
+use postgres_types::{Fault, Type, rewrite, to_sql_checked_as};
+use rows::code::{SIZE, USER, WAS_NULL, WRONG_TYPE};
+use rows::{
+    accepts, appends, fault_code, holds, refusal, refuses, refuses_value, rewrites, same,
+    simple_type, spells, writes,
+};
+use std::alloc::Global;
 use std::test::Fail;
 
 const BOOL: [(bool, &[u8]); 2] = [(false, &[0]), (true, &[1])];
@@ -39,120 +44,128 @@ const OID: [(u32, &[u8]); 3] = [
     (4_294_967_295, &[0xff, 0xff, 0xff, 0xff]),
 ];
 
+/// Cells of a wrong length, for the formats of one byte.
+const DAMAGED_BYTE: [(Option<&[u8]>, u32); 3] = [
+    (Some(&[]), SIZE),
+    (Some(&[0, 1]), SIZE),
+    (None, WAS_NULL),
+];
+
+const DAMAGED_INT2: [(Option<&[u8]>, u32); 3] = [
+    (Some(&[1]), SIZE),
+    (Some(&[0, 0, 1]), SIZE),
+    (None, WAS_NULL),
+];
+
+const DAMAGED_INT4: [(Option<&[u8]>, u32); 3] = [
+    (Some(&[0, 0, 1]), SIZE),
+    (Some(&[0; 5]), SIZE),
+    (None, WAS_NULL),
+];
+
+const DAMAGED_INT8: [(Option<&[u8]>, u32); 3] = [
+    (Some(&[0, 0, 0, 1]), SIZE),
+    (Some(&[0; 9]), SIZE),
+    (None, WAS_NULL),
+];
+
+const DAMAGED_OID: [(Option<&[u8]>, u32); 3] = [
+    (Some(&[]), SIZE),
+    (Some(&[0; 8]), SIZE),
+    (None, WAS_NULL),
+];
+
 #[test]
-fn numbers_have_their_bytes(rt: HostRuntime) -> Result<(), Fail> {
+fn booleans_and_narrow_integers_have_their_cells(rt: HostRuntime) -> Result<(), Fail> {
     let alloc = rt.alloc();
     spells(alloc, &Type::BOOL, &BOOL)?;
     spells(alloc, &Type::CHAR, &CHAR)?;
-    spells(alloc, &Type::INT2, &INT2)?;
+    spells(alloc, &Type::INT2, &INT2)
+}
+
+#[test]
+fn wide_integers_and_oids_have_their_cells(rt: HostRuntime) -> Result<(), Fail> {
+    let alloc = rt.alloc();
     spells(alloc, &Type::INT4, &INT4)?;
     spells(alloc, &Type::INT8, &INT8)?;
-    spells(alloc, &Type::OID, &OID)?;
-    writes(alloc, &&&7i32, &Type::INT4, &[0, 0, 0, 7])
+    spells(alloc, &Type::OID, &OID)
 }
 
 #[test]
-fn another_length_is_size_and_null_is_was_null(rt: HostRuntime) -> Result<(), Fail> {
-    let alloc = rt.alloc();
-    refuses::<bool>(
-        alloc,
-        &Type::BOOL,
-        &[(Some(&[]), 4), (Some(&[0, 1]), 4), (None, 2)],
-    )?;
-    refuses::<i8>(
-        alloc,
-        &Type::CHAR,
-        &[(Some(&[]), 4), (Some(&[0, 1]), 4), (None, 2)],
-    )?;
-    refuses::<i16>(
-        alloc,
-        &Type::INT2,
-        &[(Some(&[1]), 4), (Some(&[0, 0, 1]), 4), (None, 2)],
-    )?;
-    refuses::<i32>(
-        alloc,
-        &Type::INT4,
-        &[(Some(&[0, 0, 1]), 4), (Some(&[0; 5]), 4), (None, 2)],
-    )?;
-    refuses::<i64>(
-        alloc,
-        &Type::INT8,
-        &[(Some(&[0, 0, 0, 1]), 4), (Some(&[0; 9]), 4), (None, 2)],
-    )?;
-    refuses::<u32>(
-        alloc,
-        &Type::OID,
-        &[(Some(&[]), 4), (Some(&[0; 8]), 4), (None, 2)],
-    )
+fn a_reference_is_written_as_its_value(rt: HostRuntime) -> Result<(), Fail> {
+    writes(rt.alloc(), &&&7i32, &Type::INT4, &[0, 0, 0, 7])
 }
 
 #[test]
-fn narrow_numbers_are_appended_to_an_empty_buffer(rt: HostRuntime) -> Result<(), Fail> {
+fn damaged_booleans_and_narrow_integers_are_refused(rt: HostRuntime) -> Result<(), Fail> {
     let alloc = rt.alloc();
-    for (value, cell) in BOOL {
-        let mut out = BytesMut::new(alloc);
-        bool_to_sql(alloc, value, &mut out)?;
-        assert_eq!(rt; out.as_slice(), cell);
-    }
-    for (value, cell) in CHAR {
-        let mut out = BytesMut::new(alloc);
-        char_to_sql(alloc, value, &mut out)?;
-        assert_eq!(rt; out.as_slice(), cell);
-    }
-    for (value, cell) in INT2 {
-        let mut out = BytesMut::new(alloc);
-        int2_to_sql(alloc, value, &mut out)?;
-        assert_eq!(rt; out.as_slice(), cell);
-    }
-    Ok(())
+    refuses::<bool>(alloc, &Type::BOOL, &DAMAGED_BYTE)?;
+    refuses::<i8>(alloc, &Type::CHAR, &DAMAGED_BYTE)?;
+    refuses::<i16>(alloc, &Type::INT2, &DAMAGED_INT2)
 }
 
 #[test]
-fn wide_numbers_are_appended_to_an_empty_buffer(rt: HostRuntime) -> Result<(), Fail> {
+fn damaged_wide_integers_and_oids_are_refused(rt: HostRuntime) -> Result<(), Fail> {
     let alloc = rt.alloc();
-    for (value, cell) in INT4 {
-        let mut out = BytesMut::new(alloc);
-        int4_to_sql(alloc, value, &mut out)?;
-        assert_eq!(rt; out.as_slice(), cell);
-    }
-    for (value, cell) in INT8 {
-        let mut out = BytesMut::new(alloc);
-        int8_to_sql(alloc, value, &mut out)?;
-        assert_eq!(rt; out.as_slice(), cell);
-    }
-    for (value, cell) in OID {
-        let mut out = BytesMut::new(alloc);
-        oid_to_sql(alloc, value, &mut out)?;
-        assert_eq!(rt; out.as_slice(), cell);
-    }
-    Ok(())
+    refuses::<i32>(alloc, &Type::INT4, &DAMAGED_INT4)?;
+    refuses::<i64>(alloc, &Type::INT8, &DAMAGED_INT8)?;
+    refuses::<u32>(alloc, &Type::OID, &DAMAGED_OID)
+}
+
+#[test]
+fn booleans_and_narrow_integers_are_appended(rt: HostRuntime) -> Result<(), Fail> {
+    let alloc = rt.alloc();
+    appends(alloc, bool_to_sql, &BOOL)?;
+    appends(alloc, char_to_sql, &CHAR)?;
+    appends(alloc, int2_to_sql, &INT2)
+}
+
+#[test]
+fn wide_integers_and_oids_are_appended(rt: HostRuntime) -> Result<(), Fail> {
+    let alloc = rt.alloc();
+    appends(alloc, int4_to_sql, &INT4)?;
+    appends(alloc, int8_to_sql, &INT8)?;
+    appends(alloc, oid_to_sql, &OID)
 }
 
 #[test]
 fn any_byte_but_zero_is_true(rt: HostRuntime) -> Result<(), Fail> {
     let alloc = rt.alloc();
     for byte in [1u8, 2, 0x80, 0xff] {
-        assert!(rt; bool_from_sql(&[byte])?);
+        same(bool_from_sql(&[byte])?, true)?;
         rewrites::<bool>(alloc, &Type::BOOL, &[byte], &[1])?;
     }
     Ok(())
 }
 
+/// A user-defined type of the name, the OID and the schema of the built-in one.
+fn user_int4(alloc: Global) -> Result<Type, Fault> {
+    simple_type(alloc, "int4", 23, "pg_catalog")
+}
+
 #[test]
-fn a_made_type_is_not_taken_for_a_built_in_one(rt: HostRuntime) -> Result<(), Fail> {
+fn a_user_type_is_not_the_built_in_type(rt: HostRuntime) -> Result<(), Fail> {
     let alloc = rt.alloc();
-    let int4 = made(alloc, "int4", 23, "pg_catalog")?;
-    assert!(rt; int4 != Type::INT4);
-    assert!(rt; !<i32 as FromSql>::accepts(&int4));
-    assert!(rt; !<i32 as ToSql>::accepts(&int4));
+    holds(user_int4(alloc)? != Type::INT4, "equal")?;
+    accepts::<i32>(&[(user_int4(alloc)?, false)])
+}
+
+#[test]
+fn a_user_type_is_refused_by_each_call(rt: HostRuntime) -> Result<(), Fail> {
+    let alloc = rt.alloc();
+    let int4 = user_int4(alloc)?;
+    same(refusal::<i32>(alloc, &int4, None), USER)?;
+    refuses_value(alloc, &7i32, &int4, WRONG_TYPE)
+}
+
+#[test]
+fn a_refused_user_type_leaves_the_buffer(rt: HostRuntime) -> Result<(), Fail> {
+    let alloc = rt.alloc();
+    let int4 = user_int4(alloc)?;
     let mut out = BytesMut::new(alloc);
-    let checked = 7i32.to_sql_checked(alloc, &int4, &mut out);
-    assert_eq!(rt; checked.err().map(|fault| fault.code()), Some(3));
     let named = to_sql_checked_as(alloc, &7i32, "i32", &int4, &mut out);
-    assert_eq!(rt; named.err().map(|fault| fault.code()), Some(3));
+    same(fault_code(named), WRONG_TYPE)?;
     let rewritten = rewrite::<i32>(alloc, &int4, None, &mut out);
-    assert_eq!(rt; rewritten.err().map(|fault| fault.code()), Some(3));
-    assert!(rt; out.is_empty());
-    assert!(rt; read::<i32>(alloc, &int4, None).is_err());
-    Ok(())
+    same(fault_code(rewritten), WRONG_TYPE)?;
+    holds(out.is_empty(), "appended")
 }

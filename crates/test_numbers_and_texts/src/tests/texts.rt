@@ -1,12 +1,14 @@
 //! Texts: a table of rows for each format.
 
-use postgres_types::private::BytesMut;
 use postgres_types::protocol::{
     lquery_from_sql, lquery_to_sql, ltree_from_sql, ltree_to_sql, ltxtquery_from_sql,
     ltxtquery_to_sql, text_from_sql, text_to_sql,
 };
-use postgres_types::{FromSql, Kind, Type};
-use rows::{made, made_of, read, refusal, refuses, spells, writes};
+use postgres_types::{Kind, Type};
+use rows::code::{TEXT_VERSION, UTF8, WAS_NULL};
+use rows::{
+    accepts, appends, holds, parses, read, refuses, same, simple_type, spells, user_type, writes,
+};
 use std::borrow::CowStr;
 use std::boxed::BoxedStr;
 use std::test::Fail;
@@ -26,45 +28,48 @@ const VERSIONED: [(&str, &[u8]); 4] = [
 ];
 
 const DAMAGED_TEXT: [(Option<&[u8]>, u32); 3] = [
-    (Some(&[0xff]), 5),
-    (Some(&[0x61, 0xc3]), 5),
-    (None, 2),
+    (Some(&[0xff]), UTF8),
+    (Some(&[0x61, 0xc3]), UTF8),
+    (None, WAS_NULL),
 ];
 
 const DAMAGED_VERSIONED: [(Option<&[u8]>, u32); 5] = [
-    (Some(&[]), 14),
-    (Some(&[0x61]), 14),
-    (Some(&[2, 0xff]), 14),
-    (Some(&[1, 0xff]), 5),
-    (None, 2),
+    (Some(&[]), TEXT_VERSION),
+    (Some(&[0x61]), TEXT_VERSION),
+    (Some(&[2, 0xff]), TEXT_VERSION),
+    (Some(&[1, 0xff]), UTF8),
+    (None, WAS_NULL),
 ];
 
 #[test]
 fn texts_are_their_bytes(rt: HostRuntime) -> Result<(), Fail> {
     let alloc = rt.alloc();
-    for ty in [
+    let built_in = [
         Type::VARCHAR,
         Type::TEXT,
         Type::BPCHAR,
         Type::NAME,
         Type::UNKNOWN,
-    ] {
-        spells(alloc, &ty, &TEXT)?;
-        refuses::<&str>(alloc, &ty, &DAMAGED_TEXT)?;
+    ];
+    for ty in &built_in {
+        spells(alloc, ty, &TEXT)?;
+        refuses::<&str>(alloc, ty, &DAMAGED_TEXT)?;
     }
-    let citext = made(alloc, "citext", 100_004, "app")?;
-    spells(alloc, &citext, &TEXT)?;
-    let text = String::from_str(alloc, "\u{e9}")?;
-    writes(alloc, &text, &Type::TEXT, &[0xc3, 0xa9])?;
-    writes(alloc, &text.into_boxed_str(), &Type::NAME, &[0xc3, 0xa9])?;
-    writes(alloc, &CowStr::Borrowed("x"), &Type::BPCHAR, b"x")
+    Ok(())
+}
+
+#[test]
+fn a_citext_is_its_bytes(rt: HostRuntime) -> Result<(), Fail> {
+    let alloc = rt.alloc();
+    let citext = simple_type(alloc, "citext", 100_004, "app")?;
+    spells(alloc, &citext, &TEXT)
 }
 
 #[test]
 fn some_texts_have_a_version(rt: HostRuntime) -> Result<(), Fail> {
     let alloc = rt.alloc();
     for name in ["ltree", "lquery", "ltxtquery"] {
-        let ty = made(alloc, name, 100_001, "app")?;
+        let ty = simple_type(alloc, name, 100_001, "app")?;
         spells(alloc, &ty, &VERSIONED)?;
         refuses::<String>(alloc, &ty, &DAMAGED_VERSIONED)?;
     }
@@ -72,72 +77,67 @@ fn some_texts_have_a_version(rt: HostRuntime) -> Result<(), Fail> {
 }
 
 #[test]
-fn a_text_is_appended_to_an_empty_buffer(rt: HostRuntime) -> Result<(), Fail> {
-    for (text, cell) in TEXT {
-        let mut out = BytesMut::new(rt.alloc());
-        text_to_sql(rt.alloc(), text, &mut out)?;
-        assert_eq!(rt; out.as_slice(), cell);
-    }
-    Ok(())
-}
-
-#[test]
-fn a_text_with_a_version_is_appended_to_an_empty_buffer(rt: HostRuntime) -> Result<(), Fail> {
+fn owned_texts_are_written(rt: HostRuntime) -> Result<(), Fail> {
     let alloc = rt.alloc();
-    for (text, cell) in VERSIONED {
-        let mut out = BytesMut::new(alloc);
-        ltree_to_sql(alloc, text, &mut out)?;
-        assert_eq!(rt; out.as_slice(), cell);
-        let mut out = BytesMut::new(alloc);
-        lquery_to_sql(alloc, text, &mut out)?;
-        assert_eq!(rt; out.as_slice(), cell);
-        let mut out = BytesMut::new(alloc);
-        ltxtquery_to_sql(alloc, text, &mut out)?;
-        assert_eq!(rt; out.as_slice(), cell);
-    }
-    Ok(())
+    let text = String::from_str(alloc, "\u{e9}")?;
+    writes(alloc, &text, &Type::TEXT, &[0xc3, 0xa9])?;
+    writes(alloc, &text.into_boxed_str(), &Type::NAME, &[0xc3, 0xa9])?;
+    writes(alloc, &CowStr::Borrowed("x"), &Type::BPCHAR, b"x")
 }
 
 #[test]
-fn each_reader_reads_its_format(rt: HostRuntime) -> Result<(), Fail> {
-    for (text, cell) in TEXT {
-        assert_eq!(rt; text_from_sql(cell)?, text);
-    }
-    for (text, cell) in VERSIONED {
-        assert_eq!(rt; ltree_from_sql(cell)?, text);
-        assert_eq!(rt; lquery_from_sql(cell)?, text);
-        assert_eq!(rt; ltxtquery_from_sql(cell)?, text);
-    }
-    Ok(())
+fn texts_are_appended(rt: HostRuntime) -> Result<(), Fail> {
+    let alloc = rt.alloc();
+    appends(alloc, text_to_sql, &TEXT)?;
+    appends(alloc, ltree_to_sql, &VERSIONED)?;
+    appends(alloc, lquery_to_sql, &VERSIONED)?;
+    appends(alloc, ltxtquery_to_sql, &VERSIONED)
 }
 
 #[test]
-fn the_four_texts_read_alike(rt: HostRuntime) -> Result<(), Fail> {
+fn texts_are_parsed() -> Result<(), Fail> {
+    parses(text_from_sql, &TEXT)?;
+    parses(ltree_from_sql, &VERSIONED)?;
+    parses(lquery_from_sql, &VERSIONED)?;
+    parses(ltxtquery_from_sql, &VERSIONED)
+}
+
+#[test]
+fn owned_texts_are_read(rt: HostRuntime) -> Result<(), Fail> {
     let alloc = rt.alloc();
     for (text, cell) in TEXT {
-        let cell = Some(cell);
-        assert_eq!(rt; read::<&str>(alloc, &Type::TEXT, cell)?, text);
-        assert_eq!(rt; read::<String>(alloc, &Type::TEXT, cell)?.as_str(), text);
-        assert_eq!(rt; read::<BoxedStr>(alloc, &Type::TEXT, cell)?.as_str(), text);
-        let lent = read::<CowStr>(alloc, &Type::TEXT, cell)?;
-        assert!(rt; matches!(&lent, CowStr::Borrowed(_)));
-        assert_eq!(rt; lent.as_str(), text);
-    }
-    for (cell, code) in DAMAGED_TEXT {
-        assert_eq!(rt; refusal::<String>(alloc, &Type::TEXT, cell), code);
-        assert_eq!(rt; refusal::<BoxedStr>(alloc, &Type::TEXT, cell), code);
-        assert_eq!(rt; refusal::<CowStr>(alloc, &Type::TEXT, cell), code);
+        let found: String = read(alloc, &Type::TEXT, Some(cell))?;
+        same(found.as_str(), text)?;
+        let found: BoxedStr = read(alloc, &Type::TEXT, Some(cell))?;
+        same(found.as_str(), text)?;
     }
     Ok(())
 }
 
 #[test]
-fn a_name_decides_whether_a_made_type_is_accepted(rt: HostRuntime) -> Result<(), Fail> {
+fn a_cow_is_read_as_borrowed(rt: HostRuntime) -> Result<(), Fail> {
     let alloc = rt.alloc();
-    let citext = made_of(alloc, "citext", 99_000, Kind::Enum(Vec::new(alloc)), "app")?;
-    assert!(rt; <String as FromSql>::accepts(&citext));
-    let text = made(alloc, "text", 25, "pg_catalog")?;
-    assert!(rt; !<String as FromSql>::accepts(&text));
-    assert!(rt; !<&str as FromSql>::accepts(&Type::JSON));
+    for (text, cell) in TEXT {
+        let found: CowStr = read(alloc, &Type::TEXT, Some(cell))?;
+        holds(matches!(&found, CowStr::Borrowed(_)), "owned")?;
+        same(found.as_str(), text)?;
+    }
     Ok(())
+}
+
+#[test]
+fn damaged_texts_are_refused(rt: HostRuntime) -> Result<(), Fail> {
+    let alloc = rt.alloc();
+    refuses::<String>(alloc, &Type::TEXT, &DAMAGED_TEXT)?;
+    refuses::<BoxedStr>(alloc, &Type::TEXT, &DAMAGED_TEXT)?;
+    refuses::<CowStr>(alloc, &Type::TEXT, &DAMAGED_TEXT)
+}
+
+#[test]
+fn a_name_decides_whether_a_user_type_is_accepted(rt: HostRuntime) -> Result<(), Fail> {
+    let alloc = rt.alloc();
+    let citext = user_type(alloc, "citext", 99_000, Kind::Enum(Vec::new(alloc)), "app")?;
+    let text = simple_type(alloc, "text", 25, "pg_catalog")?;
+    accepts::<String>(&[(citext, true), (text, false)])?;
+    accepts::<&str>(&[(Type::JSON, false)])
 }

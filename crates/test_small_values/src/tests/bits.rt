@@ -1,10 +1,42 @@
+//! Bit strings: a table of rows for each format, and the list of bits.
+
 use pg_base::bits::laws::same_bits;
 use postgres_types::private::BytesMut;
 use postgres_types::protocol::{varbit_from_sql, varbit_to_sql};
 use postgres_types::{BitVec, Fault, Type};
-use rows::{reads, refusal, rewrites, writes};
+use rows::code::{COUNT, SIZE, WAS_NULL};
+use rows::{holds, reads, refuses, rewrites, same, spells};
 use std::alloc::Global;
 use std::test::Fail;
+
+/// Bit strings and their cells.
+const BITS: [(&[bool], &[u8]); 4] = [
+    (&[], &[0, 0, 0, 0]),
+    (&[true, false, true], &[0, 0, 0, 3, 0xa0]),
+    (
+        &[false, true, true, false, true, false, false, true],
+        &[0, 0, 0, 8, 0x69],
+    ),
+    (
+        &[true, false, false, false, false, false, false, false, false],
+        &[0, 0, 0, 9, 0x80, 0],
+    ),
+];
+
+const DAMAGED: [(Option<&[u8]>, u32); 9] = [
+    (Some(&[]), SIZE),
+    (Some(&[0, 0, 0]), SIZE),
+    (Some(&[0xff, 0xff, 0xff, 0xff]), COUNT),
+    (Some(&[0x80, 0, 0, 0]), COUNT),
+    (Some(&[0, 0, 0, 9, 0x80]), SIZE),
+    (Some(&[0, 0, 0, 8, 0x80, 0]), SIZE),
+    (Some(&[0, 0, 0, 0, 0]), SIZE),
+    (Some(&[0x7f, 0xff, 0xff, 0xff, 0]), SIZE),
+    (None, WAS_NULL),
+];
+
+/// A cell of 3 bits whose padding is not 0.
+const PADDED: [u8; 5] = [0, 0, 0, 3, 0xbf];
 
 /// The list of these bits.
 fn list(alloc: Global, bits: &[bool]) -> Result<BitVec, Fault> {
@@ -18,87 +50,97 @@ fn list(alloc: Global, bits: &[bool]) -> Result<BitVec, Fault> {
 #[test]
 fn bits_have_their_cells(rt: HostRuntime) -> Result<(), Fail> {
     let alloc = rt.alloc();
-    let mut nine = [false; 9];
-    nine[0] = true;
-    let rows: [(&[bool], &[u8]); 4] = [
-        (&[], &[0, 0, 0, 0]),
-        (&[true, false, true], &[0, 0, 0, 3, 0xa0]),
-        (
-            &[false, true, true, false, true, false, false, true],
-            &[0, 0, 0, 8, 0x69],
-        ),
-        (&nine, &[0, 0, 0, 9, 0x80, 0]),
-    ];
-    for (bits, cell) in &rows {
-        for ty in &[Type::BIT, Type::VARBIT] {
-            writes(alloc, &list(alloc, *bits)?, ty, *cell)?;
-            reads(alloc, ty, *cell, list(alloc, *bits)?)?;
-        }
+    for (bits, cell) in BITS {
+        let row = [(list(alloc, bits)?, cell)];
+        spells(alloc, &Type::BIT, &row)?;
+        spells(alloc, &Type::VARBIT, &row)?;
     }
     Ok(())
 }
 
 #[test]
-fn what_pads_the_last_byte_is_ignored_and_written_0(rt: HostRuntime) -> Result<(), Fail> {
+fn damaged_bits_are_refused(rt: HostRuntime) -> Result<(), Fail> {
     let alloc = rt.alloc();
-    let cell = [0u8, 0, 0, 3, 0xbf];
-    reads(
-        alloc,
-        &Type::VARBIT,
-        &cell,
-        list(alloc, &[true, false, true])?,
-    )?;
-    rewrites::<BitVec>(alloc, &Type::VARBIT, &cell, &[0, 0, 0, 3, 0xa0])?;
-    let bits = varbit_from_sql(&cell)?;
-    assert_eq!(rt; bits.len(), 3);
-    assert_eq!(rt; bits.bytes(), [0xbf].as_slice());
+    refuses::<BitVec>(alloc, &Type::BIT, &DAMAGED)?;
+    refuses::<BitVec>(alloc, &Type::VARBIT, &DAMAGED)
+}
+
+#[test]
+fn padding_is_ignored_and_written_as_0(rt: HostRuntime) -> Result<(), Fail> {
+    let alloc = rt.alloc();
+    let bits = list(alloc, &[true, false, true])?;
+    reads(alloc, &Type::VARBIT, &PADDED, bits)?;
+    rewrites::<BitVec>(alloc, &Type::VARBIT, &PADDED, &[0, 0, 0, 3, 0xa0])
+}
+
+#[test]
+fn parsed_bits_keep_their_padding(rt: HostRuntime) -> Result<(), Fail> {
+    let bits = varbit_from_sql(&PADDED)?;
+    same(bits.len(), 3)?;
+    same(bits.bytes(), [0xbfu8].as_slice())
+}
+
+#[test]
+fn appended_bits_have_no_padding_but_0(rt: HostRuntime) -> Result<(), Fail> {
+    let alloc = rt.alloc();
     let mut out = BytesMut::new(alloc);
     varbit_to_sql(alloc, 9, &[0xff, 0xff], &mut out)?;
-    assert_eq!(rt; out.as_slice(), [0, 0, 0, 9, 0xff, 0x80].as_slice());
-    Ok(())
+    same(out.as_slice(), [0u8, 0, 0, 9, 0xff, 0x80].as_slice())
 }
 
-#[test]
-fn cells_of_bits_are_refused(rt: HostRuntime) {
-    let rows: [(&[u8], u32); 8] = [
-        (&[], 4),
-        (&[0, 0, 0], 4),
-        (&[0xff, 0xff, 0xff, 0xff], 6),
-        (&[0x80, 0, 0, 0], 6),
-        (&[0, 0, 0, 9, 0x80], 4),
-        (&[0, 0, 0, 8, 0x80, 0], 4),
-        (&[0, 0, 0, 0, 0], 4),
-        (&[0x7f, 0xff, 0xff, 0xff, 0], 4),
-    ];
-    for (cell, code) in &rows {
-        for ty in &[Type::BIT, Type::VARBIT] {
-            assert_eq!(rt; refusal::<BitVec>(rt.alloc(), ty, Some(*cell)), *code);
-        }
-    }
-    assert_eq!(rt; refusal::<BitVec>(rt.alloc(), &Type::BIT, None), 2);
-}
-
-#[test]
-fn a_list_of_bits_grows_and_shrinks(rt: HostRuntime) -> Result<(), Fail> {
-    let alloc = rt.alloc();
+/// Nine bits, of which each third is set.
+fn thirds(alloc: Global) -> Result<BitVec, Fault> {
     let mut bits = BitVec::new(alloc);
-    assert!(rt; bits.is_empty());
-    assert_eq!(rt; bits.pop(), None);
     for i in 0..9 {
         bits.push(i % 3 == 0)?;
     }
-    assert_eq!(rt; bits.len(), 9);
-    assert_eq!(rt; bits.as_bytes(), [0b1001_0010, 0].as_slice());
-    assert_eq!(rt; bits.get(6), Some(true));
-    assert_eq!(rt; bits.get(8), Some(false));
-    assert_eq!(rt; bits.get(9), None);
-    assert_eq!(rt; bits.pop(), Some(false));
-    assert!(rt; bits == BitVec::from_bytes(alloc, &[0b1001_0010])?);
-    assert!(rt; same_bits(&bits, &BitVec::from_bytes(alloc, &[0b1001_0010])?));
-    assert!(rt; !same_bits(&bits, &BitVec::from_bytes(alloc, &[0b1001_0011])?));
-    assert_eq!(rt; bits.pop(), Some(false));
-    assert_eq!(rt; bits.pop(), Some(true));
-    assert!(rt; bits != BitVec::from_bytes(alloc, &[0b1001_0000])?);
-    assert_eq!(rt; bits.to_bytes(alloc)?.as_slice(), [0b1001_0000].as_slice());
+    Ok(bits)
+}
+
+#[test]
+fn a_new_list_is_empty(rt: HostRuntime) -> Result<(), Fail> {
+    let mut bits = BitVec::new(rt.alloc());
+    holds(bits.is_empty(), "not empty")?;
+    same(bits.pop(), None)
+}
+
+#[test]
+fn pushed_bits_are_found(rt: HostRuntime) -> Result<(), Fail> {
+    let bits = thirds(rt.alloc())?;
+    same(bits.len(), 9)?;
+    same(bits.as_bytes(), [0b1001_0010u8, 0].as_slice())?;
+    for (i, bit) in [(6, Some(true)), (8, Some(false)), (9, None)] {
+        same(bits.get(i), bit)?;
+    }
     Ok(())
+}
+
+#[test]
+fn bits_are_popped_from_the_end(rt: HostRuntime) -> Result<(), Fail> {
+    let alloc = rt.alloc();
+    let mut bits = thirds(alloc)?;
+    for bit in [false, false, true] {
+        same(bits.pop(), Some(bit))?;
+    }
+    holds(bits != BitVec::from_bytes(alloc, &[0b1001_0000])?, "equal")?;
+    same(bits.to_bytes(alloc)?.as_slice(), [0b1001_0000u8].as_slice())
+}
+
+#[test]
+fn lists_of_the_same_bits_are_equal(rt: HostRuntime) -> Result<(), Fail> {
+    let alloc = rt.alloc();
+    let mut bits = thirds(alloc)?;
+    same(bits.pop(), Some(false))?;
+    let equal = BitVec::from_bytes(alloc, &[0b1001_0010])?;
+    holds(bits == equal, "different by ==")?;
+    holds(same_bits(&bits, &equal), "different")
+}
+
+#[test]
+fn lists_of_other_bits_are_different(rt: HostRuntime) -> Result<(), Fail> {
+    let alloc = rt.alloc();
+    let mut bits = thirds(alloc)?;
+    same(bits.pop(), Some(false))?;
+    let other = BitVec::from_bytes(alloc, &[0b1001_0011])?;
+    holds(!same_bits(&bits, &other), "equal")
 }

@@ -1,80 +1,117 @@
+//! Log positions: their texts, their order and their cells.
+
 use pg_base::lsn::laws::{position_order, printed_position_parses, same_position};
-use postgres_types::private::BytesMut;
 use postgres_types::protocol::{lsn_from_sql, lsn_to_sql};
-use postgres_types::{ParseLsnError, PgLsn, Type};
-use rows::{reads, refusal, writes};
+use postgres_types::{PgLsn, Type};
+use rows::code::{SIZE, USER, WAS_NULL};
+use rows::{appends, debugs, displays, holds, parses, reads, refuses, same, writes};
 use std::cmp::Ordering;
 use std::test::Fail;
 
+/// A text, the position that it is parsed to, and the text that is printed of that.
+const POSITIONS: [(&str, u64, &str); 9] = [
+    ("16/B374D848", 0x16_B374_D848, "16/B374D848"),
+    ("16/b374d848", 0x16_B374_D848, "16/B374D848"),
+    ("0/0", 0, "0/0"),
+    ("+a/+b", 0xA_0000_000B, "A/B"),
+    ("1FFFFFFFF/0", 0xFFFF_FFFF_0000_0000, "FFFFFFFF/0"),
+    ("0/100000000", 0x1_0000_0000, "1/0"),
+    ("1/100000001", 0x1_0000_0001, "1/1"),
+    ("00/0000000000000000000A", 10, "0/A"),
+    ("FFFFFFFF/FFFFFFFF", u64::MAX, "FFFFFFFF/FFFFFFFF"),
+];
+
+const OTHER_TEXTS: [&str; 13] = [
+    "",
+    "16",
+    "/",
+    "+/1",
+    "1/",
+    "/1",
+    "++1/1",
+    "-1/1",
+    "0x1/1",
+    "1/2/3",
+    "1 /1",
+    "g/1",
+    "0/10000000000000000",
+];
+
+const LSN: [(u64, &[u8]); 1] = [(0x16_B374_D848, &[0, 0, 0, 0x16, 0xB3, 0x74, 0xD8, 0x48])];
+
+const DAMAGED: [(Option<&[u8]>, u32); 2] = [
+    (Some(&[0, 0, 0x16, 0xB3, 0x74, 0xD8, 0x48]), SIZE),
+    (None, WAS_NULL),
+];
+
+/// The number of the position that the text is parsed to.
+fn parsed(text: &str) -> Option<u64> {
+    match text.parse::<PgLsn>() {
+        Ok(lsn) => Some(u64::from(lsn)),
+        Err(_) => None,
+    }
+}
+
 #[test]
-fn positions_are_parsed_and_printed(rt: HostRuntime) -> Result<(), Fail> {
-    let alloc = rt.alloc();
-    let rows = [
-        ("16/B374D848", 0x16_B374_D848, "16/B374D848"),
-        ("16/b374d848", 0x16_B374_D848, "16/B374D848"),
-        ("0/0", 0, "0/0"),
-        ("+a/+b", 0xA_0000_000B, "A/B"),
-        ("1FFFFFFFF/0", 0xFFFF_FFFF_0000_0000, "FFFFFFFF/0"),
-        ("0/100000000", 0x1_0000_0000, "1/0"),
-        ("1/100000001", 0x1_0000_0001, "1/1"),
-        ("00/0000000000000000000A", 10, "0/A"),
-        ("FFFFFFFF/FFFFFFFF", u64::MAX, "FFFFFFFF/FFFFFFFF"),
-    ];
-    for (text, number, printed) in rows {
-        let Ok(lsn) = text.parse::<PgLsn>() else {
-            return Err(Fail::from("refused"));
-        };
-        assert_eq!(rt; u64::from(lsn), number);
-        assert_eq!(rt; format!(in alloc; "{lsn}")?.as_str(), printed);
-        assert_eq!(rt; format!(in alloc; "{lsn:?}")?.as_str(), printed);
+fn positions_are_parsed(rt: HostRuntime) -> Result<(), Fail> {
+    for (text, number, _) in POSITIONS {
+        same(parsed(text), Some(number))?;
+    }
+    Ok(())
+}
+
+#[test]
+fn positions_are_printed(rt: HostRuntime) -> Result<(), Fail> {
+    for (_, number, printed) in POSITIONS {
+        displays(rt.alloc(), &PgLsn::from(number), printed)?;
+        debugs(rt.alloc(), &PgLsn::from(number), printed)?;
     }
     printed_position_parses();
     Ok(())
 }
 
 #[test]
-fn other_texts_are_no_positions(rt: HostRuntime) {
-    let none = [
-        "",
-        "16",
-        "/",
-        "+/1",
-        "1/",
-        "/1",
-        "++1/1",
-        "-1/1",
-        "0x1/1",
-        "1/2/3",
-        "1 /1",
-        "g/1",
-        "0/10000000000000000",
-    ];
-    for text in none {
-        let parsed: Result<PgLsn, ParseLsnError> = text.parse();
-        assert!(rt; parsed.is_err());
+fn other_texts_are_no_positions(rt: HostRuntime) -> Result<(), Fail> {
+    for text in OTHER_TEXTS {
+        same(parsed(text), None)?;
     }
+    Ok(())
 }
 
 #[test]
-fn positions_are_their_numbers(rt: HostRuntime) -> Result<(), Fail> {
-    let alloc = rt.alloc();
+fn positions_are_ordered_as_their_numbers(rt: HostRuntime) -> Result<(), Fail> {
     let (low, high) = (PgLsn::from(0xFFFF_FFFF), PgLsn::from(0x1_0000_0000));
-    assert!(rt; low < high);
-    assert!(rt; low == low.clone()?);
-    assert_eq!(rt; position_order(&high, &low), Ordering::Greater);
-    assert!(rt; !same_position(&low, &high));
-    let cell = [0u8, 0, 0, 0x16, 0xB3, 0x74, 0xD8, 0x48];
-    let lsn = PgLsn::from(0x16_B374_D848);
-    writes(alloc, &lsn, &Type::PG_LSN, &cell)?;
-    reads(alloc, &Type::PG_LSN, &cell, lsn)?;
-    let last = [0xffu8; 8];
-    reads(alloc, &Type::PG_LSN, &last, PgLsn::from(u64::MAX))?;
-    assert_eq!(rt; refusal::<PgLsn>(alloc, &Type::PG_LSN, Some(&cell[1..])), 4);
-    assert_eq!(rt; refusal::<PgLsn>(alloc, &Type::PG_LSN, None), 2);
-    assert_eq!(rt; refusal::<PgLsn>(alloc, &Type::INT8, Some(&cell)), 21);
-    let mut out = BytesMut::new(alloc);
-    lsn_to_sql(alloc, 0x16_B374_D848, &mut out)?;
-    assert_eq!(rt; out.as_slice(), cell.as_slice());
-    assert_eq!(rt; lsn_from_sql(&cell)?, 0x16_B374_D848);
-    Ok(())
+    holds(low < high, "not less")?;
+    same(position_order(&high, &low), Ordering::Greater)
+}
+
+#[test]
+fn positions_are_equal_as_their_numbers(rt: HostRuntime) -> Result<(), Fail> {
+    let (low, high) = (PgLsn::from(0xFFFF_FFFF), PgLsn::from(0x1_0000_0000));
+    holds(low == low.clone()?, "different")?;
+    holds(!same_position(&low, &high), "equal")
+}
+
+#[test]
+fn positions_have_their_cells(rt: HostRuntime) -> Result<(), Fail> {
+    let alloc = rt.alloc();
+    for (number, cell) in LSN {
+        writes(alloc, &PgLsn::from(number), &Type::PG_LSN, cell)?;
+        reads(alloc, &Type::PG_LSN, cell, PgLsn::from(number))?;
+    }
+    reads(alloc, &Type::PG_LSN, &[0xff; 8], PgLsn::from(u64::MAX))
+}
+
+#[test]
+fn positions_are_appended_and_parsed_from_cells(rt: HostRuntime) -> Result<(), Fail> {
+    appends(rt.alloc(), lsn_to_sql, &LSN)?;
+    parses(lsn_from_sql, &LSN)
+}
+
+#[test]
+fn damaged_positions_are_refused(rt: HostRuntime) -> Result<(), Fail> {
+    let alloc = rt.alloc();
+    let [(_, cell)] = LSN;
+    refuses::<PgLsn>(alloc, &Type::PG_LSN, &DAMAGED)?;
+    refuses::<PgLsn>(alloc, &Type::INT8, &[(Some(cell), USER)])
 }

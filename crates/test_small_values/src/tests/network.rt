@@ -1,13 +1,106 @@
+//! Network addresses, MAC addresses and UUIDs: a table of rows for each format.
+
 use pg_base::network::laws::{same_cidr, same_inet, same_mac_address};
 use postgres_types::private::BytesMut;
 use postgres_types::protocol::{
     inet_from_sql, inet_to_sql, macaddr_from_sql, macaddr_to_sql, uuid_from_sql, uuid_to_sql,
 };
-use postgres_types::{Fault, IpCidr, IpInet, MacAddress, Type};
-use rows::{reads, refusal, rewrites, writes};
+use postgres_types::{IpCidr, IpInet, MacAddress, Type};
+use rows::code::{ADDRESS_LENGTH, FAMILY, HOST_BITS, NETMASK, SIZE, WAS_NULL};
+use rows::{appends, fault_code, holds, parses, reads, refusal, refuses, rewrites, same, spells};
 use std::net::{IpAddr, Ipv4Addr, Ipv6Addr};
 use std::test::Fail;
 use uuid::Uuid;
+
+/// The cell of ::1, alone in its network.
+const LOCALHOST: [u8; 20] = [
+    3, 0x80, 0, 0x10, 0, 0, 0, 0, 0, 0, 0, 0, 0, 0, 0, 0, 0, 0, 0, 1,
+];
+
+/// The cell of 102:304:506:708:90a:b0c:d0e:f10/65.
+const DISTINCT: [u8; 20] = [
+    3, 65, 0, 16, 1, 2, 3, 4, 5, 6, 7, 8, 9, 10, 11, 12, 13, 14, 15, 16,
+];
+
+/// The cell of 10.1.2.3/8.
+const HOST: [u8; 8] = [2, 8, 0, 4, 10, 1, 2, 3];
+
+/// The cell of 10.0.0.0/8.
+const NETWORK: [u8; 8] = [2, 8, 0, 4, 10, 0, 0, 0];
+
+/// The same, with the flag that PostgreSQL sets in a CIDR.
+const FLAGGED: [u8; 8] = [2, 8, 1, 4, 10, 0, 0, 0];
+
+/// What INET and CIDR cells are refused with; 0 where they are read.
+const DAMAGED: [(Option<&[u8]>, u32); 11] = [
+    (Some(&[2, 8, 0]), SIZE),
+    (Some(&[4, 0x21, 0, 4, 10, 0, 0, 0]), FAMILY),
+    (Some(&[1, 8, 0, 4, 10, 0, 0, 0]), FAMILY),
+    (Some(&[2, 0x21, 0, 5, 10, 0, 0, 0]), NETMASK),
+    (
+        Some(&[
+            3, 129, 0, 16, 0x20, 0x01, 0x0d, 0xb8, 0, 0, 0, 0, 0, 0, 0, 0, 0, 0, 0, 0,
+        ]),
+        NETMASK,
+    ),
+    (
+        Some(&[
+            2, 8, 0, 0x10, 1, 2, 3, 4, 5, 6, 7, 8, 9, 10, 11, 12, 13, 14, 15, 16,
+        ]),
+        ADDRESS_LENGTH,
+    ),
+    (Some(&[3, 8, 0, 4, 10, 0, 0, 0]), ADDRESS_LENGTH),
+    (Some(&[2, 8, 0, 4, 10, 1, 2]), SIZE),
+    (Some(&[2, 8, 0, 4, 10, 1, 2, 3, 4]), SIZE),
+    (
+        Some(&[
+            3, 128, 0, 16, 0x20, 0x01, 0x0d, 0xb8, 0, 0, 0, 0, 0, 0, 0, 0, 0, 0, 0, 1,
+        ]),
+        0,
+    ),
+    (None, WAS_NULL),
+];
+
+/// A length, an IPv4 address, and what the network of both is refused with; 0 where it is made.
+const NETWORKS: [(u8, [u8; 4], u32); 8] = [
+    (8, [10, 1, 2, 3], HOST_BITS),
+    (0, [0, 0, 0, 0], 0),
+    (0, [128, 0, 0, 0], HOST_BITS),
+    (9, [10, 128, 0, 0], 0),
+    (9, [10, 192, 0, 0], HOST_BITS),
+    (31, [10, 1, 2, 2], 0),
+    (31, [10, 1, 2, 3], HOST_BITS),
+    (32, [10, 1, 2, 3], 0),
+];
+
+/// A length, the last byte of an address 2001:db8::n, and what the network is refused with.
+const NETWORKS_V6: [(u8, u8, u32); 6] = [
+    (64, 0, 0),
+    (64, 1, HOST_BITS),
+    (127, 2, 0),
+    (127, 1, HOST_BITS),
+    (128, 1, 0),
+    (0, 0, HOST_BITS),
+];
+
+const MAC: [([u8; 6], &[u8]); 2] = [
+    ([8, 0, 0x2b, 1, 2, 3], &[8, 0, 0x2b, 1, 2, 3]),
+    ([1, 2, 3, 4, 5, 6], &[1, 2, 3, 4, 5, 6]),
+];
+
+const DAMAGED_MAC: [(Option<&[u8]>, u32); 2] = [
+    (Some(&[0, 0x2b, 1, 2, 3]), SIZE),
+    (None, WAS_NULL),
+];
+
+const UUID: [([u8; 16], &[u8]); 1] = [(
+    [1, 2, 3, 4, 5, 6, 7, 8, 9, 10, 11, 12, 13, 14, 15, 16],
+    &[1, 2, 3, 4, 5, 6, 7, 8, 9, 10, 11, 12, 13, 14, 15, 16],
+)];
+
+const UUID_CELL: [u8; 16] = [
+    0xa0, 0xee, 0xbc, 0x99, 0x9c, 0x0b, 0x4e, 0xf8, 0xbb, 0x6d, 0x6b, 0xb9, 0xbd, 0x38, 0x0a, 0x11,
+];
 
 /// The IPv4 address 10.x.y.z.
 fn ten(x: u8, y: u8, z: u8) -> IpAddr {
@@ -21,191 +114,178 @@ fn v6_cell(netmask: u8, n: u8) -> [u8; 20] {
     ]
 }
 
-/// The number of the fault of what was made; 0 where there is none.
-fn code<T: Drop>(made: Result<T, Fault>) -> u32 {
-    match made {
-        Ok(_) => 0,
-        Err(fault) => fault.code(),
-    }
+#[test]
+fn addresses_have_their_cells(rt: HostRuntime) -> Result<(), Fail> {
+    let alloc = rt.alloc();
+    let rows = [(IpAddr::V6(Ipv6Addr::LOCALHOST), LOCALHOST.as_slice())];
+    spells(alloc, &Type::INET, &rows)
 }
 
 #[test]
-fn addresses_have_their_bytes(rt: HostRuntime) -> Result<(), Fail> {
+fn addresses_drop_the_netmask(rt: HostRuntime) -> Result<(), Fail> {
     let alloc = rt.alloc();
-    let one = [
-        3u8, 0x80, 0, 0x10, 0, 0, 0, 0, 0, 0, 0, 0, 0, 0, 0, 0, 0, 0, 0, 1,
-    ];
-    let local = IpAddr::V6(Ipv6Addr::LOCALHOST);
-    writes(alloc, &local, &Type::INET, &one)?;
-    reads(alloc, &Type::INET, &one, local)?;
-    let distinct = [
-        3u8, 65, 0, 16, 1, 2, 3, 4, 5, 6, 7, 8, 9, 10, 11, 12, 13, 14, 15, 16,
-    ];
-    let far = Ipv6Addr::new(0x102, 0x304, 0x506, 0x708, 0x90a, 0xb0c, 0xd0e, 0xf10);
-    let far = IpInet::new(IpAddr::V6(far), 65)?;
-    writes(alloc, &far, &Type::INET, &distinct)?;
-    reads(alloc, &Type::INET, &distinct, far)?;
-
-    let host = [2u8, 8, 0, 4, 10, 1, 2, 3];
-    reads(alloc, &Type::INET, &host, ten(1, 2, 3))?;
-    reads(alloc, &Type::INET, &host, IpInet::new(ten(1, 2, 3), 8)?)?;
+    reads(alloc, &Type::INET, &HOST, ten(1, 2, 3))?;
     let alone = [2u8, 0x20, 0, 4, 10, 1, 2, 3];
-    rewrites::<IpAddr>(alloc, &Type::INET, &host, &alone)?;
-    rewrites::<IpInet>(alloc, &Type::INET, &host, &host)?;
+    rewrites::<IpAddr>(alloc, &Type::INET, &HOST, &alone)
+}
 
-    let flagged = [2u8, 8, 1, 4, 10, 0, 0, 0];
-    let network = [2u8, 8, 0, 4, 10, 0, 0, 0];
-    reads(alloc, &Type::CIDR, &flagged, IpCidr::new(ten(0, 0, 0), 8)?)?;
-    rewrites::<IpCidr>(alloc, &Type::CIDR, &flagged, &network)?;
-    rewrites::<IpCidr>(alloc, &Type::CIDR, &network, &network)?;
-    writes(alloc, &IpCidr::new(ten(0, 0, 0), 8)?, &Type::CIDR, &network)?;
-    reads(alloc, &Type::CIDR, &network, IpCidr::new(ten(0, 0, 0), 8)?)?;
+#[test]
+fn addresses_with_netmasks_have_their_cells(rt: HostRuntime) -> Result<(), Fail> {
+    let alloc = rt.alloc();
+    let distinct = Ipv6Addr::new(0x102, 0x304, 0x506, 0x708, 0x90a, 0xb0c, 0xd0e, 0xf10);
+    let rows = [
+        (IpInet::new(IpAddr::V6(distinct), 65)?, DISTINCT.as_slice()),
+        (IpInet::new(ten(1, 2, 3), 8)?, HOST.as_slice()),
+    ];
+    spells(alloc, &Type::INET, &rows)?;
+    rewrites::<IpInet>(alloc, &Type::INET, &HOST, &HOST)
+}
 
-    let cell = v6_cell(64, 0);
+#[test]
+fn networks_have_their_cells(rt: HostRuntime) -> Result<(), Fail> {
     let first = Ipv6Addr::new(0x2001, 0xdb8, 0, 0, 0, 0, 0, 0);
-    let network = IpCidr::new(IpAddr::V6(first), 64)?;
-    writes(alloc, &network, &Type::CIDR, &cell)?;
-    reads(alloc, &Type::CIDR, &cell, network)
-}
-
-#[test]
-fn damaged_addresses_are_refused_by_their_first_fault(rt: HostRuntime) {
-    let alloc = rt.alloc();
-    let rows: [(&[u8], u32); 10] = [
-        (&[2, 8, 0], 4),
-        (&[4, 0x21, 0, 4, 10, 0, 0, 0], 17),
-        (&[1, 8, 0, 4, 10, 0, 0, 0], 17),
-        (&[2, 0x21, 0, 5, 10, 0, 0, 0], 18),
-        (&v6_cell(129, 0), 18),
-        (
-            &[
-                2, 8, 0, 0x10, 1, 2, 3, 4, 5, 6, 7, 8, 9, 10, 11, 12, 13, 14, 15, 16,
-            ],
-            19,
-        ),
-        (&[3, 8, 0, 4, 10, 0, 0, 0], 19),
-        (&[2, 8, 0, 4, 10, 1, 2], 4),
-        (&[2, 8, 0, 4, 10, 1, 2, 3, 4], 4),
-        (&v6_cell(128, 1), 0),
-    ];
-    for (cell, fault) in rows {
-        assert_eq!(rt; refusal::<IpInet>(alloc, &Type::INET, Some(cell)), fault);
-        assert_eq!(rt; refusal::<IpAddr>(alloc, &Type::INET, Some(cell)), fault);
-        assert_eq!(rt; refusal::<IpCidr>(alloc, &Type::CIDR, Some(cell)), fault);
-    }
-    assert_eq!(rt; refusal::<IpInet>(alloc, &Type::INET, None), 2);
-    assert_eq!(rt; refusal::<IpAddr>(alloc, &Type::INET, None), 2);
-    assert_eq!(rt; refusal::<IpCidr>(alloc, &Type::CIDR, None), 2);
-}
-
-#[test]
-fn networks_have_no_host_bits(rt: HostRuntime) {
-    let alloc = rt.alloc();
+    let v6 = v6_cell(64, 0);
     let rows = [
-        (8u8, [10u8, 1, 2, 3], 20u32),
-        (0, [0, 0, 0, 0], 0),
-        (0, [128, 0, 0, 0], 20),
-        (9, [10, 128, 0, 0], 0),
-        (9, [10, 192, 0, 0], 20),
-        (31, [10, 1, 2, 2], 0),
-        (31, [10, 1, 2, 3], 20),
-        (32, [10, 1, 2, 3], 0),
+        (IpCidr::new(ten(0, 0, 0), 8)?, NETWORK.as_slice()),
+        (IpCidr::new(IpAddr::V6(first), 64)?, v6.as_slice()),
     ];
-    for (len, [a, b, c, d], fault) in rows {
+    spells(rt.alloc(), &Type::CIDR, &rows)
+}
+
+#[test]
+fn the_flag_of_a_network_is_ignored(rt: HostRuntime) -> Result<(), Fail> {
+    let alloc = rt.alloc();
+    let network = IpCidr::new(ten(0, 0, 0), 8)?;
+    reads(alloc, &Type::CIDR, &FLAGGED, network)?;
+    rewrites::<IpCidr>(alloc, &Type::CIDR, &FLAGGED, &NETWORK)?;
+    rewrites::<IpCidr>(alloc, &Type::CIDR, &NETWORK, &NETWORK)
+}
+
+#[test]
+fn damaged_addresses_are_refused_by_their_first_fault(rt: HostRuntime) -> Result<(), Fail> {
+    let alloc = rt.alloc();
+    refuses::<IpInet>(alloc, &Type::INET, &DAMAGED)?;
+    refuses::<IpAddr>(alloc, &Type::INET, &DAMAGED)?;
+    refuses::<IpCidr>(alloc, &Type::CIDR, &DAMAGED)
+}
+
+#[test]
+fn cells_of_networks_have_no_host_bits(rt: HostRuntime) -> Result<(), Fail> {
+    for (len, [a, b, c, d], fault) in NETWORKS {
         let cell = [2, len, 0, 4, a, b, c, d];
-        assert_eq!(rt; refusal::<IpCidr>(alloc, &Type::CIDR, Some(&cell)), fault);
-        let addr = IpAddr::V4(Ipv4Addr::new(a, b, c, d));
-        assert_eq!(rt; code(IpCidr::new(addr, len)), fault);
-        assert_eq!(rt; code(IpInet::new(addr, len)), 0);
+        same(
+            refusal::<IpCidr>(rt.alloc(), &Type::CIDR, Some(&cell)),
+            fault,
+        )?;
     }
-    let rows = [
-        (64u8, 0u8, 0u32),
-        (64, 1, 20),
-        (127, 2, 0),
-        (127, 1, 20),
-        (128, 1, 0),
-        (0, 0, 20),
-    ];
-    for (len, last, fault) in rows {
+    Ok(())
+}
+
+#[test]
+fn cells_of_ipv6_networks_have_no_host_bits(rt: HostRuntime) -> Result<(), Fail> {
+    for (len, last, fault) in NETWORKS_V6 {
         let cell = v6_cell(len, last);
-        assert_eq!(rt; refusal::<IpCidr>(alloc, &Type::CIDR, Some(&cell)), fault);
+        same(
+            refusal::<IpCidr>(rt.alloc(), &Type::CIDR, Some(&cell)),
+            fault,
+        )?;
     }
-    assert_eq!(rt; code(IpCidr::new(IpAddr::V6(Ipv6Addr::UNSPECIFIED), 0)), 0);
-    assert_eq!(rt; code(IpCidr::new(ten(1, 2, 3), 33)), 18);
-    assert_eq!(rt; code(IpInet::new(ten(1, 2, 3), 33)), 18);
-    assert_eq!(rt; code(IpInet::new(IpAddr::V6(Ipv6Addr::LOCALHOST), 129)), 18);
-}
-
-#[test]
-fn hardware_addresses_are_their_bytes(rt: HostRuntime) -> Result<(), Fail> {
-    let alloc = rt.alloc();
-    let cell = [8u8, 0, 0x2b, 1, 2, 3];
-    let address = MacAddress::new([8, 0, 0x2b, 1, 2, 3]);
-    writes(alloc, &address, &Type::MACADDR, &cell)?;
-    reads(alloc, &Type::MACADDR, &cell, address)?;
-    assert_eq!(rt;
-        refusal::<MacAddress>(alloc, &Type::MACADDR, Some(&cell[1..])),
-        4
-    );
-    assert_eq!(rt; refusal::<MacAddress>(alloc, &Type::MACADDR, None), 2);
     Ok(())
 }
 
 #[test]
-fn uuids_are_their_bytes(rt: HostRuntime) -> Result<(), Fail> {
+fn networks_have_no_host_bits() -> Result<(), Fail> {
+    for (len, [a, b, c, d], fault) in NETWORKS {
+        let addr = IpAddr::V4(Ipv4Addr::new(a, b, c, d));
+        same(fault_code(IpCidr::new(addr, len)), fault)?;
+        same(fault_code(IpInet::new(addr, len)), 0)?;
+    }
+    let all = IpAddr::V6(Ipv6Addr::UNSPECIFIED);
+    same(fault_code(IpCidr::new(all, 0)), 0)
+}
+
+#[test]
+fn netmasks_are_no_longer_than_addresses() -> Result<(), Fail> {
+    same(fault_code(IpCidr::new(ten(1, 2, 3), 33)), NETMASK)?;
+    for (addr, len) in [(ten(1, 2, 3), 33), (IpAddr::V6(Ipv6Addr::LOCALHOST), 129)] {
+        same(fault_code(IpInet::new(addr, len)), NETMASK)?;
+    }
+    Ok(())
+}
+
+#[test]
+fn mac_addresses_have_their_cells(rt: HostRuntime) -> Result<(), Fail> {
     let alloc = rt.alloc();
-    let cell = [
-        0xa0u8, 0xee, 0xbc, 0x99, 0x9c, 0x0b, 0x4e, 0xf8, 0xbb, 0x6d, 0x6b, 0xb9, 0xbd, 0x38, 0x0a,
-        0x11,
-    ];
+    for (bytes, cell) in MAC {
+        same(MacAddress::new(bytes).to_array(), bytes)?;
+        spells(alloc, &Type::MACADDR, &[(MacAddress::new(bytes), cell)])?;
+    }
+    refuses::<MacAddress>(alloc, &Type::MACADDR, &DAMAGED_MAC)
+}
+
+#[test]
+fn uuids_have_their_cells(rt: HostRuntime) -> Result<(), Fail> {
+    let alloc = rt.alloc();
     let uuid = Uuid::from_u128(0xa0eebc99_9c0b_4ef8_bb6d_6bb9bd380a11);
-    writes(alloc, &uuid, &Type::UUID, &cell)?;
-    reads(alloc, &Type::UUID, &cell, uuid)?;
-    assert_eq!(rt; refusal::<Uuid>(alloc, &Type::UUID, Some(&cell[1..])), 4);
-    assert_eq!(rt; refusal::<Uuid>(alloc, &Type::UUID, None), 2);
-    Ok(())
+    let rows = [(uuid, UUID_CELL.as_slice())];
+    let damaged = [(Some(&UUID_CELL[1..]), SIZE), (None, WAS_NULL)];
+    spells(alloc, &Type::UUID, &rows)?;
+    refuses::<Uuid>(alloc, &Type::UUID, &damaged)
 }
 
 #[test]
-fn plain_addresses_and_identifiers_go_both_ways(rt: HostRuntime) -> Result<(), Fail> {
+fn mac_addresses_and_uuids_are_appended_and_parsed(rt: HostRuntime) -> Result<(), Fail> {
+    let alloc = rt.alloc();
+    appends(alloc, macaddr_to_sql, &MAC)?;
+    parses(macaddr_from_sql, &MAC)?;
+    appends(alloc, uuid_to_sql, &UUID)?;
+    parses(uuid_from_sql, &UUID)
+}
+
+#[test]
+fn addresses_are_appended_and_parsed(rt: HostRuntime) -> Result<(), Fail> {
     let alloc = rt.alloc();
     let mut out = BytesMut::new(alloc);
     inet_to_sql(alloc, ten(1, 2, 3), 8, &mut out)?;
     let inet = inet_from_sql(&out)?;
-    assert_eq!(rt; inet.addr(), ten(1, 2, 3));
-    assert_eq!(rt; inet.netmask(), 8);
-    let mut out = BytesMut::new(alloc);
-    macaddr_to_sql(alloc, [1, 2, 3, 4, 5, 6], &mut out)?;
-    assert_eq!(rt; macaddr_from_sql(&out)?, [1, 2, 3, 4, 5, 6]);
-    let mut out = BytesMut::new(alloc);
-    let id = [1, 2, 3, 4, 5, 6, 7, 8, 9, 10, 11, 12, 13, 14, 15, 16];
-    uuid_to_sql(alloc, id, &mut out)?;
-    assert_eq!(rt; uuid_from_sql(&out)?, id);
+    same(inet.addr(), ten(1, 2, 3))?;
+    same(inet.netmask(), 8)
+}
+
+#[test]
+fn networks_and_addresses_have_parts() -> Result<(), Fail> {
     let network = IpCidr::new(ten(0, 0, 0), 8)?;
-    assert_eq!(rt; network.first_address(), ten(0, 0, 0));
-    assert_eq!(rt; network.network_length(), 8);
+    same(network.first_address(), ten(0, 0, 0))?;
+    same(network.network_length(), 8)?;
     let host = IpInet::new(ten(1, 2, 3), 8)?;
-    assert_eq!(rt; host.address(), ten(1, 2, 3));
-    assert_eq!(rt; host.network_length(), 8);
-    assert_eq!(rt;
-        MacAddress::new([1, 2, 3, 4, 5, 6]).to_array(),
-        [1, 2, 3, 4, 5, 6]
-    );
+    same(host.address(), ten(1, 2, 3))?;
+    same(host.network_length(), 8)
+}
+
+#[test]
+fn addresses_of_other_parts_are_different() -> Result<(), Fail> {
+    let host = IpInet::new(ten(1, 2, 3), 8)?;
+    holds(same_inet(&host, &host), "different")?;
+    for (addr, len) in [(ten(1, 2, 3), 9), (ten(1, 2, 4), 8)] {
+        holds(!same_inet(&host, &IpInet::new(addr, len)?), "equal")?;
+    }
     Ok(())
 }
 
 #[test]
-fn values_of_other_parts_are_different(rt: HostRuntime) -> Result<(), Fail> {
-    let host = IpInet::new(ten(1, 2, 3), 8)?;
-    assert!(rt; same_inet(&host, &host));
-    assert!(rt; !same_inet(&host, &IpInet::new(ten(1, 2, 3), 9)?));
-    assert!(rt; !same_inet(&host, &IpInet::new(ten(1, 2, 4), 8)?));
+fn networks_of_other_parts_are_different() -> Result<(), Fail> {
     let network = IpCidr::new(ten(0, 0, 0), 8)?;
-    assert!(rt; same_cidr(&network, &network));
-    assert!(rt; !same_cidr(&network, &IpCidr::new(ten(0, 0, 0), 9)?));
-    assert!(rt; !same_cidr(&network, &IpCidr::new(ten(1, 0, 0), 16)?));
-    let card = MacAddress::new([1, 2, 3, 4, 5, 6]);
-    assert!(rt; same_mac_address(&card, &card));
-    assert!(rt; !same_mac_address(&card, &MacAddress::new([1, 2, 3, 4, 5, 7])));
+    holds(same_cidr(&network, &network), "different")?;
+    for (addr, len) in [(ten(0, 0, 0), 9), (ten(1, 0, 0), 16)] {
+        holds(!same_cidr(&network, &IpCidr::new(addr, len)?), "equal")?;
+    }
     Ok(())
+}
+
+#[test]
+fn mac_addresses_of_other_bytes_are_different() -> Result<(), Fail> {
+    let address = MacAddress::new([1, 2, 3, 4, 5, 6]);
+    let other = MacAddress::new([1, 2, 3, 4, 5, 7]);
+    holds(same_mac_address(&address, &address), "different")?;
+    holds(!same_mac_address(&address, &other), "equal")
 }
