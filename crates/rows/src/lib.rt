@@ -3,13 +3,17 @@
 #![tactic(auto)]
 
 pub mod code;
+mod days;
 mod memory;
+mod params;
 mod reading;
 mod texts;
 mod types;
 mod writing;
 
+pub use days::{Days, NoDay};
 pub use memory::hoard;
+pub use params::binds;
 pub use reading::{read, reads, refusal, refuses};
 use std::fmt::Debug;
 use std::test::Fail;
