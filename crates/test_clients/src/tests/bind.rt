@@ -77,15 +77,6 @@ fn refuses_param(
     same(out.as_slice(), &MESSAGE)
 }
 
-/// The parameters 7, `ja` and NULL.
-fn three_params(alloc: Global) -> Result<[Box<dyn ToSql>; 3], Fail> {
-    Ok([
-        Box::new(alloc, 7i32)?,
-        Box::new(alloc, Word("ja"))?,
-        Box::new(alloc, None::<String>)?,
-    ])
-}
-
 #[test]
 fn parameters_are_framed_in_their_order(rt: HostRuntime) -> Result<(), Fail> {
     let alloc = rt.alloc();
@@ -96,8 +87,12 @@ fn parameters_are_framed_in_their_order(rt: HostRuntime) -> Result<(), Fail> {
     ];
     let types = [Type::INT4, Type::TEXT, Type::TEXT];
     let frames = [0u8, 0, 0, 4, 0, 0, 0, 7, 0xff, 0xff, 0xff, 0xff, 0, 0, 0, 0];
-    binds(alloc, &params, &types, &frames)?;
-    binds(alloc, &[], &[], &[])
+    binds(alloc, &params, &types, &frames)
+}
+
+#[test]
+fn no_parameters_are_no_frames(rt: HostRuntime) -> Result<(), Fail> {
+    binds(rt.alloc(), &[], &[], &[])
 }
 
 #[test]
@@ -139,19 +134,29 @@ fn a_refused_value_gives_its_own_fault(rt: HostRuntime) -> Result<(), Fail> {
 
 #[test]
 fn a_bind_message_holds_its_parameters(rt: HostRuntime) -> Result<(), Fail> {
-    let params = three_params(rt.alloc())?;
+    let alloc = rt.alloc();
+    let params: [Box<dyn ToSql>; 3] = [
+        Box::new(alloc, 7i32)?,
+        Box::new(alloc, Word("ja"))?,
+        Box::new(alloc, None::<String>)?,
+    ];
     let types = [Type::INT4, Type::TEXT, Type::TEXT];
-    let mut out = BytesMut::new(rt.alloc());
-    bind_params(rt.alloc(), &params, &types, &mut out)?;
+    let mut out = BytesMut::new(alloc);
+    bind_params(alloc, &params, &types, &mut out)?;
     same(out.as_slice(), &MESSAGE)
 }
 
 #[test]
 fn a_refused_bind_leaves_the_buffer(rt: HostRuntime) -> Result<(), Fail> {
-    let params = three_params(rt.alloc())?;
+    let alloc = rt.alloc();
+    let params: [Box<dyn ToSql>; 3] = [
+        Box::new(alloc, 7i32)?,
+        Box::new(alloc, Word("ja"))?,
+        Box::new(alloc, None::<String>)?,
+    ];
     let types = [Type::INT4, Type::TEXT, Type::INT8];
-    let mut out = BytesMut::copy_from_slice(rt.alloc(), &MESSAGE)?;
-    let refused = bind_params(rt.alloc(), &params, &types, &mut out);
+    let mut out = BytesMut::copy_from_slice(alloc, &MESSAGE)?;
+    let refused = bind_params(alloc, &params, &types, &mut out);
     same(refused.err().map(|fault| fault.code()), Some(WRONG_TYPE))?;
     same(out.as_slice(), &MESSAGE)
 }

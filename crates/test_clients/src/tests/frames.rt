@@ -101,9 +101,13 @@ fn an_empty_cell_is_not_null(rt: HostRuntime) -> Result<(), Fail> {
 }
 
 #[test]
-fn arrays_are_read_from_the_front(rt: HostRuntime) -> Result<(), Fail> {
-    let alloc = rt.alloc();
+fn an_array_is_read_from_the_front(rt: HostRuntime) -> Result<(), Fail> {
+    let values = Vec::from_slice(rt.alloc(), &[1, 2])?;
+    takes(rt.alloc(), &Type::INT4_ARRAY, &ARRAY, Ok(values), &[0xaa])
+}
+
+#[test]
+fn a_truncated_array_is_passed_over(rt: HostRuntime) -> Result<(), Fail> {
     let ty = &Type::INT4_ARRAY;
-    takes(alloc, ty, &ARRAY, Ok(vec![in alloc; 1i32, 2]?), &[0xaa])?;
-    takes::<Vec<i32>>(alloc, ty, &TRUNCATED_ARRAY, Err(SIZE), &[0xaa])
+    takes::<Vec<i32>>(rt.alloc(), ty, &TRUNCATED_ARRAY, Err(SIZE), &[0xaa])
 }
