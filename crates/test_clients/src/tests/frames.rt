@@ -102,7 +102,7 @@ fn an_empty_cell_is_not_null(rt: HostRuntime) -> Result<(), Fail> {
 
 #[test]
 fn an_array_is_read_from_the_front(rt: HostRuntime) -> Result<(), Fail> {
-    let values = Vec::from_slice(rt.alloc(), &[1, 2])?;
+    let values = Vec::from_slice(rt.alloc(), &[1i32, 2])?;
     takes(rt.alloc(), &Type::INT4_ARRAY, &ARRAY, Ok(values), &[0xaa])
 }
 
