@@ -3,15 +3,19 @@
 #![tactic(auto)]
 
 pub mod code;
+mod days;
 mod memory;
 mod plain;
+mod params;
 mod reading;
 mod texts;
 mod types;
 mod writing;
 
+pub use days::{Days, NoDay};
 pub use memory::hoard;
 pub use plain::{appends, fault_code, parses};
+pub use params::binds;
 pub use reading::{read, reads, refusal, refuses};
 use std::fmt::Debug;
 use std::test::Fail;

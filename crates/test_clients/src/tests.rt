@@ -1,5 +1,6 @@
+mod bind;
 mod copy;
 mod formats;
-mod framed;
-mod params;
+mod frames;
 mod row_reader;
+mod runs;

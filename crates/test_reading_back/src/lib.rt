@@ -1,4 +1,4 @@
-//! What is read back of a written value, in every nesting, also of a user's own types.
+//! What is read back of a written value, in every nesting, also of user-defined Rust types.
 #![tactic(auto)]
 
 #[cfg(test)]

@@ -1,5 +1,3 @@
-mod days;
-mod nested;
 mod reading_back;
-mod user;
-mod values;
+mod user_defined;
+mod wrappers;

@@ -1,8 +1,9 @@
-//! A binary COPY, as a program would write it.
+//! A program that writes a binary COPY.
 
 use postgres_types::private::BytesMut;
 use postgres_types::protocol::{frame_to_sql, int2_to_sql, int4_to_sql};
 use postgres_types::{Fault, IsNull, ToSql, Type};
+use rows::same;
 use std::alloc::Global;
 use std::test::Fail;
 
@@ -24,7 +25,7 @@ fn copy_rows(alloc: Global, rows: &[Row<'_>], out: &mut BytesMut) -> Result<(), 
     int2_to_sql(alloc, -1, out)
 }
 
-/// Appends a field of a tuple: the frame of the value's cell. `cell` is scratch room.
+/// Appends a field of a tuple: the frame of the value's cell. `cell` is a scratch buffer.
 fn copy_field<T: ToSql>(
     alloc: Global,
     value: &T,
@@ -39,17 +40,18 @@ fn copy_field<T: ToSql>(
     }
 }
 
+/// The rows of 1 and `ab`, and of -2 and NULL.
+const COPY: [u8; 51] = [
+    0x50, 0x47, 0x43, 0x4f, 0x50, 0x59, 0x0a, 0xff, 0x0d, 0x0a, 0, // the signature
+    0, 0, 0, 0, 0, 0, 0, 0, // no flags, no header extension
+    0, 2, 0, 0, 0, 4, 0, 0, 0, 1, 0, 0, 0, 2, 0x61, 0x62, // 1, ab
+    0, 2, 0, 0, 0, 4, 0xff, 0xff, 0xff, 0xfe, 0xff, 0xff, 0xff, 0xff, // -2, NULL
+    0xff, 0xff, // the trailer
+];
+
 #[test]
 fn a_binary_copy_is_written(rt: HostRuntime) -> Result<(), Fail> {
     let mut out = BytesMut::new(rt.alloc());
     copy_rows(rt.alloc(), &[(1, Some("ab")), (-2, None)], &mut out)?;
-    let written = [
-        0x50u8, 0x47, 0x43, 0x4f, 0x50, 0x59, 0x0a, 0xff, 0x0d, 0x0a, 0, //
-        0, 0, 0, 0, 0, 0, 0, 0, //
-        0, 2, 0, 0, 0, 4, 0, 0, 0, 1, 0, 0, 0, 2, 0x61, 0x62, //
-        0, 2, 0, 0, 0, 4, 0xff, 0xff, 0xff, 0xfe, 0xff, 0xff, 0xff, 0xff, //
-        0xff, 0xff,
-    ];
-    assert_eq!(rt; out.as_slice(), written.as_slice());
-    Ok(())
+    same(out.as_slice(), &COPY)
 }

@@ -1,7 +1,8 @@
-//! The format of a value, over a user's type that is sent as text.
+//! The format of a value, by a user-defined type that is sent as text.
 
 use postgres_types::private::BytesMut;
 use postgres_types::{Fault, Format, IsNull, ToSql, Type, WrongType};
+use rows::same;
 use std::alloc::Global;
 use std::boxed::BoxedSlice;
 use std::test::Fail;
@@ -63,32 +64,41 @@ fn format_of<T: ToSql>(value: &T) -> Format {
 }
 
 #[test]
-fn references_and_some_have_the_format_of_the_value(rt: HostRuntime) -> Result<(), Fail> {
+fn references_have_the_format_of_the_value(_rt: HostRuntime) -> Result<(), Fail> {
     let word = Word("ja");
-    assert_eq!(rt; format_of(&word), Format::Text);
-    assert_eq!(rt; format_of(&&word), Format::Text);
-    assert_eq!(rt; format_of(&Some(&word)), Format::Text);
-    assert_eq!(rt; format_of(&Some(word)), Format::Text);
-    assert_eq!(rt; format_of(&Some(Some(Word("nein")))), Format::Text);
     let object: &dyn ToSql = &Word("doch");
-    assert_eq!(rt; object.encode_format(&Type::TEXT), Format::Text);
-    Ok(())
+    same(format_of(&word), Format::Text)?;
+    same(format_of(&&word), Format::Text)?;
+    same(object.encode_format(&Type::TEXT), Format::Text)
 }
 
 #[test]
-fn none_boxes_and_lists_are_binary(rt: HostRuntime) -> Result<(), Fail> {
-    let alloc = rt.alloc();
-    assert_eq!(rt; format_of(&None::<Word>), Format::Binary);
-    assert_eq!(rt; format_of(&Some(None::<Word>)), Format::Binary);
-    let boxed = Box::new(alloc, Word("ja"))?;
-    assert_eq!(rt; format_of(&boxed), Format::Binary);
-    assert_eq!(rt; format_of(&Some(boxed)), Format::Binary);
-    let mut words = Vec::new(alloc);
-    words.push(Word("ja"))?;
-    assert_eq!(rt; format_of(&words), Format::Binary);
-    assert_eq!(rt; format_of(&words.as_slice()), Format::Binary);
-    assert_eq!(rt; format_of(&[Word("ja")]), Format::Binary);
+fn options_have_the_format_of_the_value(_rt: HostRuntime) -> Result<(), Fail> {
+    let word = Word("ja");
+    same(format_of(&Some(&word)), Format::Text)?;
+    same(format_of(&Some(word)), Format::Text)?;
+    same(format_of(&Some(Some(Word("nein")))), Format::Text)
+}
+
+#[test]
+fn none_is_binary(_rt: HostRuntime) -> Result<(), Fail> {
+    same(format_of(&None::<Word>), Format::Binary)?;
+    same(format_of(&Some(None::<Word>)), Format::Binary)
+}
+
+#[test]
+fn boxes_are_binary(rt: HostRuntime) -> Result<(), Fail> {
+    let boxed = Box::new(rt.alloc(), Word("ja"))?;
+    same(format_of(&boxed), Format::Binary)?;
+    same(format_of(&Some(boxed)), Format::Binary)
+}
+
+#[test]
+fn lists_are_binary(rt: HostRuntime) -> Result<(), Fail> {
+    let words = vec![in rt.alloc(); Word("ja")]?;
+    same(format_of(&words), Format::Binary)?;
+    same(format_of(&words.as_slice()), Format::Binary)?;
+    same(format_of(&[Word("ja")]), Format::Binary)?;
     let boxed: BoxedSlice<Word> = words.into_boxed_slice();
-    assert_eq!(rt; format_of(&boxed), Format::Binary);
-    Ok(())
+    same(format_of(&boxed), Format::Binary)
 }

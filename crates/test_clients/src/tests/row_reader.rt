@@ -1,8 +1,10 @@
-//! A reader of rows, as a program would write it.
+//! A program that reads the rows of a result.
 
 use postgres_types::private::read_value;
 use postgres_types::protocol::int2_from_sql;
 use postgres_types::{Fault, Type};
+use rows::code::{COUNT, SIZE, WAS_NULL};
+use rows::same;
 use std::alloc::Global;
 use std::test::Fail;
 
@@ -45,36 +47,41 @@ const NAMELESS: [u8; 30] = [
     0, 0, 0x17,
 ];
 
-/// NULL where the number is to stand.
-const NUMBERLESS: [u8; 6] = [0, 3, 0xff, 0xff, 0xff, 0xff];
+/// NULL as the id.
+const NULL_ID: [u8; 6] = [0, 3, 0xff, 0xff, 0xff, 0xff];
 
-/// The number that refuses the row; 0 where it is read.
-fn refusal(alloc: Global, body: &[u8]) -> u32 {
-    match read_item(alloc, body) {
-        Ok(_) => 0,
-        Err(fault) => fault.code(),
-    }
+/// The body is read as an item of these fields.
+fn reads_item(
+    alloc: Global,
+    body: &[u8],
+    id: i32,
+    name: Option<&str>,
+    sizes: &[i32],
+) -> Result<(), Fail> {
+    let item = read_item(alloc, body)?;
+    same(item.id, id)?;
+    same(item.name.as_deref(), name)?;
+    same(item.sizes.as_slice(), sizes)
 }
 
 #[test]
 fn rows_are_read_column_by_column(rt: HostRuntime) -> Result<(), Fail> {
-    let item = read_item(rt.alloc(), &BOLT)?;
-    assert_eq!(rt; item.id, 7);
-    assert_eq!(rt; item.name.as_deref(), Some("bolt"));
-    assert_eq!(rt; item.sizes.as_slice(), [3, 5].as_slice());
-    let item = read_item(rt.alloc(), &NAMELESS)?;
-    assert_eq!(rt; item.id, 8);
-    assert_eq!(rt; item.name.as_deref(), None);
-    assert!(rt; item.sizes.is_empty());
-    Ok(())
+    reads_item(rt.alloc(), &BOLT, 7, Some("bolt"), &[3, 5])?;
+    reads_item(rt.alloc(), &NAMELESS, 8, None, &[])
 }
 
 #[test]
 fn damaged_rows_are_refused(rt: HostRuntime) -> Result<(), Fail> {
-    assert_eq!(rt; refusal(rt.alloc(), &NUMBERLESS), 2);
-    assert_eq!(rt; refusal(rt.alloc(), &BOLT[..57]), 4);
-    assert_eq!(rt; refusal(rt.alloc(), &BOLT[..10]), 4);
-    assert_eq!(rt; refusal(rt.alloc(), &[0, 2]), 6);
-    assert_eq!(rt; refusal(rt.alloc(), &[0]), 4);
+    let rows: [(&[u8], u32); 5] = [
+        (&NULL_ID, WAS_NULL),
+        (&BOLT[..57], SIZE),
+        (&BOLT[..10], SIZE),
+        (&[0, 2], COUNT),
+        (&[0], SIZE),
+    ];
+    for (body, code) in rows {
+        let refused = read_item(rt.alloc(), body);
+        same(refused.err().map(|fault| fault.code()), Some(code))?;
+    }
     Ok(())
 }

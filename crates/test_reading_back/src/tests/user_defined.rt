@@ -1,14 +1,14 @@
-//! A conversion of a user's own, which proves the same contracts.
+//! The conversion of a user-defined Rust type, which proves the same contracts.
 
 use postgres_types::private::BytesMut;
-use postgres_types::{
-    Fault, Format, FromSql, IsNull, Paired, ToSql, Type, WrongType, from_sql_nullable, rewrite,
-};
+use postgres_types::{Fault, Format, FromSql, IsNull, Paired, ToSql, Type, WrongType};
+use rows::code::WRONG_TYPE;
+use rows::{holds, read, reads, refuses_value, rewrites, same};
 use std::alloc::Global;
 use std::test::Fail;
 
 /// Whole degrees, which are sent as INT4.
-#[derive(Debug, Drop)]
+#[derive(Debug, Drop, PartialEq)]
 struct Degrees(i32);
 
 impl<'a> FromSql<'a> for Degrees {
@@ -113,20 +113,20 @@ impl<'a> Paired<'a> for Degrees {
     ghost lawful = { λ _ _. plain_lawful (λ v. v.0) (FormSigned w32) (first_fault_number 4) int4_grammar (wire_signed w32) (signed_written w32) };
 }
 
+/// -2
+const FROST: [u8; 4] = [0xff, 0xff, 0xff, 0xfe];
+
 #[test]
-fn a_users_type_goes_both_ways(rt: HostRuntime) -> Result<(), Fail> {
+fn a_user_defined_type_is_read_and_rewritten(rt: HostRuntime) -> Result<(), Fail> {
     let alloc = rt.alloc();
-    let cell = [0xffu8, 0xff, 0xff, 0xfe];
-    let frost: Option<Degrees> = from_sql_nullable(alloc, &Type::INT4, Some(cell.as_slice()))?;
-    assert_eq!(rt; frost.as_ref().map(|degrees| degrees.0), Some(-2));
-    assert_eq!(rt; frost.encode_format(&Type::INT4), Format::Text);
-    let mut out = BytesMut::new(alloc);
-    let answer = rewrite::<Option<Degrees>>(alloc, &Type::INT4, Some(cell.as_slice()), &mut out)?;
-    assert_eq!(rt; answer, IsNull::No);
-    assert_eq!(rt; out.as_slice(), cell.as_slice());
-    let refused = Degrees(1).to_sql_checked(alloc, &Type::TEXT, &mut out);
-    assert_eq!(rt; refused.err().map(|fault| fault.code()), Some(3));
-    let none: Option<Degrees> = from_sql_nullable(alloc, &Type::INT4, None)?;
-    assert!(rt; none.is_none());
-    Ok(())
+    reads(alloc, &Type::INT4, &FROST, Some(Degrees(-2)))?;
+    rewrites::<Option<Degrees>>(alloc, &Type::INT4, &FROST, &FROST)?;
+    let null: Option<Degrees> = read(alloc, &Type::INT4, None)?;
+    holds(null.is_none(), "NULL is read as None")
+}
+
+#[test]
+fn a_user_defined_type_has_its_format_and_its_type(rt: HostRuntime) -> Result<(), Fail> {
+    same(Some(Degrees(-2)).encode_format(&Type::INT4), Format::Text)?;
+    refuses_value(rt.alloc(), &Degrees(1), &Type::TEXT, WRONG_TYPE)
 }

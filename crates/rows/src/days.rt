@@ -1,4 +1,4 @@
-//! Types of a user's own that read DATE.
+//! User-defined Rust types that convert DATE.
 
 use pg_base::acceptance::is_date;
 use postgres_types::private::BytesMut;
@@ -6,7 +6,7 @@ use postgres_types::protocol::{int4_from_sql, int4_to_sql};
 use postgres_types::{Fault, Finite, Format, FromSql, IsNull, Paired, ToSql, Type, WrongType};
 use std::alloc::Global;
 
-/// Days from 2000-01-01, every count of which is a value.
+/// Days from 2000-01-01; every integer is a value.
 #[derive(Debug, Clone, Copy, PartialEq, Eq)]
 pub struct Days(pub i32);
 
@@ -96,7 +96,7 @@ impl ToSql for Days {
     ghost checks = { λ _ _. refl };
 }
 
-/// A day is read back as itself.
+/// Days are read back as themselves.
 impl<'a> Paired<'a> for Days {
     ghost use Rattle.std.specs.Prelude.{◌≡◌, refl};
     ghost use Rattle.std.specs.Int.{w32};
@@ -113,7 +113,7 @@ impl<'a> Paired<'a> for Days {
     ghost lawful = { λ _ _. plain_lawful (λ v. v.0) (FormSigned w32) (first_fault_number 4) int4_grammar (wire_signed w32) (signed_written w32) };
 }
 
-/// A day of a finite cell is written as that cell.
+/// What is read from a finite cell is written as that cell.
 impl<'a> Finite<'a> for Days {
     ghost use Rattle.std.specs.Int.{w32, w64};
     ghost use Rattle.postgres_types.specs.FormatBackLaws.{signed_finite};
@@ -123,7 +123,7 @@ impl<'a> Finite<'a> for Days {
     ghost moments = { λ _ _ _ b v. signed_finite w64 w32 b v.0 };
 }
 
-/// A type of no day: every cell of DATE is refused.
+/// A type without values: every cell of DATE is refused.
 #[derive(Debug, Drop)]
 pub struct NoDay;
 
