@@ -102,16 +102,18 @@ fn the_extreme_values_are_read_back_as_infinities(rt: HostRuntime) -> Result<(),
     )
 }
 
-/// Timestamps, and their cells as TIMESTAMP and as TIMESTAMPTZ.
-fn timestamps() -> Result<[(Timestamp<UnixTime>, &'static [u8]); 4], Fail> {
+/// Timestamps are written to the type as their cells, which are read back and rewritten.
+fn spells_timestamps(alloc: Global, ty: &Type) -> Result<(), Fail> {
     let base = unix(946_684_800, 0)?;
     let before = unix(946_684_799, 999_999_000)?;
-    Ok([
+    let rows: [(Timestamp<UnixTime>, &[u8]); 4] = [
         (Timestamp::PosInfinity, &LAST),
         (Timestamp::NegInfinity, &FIRST),
         (Timestamp::Value(base), &[0; 8]),
         (Timestamp::Value(before), &[0xff; 8]),
-    ])
+    ];
+    spells(alloc, ty, &rows)?;
+    rewrites_all(alloc, ty, &rows)
 }
 
 const REFUSED_TIMESTAMPS: [(Option<&[u8]>, u32); 4] = [
@@ -124,10 +126,8 @@ const REFUSED_TIMESTAMPS: [(Option<&[u8]>, u32); 4] = [
 #[test]
 fn timestamps_have_infinities(rt: HostRuntime) -> Result<(), Fail> {
     let alloc = rt.alloc();
-    let rows = timestamps()?;
     for ty in [Type::TIMESTAMP, Type::TIMESTAMPTZ] {
-        spells(alloc, &ty, &rows)?;
-        rewrites_all(alloc, &ty, &rows)?;
+        spells_timestamps(alloc, &ty)?;
         refuses::<Timestamp<UnixTime>>(alloc, &ty, &REFUSED_TIMESTAMPS)?;
     }
     Ok(())
