@@ -1,4 +1,4 @@
 mod civil;
-mod moments;
-mod nested_moments;
-mod special;
+mod infinities;
+mod timestamps;
+mod user_timestamp;

@@ -1,203 +1,240 @@
-//! Dates, times of day and moments of `jiff`.
+//! Dates, times of day and timestamps of `jiff`.
 
 use jiff::Timestamp;
 use jiff::civil::{Date, DateTime, Time};
+use postgres_types::Type;
 use postgres_types::private::BytesMut;
 use postgres_types::protocol::{date_from_sql, date_to_sql, time_from_sql, time_to_sql};
-use postgres_types::{FromSql, ToSql, Type};
-use rows::{made, read, reads, refuses, spells, writes};
+use rows::code::{DECODE, SIZE, WAS_NULL};
+use rows::{accepts, displays, reads, reads_back, refuses, same, simple_type, writes};
 use std::test::Fail;
 
-/// The last microsecond of a day, as a cell and as a time.
-const LAST: [u8; 8] = [0, 0, 0, 0x14, 0x1d, 0xd7, 0x5f, 0xff];
+/// Year, month and day.
+type Day = (i16, i8, i8);
 
-fn datetime(date: (i16, i8, i8), time: (i8, i8, i8, i32)) -> Result<DateTime, Fail> {
+/// Hour, minute, second and nanosecond.
+type Clock = (i8, i8, i8, i32);
+
+const MIDNIGHT: Clock = (0, 0, 0, 0);
+
+/// The last microsecond of a day.
+const LAST_TIME: [u8; 8] = [0, 0, 0, 0x14, 0x1d, 0xd7, 0x5f, 0xff];
+
+const LEAST: [u8; 8] = [0x80, 0, 0, 0, 0, 0, 0, 0];
+
+const GREATEST: [u8; 8] = [0x7f, 0xff, 0xff, 0xff, 0xff, 0xff, 0xff, 0xff];
+
+fn datetime(date: Day, time: Clock) -> Result<DateTime, Fail> {
     let (year, month, day) = date;
     let (hour, minute, second, nanos) = time;
     let date = Date::new(year, month, day)?;
     Ok(date.to_datetime(Time::new(hour, minute, second, nanos)?))
 }
 
+/// Days from 2000-01-01.
+const DATES: [(Day, [u8; 4]); 5] = [
+    ((2000, 1, 1), [0; 4]),
+    // Upstream's test `date_in_range_decodes`: 1000 days.
+    ((2002, 9, 27), [0, 0, 0x03, 0xe8]),
+    ((1999, 12, 31), [0xff; 4]),
+    ((-9999, 1, 1), [0xff, 0xbd, 0x20, 0xb0]),
+    ((9999, 12, 31), [0x00, 0x2c, 0x95, 0xd3]),
+];
+
 #[test]
 fn dates_are_days_from_2000(rt: HostRuntime) -> Result<(), Fail> {
     let alloc = rt.alloc();
-    let rows = [
-        (Date::new(2000, 1, 1)?, [0u8; 4].as_slice()),
-        (Date::new(2002, 9, 27)?, b"\x00\x00\x03\xe8".as_slice()),
-        (Date::new(1999, 12, 31)?, b"\xff\xff\xff\xff".as_slice()),
-        (Date::new(-9999, 1, 1)?, b"\xff\xbd\x20\xb0".as_slice()),
-        (Date::new(9999, 12, 31)?, b"\x00\x2c\x95\xd3".as_slice()),
-    ];
-    spells(alloc, &Type::DATE, rows.as_slice())?;
-    let refused = [
-        (Some(b"\xff\xbd\x20\xaf".as_slice()), 11),
-        (Some(b"\x00\x2c\x95\xd4".as_slice()), 11),
-        (Some(b"\x7f\xff\xff\xff".as_slice()), 11),
-        (Some(b"\x80\x00\x00\x00".as_slice()), 11),
-        (Some(b"\x00\x00\x03".as_slice()), 4),
-        (Some(b"\x00\x00\x03\xe8\x00".as_slice()), 4),
-        (None, 2),
-    ];
-    refuses::<Date>(alloc, &Type::DATE, refused.as_slice())
-}
-
-#[test]
-fn times_are_microseconds_from_midnight(rt: HostRuntime) -> Result<(), Fail> {
-    let alloc = rt.alloc();
-    let rows = [
-        (Time::midnight(), [0u8; 8].as_slice()),
-        (Time::new(0, 0, 0, 1_000)?, &[0, 0, 0, 0, 0, 0, 0, 1]),
-        (Time::new(23, 59, 59, 999_999_000)?, LAST.as_slice()),
-    ];
-    spells(alloc, &Type::TIME, rows.as_slice())?;
-    let finest = Time::new(23, 59, 59, 999_999_999)?;
-    writes(alloc, &finest, &Type::TIME, &LAST)?;
-    let refused = [
-        (Some(b"\x00\x00\x00\x14\x1d\xd7\x60\x00".as_slice()), 11),
-        (Some([0xffu8; 8].as_slice()), 11),
-        (Some(b"\x7f\xff\xff\xff\xff\xff\xff\xff".as_slice()), 11),
-        (Some(&LAST[1..]), 4),
-        (Some([0u8; 9].as_slice()), 4),
-        (None, 2),
-    ];
-    refuses::<Time>(alloc, &Type::TIME, refused.as_slice())
-}
-
-#[test]
-fn datetimes_are_microseconds_from_2000(rt: HostRuntime) -> Result<(), Fail> {
-    let alloc = rt.alloc();
-    let first = (-378_651_801_600_000_000i64).to_be_bytes();
-    let last = 252_455_615_999_999_999i64.to_be_bytes();
-    let midnight = (0, 0, 0, 0);
-    let rows = [
-        (datetime((2000, 1, 1), midnight)?, [0u8; 8].as_slice()),
-        (datetime((-9999, 1, 1), midnight)?, first.as_slice()),
-        (
-            datetime((9999, 12, 31), (23, 59, 59, 999_999_000))?,
-            last.as_slice(),
-        ),
-    ];
-    spells(alloc, &Type::TIMESTAMP, rows.as_slice())?;
-    let before = (-378_651_801_600_000_001i64).to_be_bytes();
-    let after = 252_455_616_000_000_000i64.to_be_bytes();
-    let refused = [
-        (Some(b"\x7c\xe6\x6c\x50\xe2\x84\x00\x00".as_slice()), 11),
-        (Some(before.as_slice()), 11),
-        (Some(after.as_slice()), 11),
-        (Some(b"\x7f\xff\xff\xff\xff\xff\xff\xff".as_slice()), 11),
-        (Some(b"\x80\x00\x00\x00\x00\x00\x00\x00".as_slice()), 11),
-        (Some([0u8; 7].as_slice()), 4),
-        (None, 2),
-    ];
-    refuses::<DateTime>(alloc, &Type::TIMESTAMP, refused.as_slice())
-}
-
-#[test]
-fn finer_datetimes_are_cut_toward_2000(rt: HostRuntime) -> Result<(), Fail> {
-    let alloc = rt.alloc();
-    let last = 252_455_615_999_999_999i64.to_be_bytes();
-    let rows = [
-        ((1999, 12, 31), (23, 59, 59, 999_998_500), [0xffu8; 8]),
-        ((1999, 12, 31), (23, 59, 59, 999_999_500), [0; 8]),
-        ((2000, 1, 1), (0, 0, 0, 1_999), [0, 0, 0, 0, 0, 0, 0, 1]),
-        ((9999, 12, 31), (23, 59, 59, 999_999_999), last),
-    ];
-    for (date, time, cell) in rows {
-        let moment = datetime(date, time)?;
-        writes(alloc, &moment, &Type::TIMESTAMP, &cell)?;
+    for ((year, month, day), cell) in DATES {
+        let date = Date::new(year, month, day)?;
+        reads_back(alloc, &Type::DATE, &date, &cell, date)?;
     }
     Ok(())
 }
 
+const REFUSED_DATES: [(Option<&[u8]>, u32); 7] = [
+    (Some(b"\xff\xbd\x20\xaf"), DECODE),
+    (Some(b"\x00\x2c\x95\xd4"), DECODE),
+    // Upstream's test `date_out_of_range_errors`: the greatest count of days.
+    (Some(b"\x7f\xff\xff\xff"), DECODE),
+    (Some(b"\x80\x00\x00\x00"), DECODE),
+    (Some(b"\x00\x00\x03"), SIZE),
+    (Some(b"\x00\x00\x03\xe8\x00"), SIZE),
+    (None, WAS_NULL),
+];
+
 #[test]
-fn instants_are_microseconds_from_2000(rt: HostRuntime) -> Result<(), Fail> {
+fn dates_out_of_range_are_refused(rt: HostRuntime) -> Result<(), Fail> {
+    refuses::<Date>(rt.alloc(), &Type::DATE, &REFUSED_DATES)
+}
+
+/// Microseconds from midnight.
+const TIMES: [(Clock, [u8; 8]); 3] = [
+    (MIDNIGHT, [0; 8]),
+    ((0, 0, 0, 1_000), [0, 0, 0, 0, 0, 0, 0, 1]),
+    ((23, 59, 59, 999_999_000), LAST_TIME),
+];
+
+#[test]
+fn times_are_microseconds_from_midnight(rt: HostRuntime) -> Result<(), Fail> {
     let alloc = rt.alloc();
-    let first = (-378_651_708_001_000_000i64).to_be_bytes();
-    let last = 252_455_522_400_999_999i64.to_be_bytes();
+    for ((hour, minute, second, nanos), cell) in TIMES {
+        let time = Time::new(hour, minute, second, nanos)?;
+        reads_back(alloc, &Type::TIME, &time, &cell, time)?;
+    }
+    let finest = Time::new(23, 59, 59, 999_999_999)?;
+    writes(alloc, &finest, &Type::TIME, &LAST_TIME)
+}
+
+const REFUSED_TIMES: [(Option<&[u8]>, u32); 6] = [
+    (Some(b"\x00\x00\x00\x14\x1d\xd7\x60\x00"), DECODE),
+    (Some(&[0xff; 8]), DECODE),
+    (Some(&GREATEST), DECODE),
+    (Some(b"\x00\x00\x14\x1d\xd7\x5f\xff"), SIZE),
+    (Some(&[0; 9]), SIZE),
+    (None, WAS_NULL),
+];
+
+#[test]
+fn times_out_of_range_are_refused(rt: HostRuntime) -> Result<(), Fail> {
+    refuses::<Time>(rt.alloc(), &Type::TIME, &REFUSED_TIMES)
+}
+
+/// Microseconds from 2000-01-01 00:00:00.
+const DATETIMES: [(Day, Clock, i64); 3] = [
+    // Upstream's test `timestamp_in_range_decodes`: 0 microseconds.
+    ((2000, 1, 1), MIDNIGHT, 0),
+    ((-9999, 1, 1), MIDNIGHT, -378_651_801_600_000_000),
+    (
+        (9999, 12, 31),
+        (23, 59, 59, 999_999_000),
+        252_455_615_999_999_999,
+    ),
+];
+
+#[test]
+fn datetimes_are_microseconds_from_2000(rt: HostRuntime) -> Result<(), Fail> {
+    let alloc = rt.alloc();
+    for (date, time, micros) in DATETIMES {
+        let value = datetime(date, time)?;
+        reads_back(
+            alloc,
+            &Type::TIMESTAMP,
+            &value,
+            &micros.to_be_bytes(),
+            value,
+        )?;
+    }
+    Ok(())
+}
+
+const REFUSED_DATETIMES: [(Option<&[u8]>, u32); 7] = [
+    // Upstream's test `timestamp_out_of_range_errors`: 9,000,000,000,000,000,000 microseconds.
+    (Some(b"\x7c\xe6\x6c\x50\xe2\x84\x00\x00"), DECODE),
+    // The microsecond before the first one and that after the last one.
+    (Some(b"\xfa\xbe\xc2\x31\x50\x11\xff\xff"), DECODE),
+    (Some(b"\x03\x80\xe7\x0b\x91\x3b\x80\x00"), DECODE),
+    (Some(&GREATEST), DECODE),
+    (Some(&LEAST), DECODE),
+    (Some(&[0; 7]), SIZE),
+    (None, WAS_NULL),
+];
+
+#[test]
+fn datetimes_out_of_range_are_refused(rt: HostRuntime) -> Result<(), Fail> {
+    refuses::<DateTime>(rt.alloc(), &Type::TIMESTAMP, &REFUSED_DATETIMES)
+}
+
+/// Datetimes between two microseconds, and the microsecond nearer to 2000-01-01 00:00:00.
+const FINER_DATETIMES: [(Day, Clock, i64); 4] = [
+    ((1999, 12, 31), (23, 59, 59, 999_998_500), -1),
+    ((1999, 12, 31), (23, 59, 59, 999_999_500), 0),
+    ((2000, 1, 1), (0, 0, 0, 1_999), 1),
+    (
+        (9999, 12, 31),
+        (23, 59, 59, 999_999_999),
+        252_455_615_999_999_999,
+    ),
+];
+
+#[test]
+fn finer_datetimes_are_truncated_toward_2000(rt: HostRuntime) -> Result<(), Fail> {
+    let alloc = rt.alloc();
+    for (date, time, micros) in FINER_DATETIMES {
+        let value = datetime(date, time)?;
+        writes(alloc, &value, &Type::TIMESTAMP, &micros.to_be_bytes())?;
+    }
+    Ok(())
+}
+
+/// The microseconds of the first and of the last timestamp.
+const FIRST_INSTANT: i64 = -378_651_708_001_000_000;
+
+const LAST_INSTANT: i64 = 252_455_522_400_999_999;
+
+#[test]
+fn timestamps_are_microseconds_from_2000(rt: HostRuntime) -> Result<(), Fail> {
+    let alloc = rt.alloc();
     let base = Timestamp::from_second(946_684_800)?;
-    assert_eq!(rt;
-        format!(in alloc; "{base}")?.as_str(),
-        "2000-01-01T00:00:00Z"
-    );
-    let rows = [
-        (base, [0u8; 8].as_slice()),
-        (Timestamp::MIN, first.as_slice()),
-    ];
-    spells(alloc, &Type::TIMESTAMPTZ, rows.as_slice())?;
-    writes(alloc, &Timestamp::MAX, &Type::TIMESTAMPTZ, &last)?;
+    displays(alloc, &base, "2000-01-01T00:00:00Z")?;
+    reads_back(alloc, &Type::TIMESTAMPTZ, &base, &[0; 8], base)?;
+    let first = Timestamp::MIN;
+    let cell = FIRST_INSTANT.to_be_bytes();
+    reads_back(alloc, &Type::TIMESTAMPTZ, &first, &cell, first)
+}
+
+#[test]
+fn finer_timestamps_are_truncated_toward_2000(rt: HostRuntime) -> Result<(), Fail> {
+    let alloc = rt.alloc();
+    let ty = &Type::TIMESTAMPTZ;
+    let last = LAST_INSTANT.to_be_bytes();
+    writes(alloc, &Timestamp::MAX, ty, &last)?;
     let greatest = Timestamp::from_nanosecond(253_402_207_200_999_999_000)?;
-    reads(alloc, &Type::TIMESTAMPTZ, &last, greatest)?;
+    reads(alloc, ty, &last, greatest)?;
     let early = Timestamp::from_nanosecond(946_684_799_999_998_500)?;
-    writes(alloc, &early, &Type::TIMESTAMPTZ, &[0xff; 8])?;
-    let before = (-378_651_708_001_000_001i64).to_be_bytes();
-    let after = 252_455_522_401_000_000i64.to_be_bytes();
-    let refused = [
-        (Some(before.as_slice()), 11),
-        (Some(after.as_slice()), 11),
-        (Some(b"\x7f\xff\xff\xff\xff\xff\xff\xff".as_slice()), 11),
-        (Some(b"\x80\x00\x00\x00\x00\x00\x00\x00".as_slice()), 11),
-        (Some([0u8; 9].as_slice()), 4),
-        (None, 2),
-    ];
-    refuses::<Timestamp>(alloc, &Type::TIMESTAMPTZ, refused.as_slice())
+    writes(alloc, &early, ty, &[0xff; 8])
+}
+
+const REFUSED_INSTANTS: [(Option<&[u8]>, u32); 6] = [
+    // The microsecond before the first one and that after the last one.
+    (Some(b"\xfa\xbe\xc2\x47\x1b\x01\x65\xbf"), DECODE),
+    (Some(b"\x03\x80\xe6\xf5\xc6\x4c\x1a\x40"), DECODE),
+    (Some(&GREATEST), DECODE),
+    (Some(&LEAST), DECODE),
+    (Some(&[0; 9]), SIZE),
+    (None, WAS_NULL),
+];
+
+#[test]
+fn timestamps_out_of_range_are_refused(rt: HostRuntime) -> Result<(), Fail> {
+    refuses::<Timestamp>(rt.alloc(), &Type::TIMESTAMPTZ, &REFUSED_INSTANTS)
 }
 
 #[test]
-fn each_type_has_its_own_cells(rt: HostRuntime) -> Result<(), Fail> {
-    assert!(rt; !<Date as FromSql>::accepts(&Type::TIMESTAMP));
-    assert!(rt; !<Time as FromSql>::accepts(&Type::TIMESTAMP));
-    assert!(rt; !<DateTime as FromSql>::accepts(&Type::TIMESTAMPTZ));
-    assert!(rt; !<Timestamp as FromSql>::accepts(&Type::TIMESTAMP));
-    assert!(rt; !<Date as ToSql>::accepts(&Type::INT4));
-    assert!(rt; !<Time as ToSql>::accepts(&Type::INT8));
-    assert!(rt; !<DateTime as ToSql>::accepts(&Type::TIMESTAMPTZ));
-    assert!(rt; !<Timestamp as ToSql>::accepts(&Type::TIMESTAMP));
-    let alloc = rt.alloc();
-    let date = made(alloc, "date", 1_082, "pg_catalog")?;
-    assert!(rt; !<Date as FromSql>::accepts(&date));
-    let timestamp = made(alloc, "timestamp", 1_114, "pg_catalog")?;
-    assert!(rt; !<DateTime as ToSql>::accepts(&timestamp));
-    Ok(())
+fn dates_and_times_accept_no_other_type(rt: HostRuntime) -> Result<(), Fail> {
+    let date = simple_type(rt.alloc(), "date", 1_082, "pg_catalog")?;
+    accepts::<Date>(&[(Type::TIMESTAMP, false), (Type::INT4, false), (date, false)])?;
+    accepts::<Time>(&[(Type::TIMESTAMP, false), (Type::INT8, false)])
 }
 
 #[test]
-fn each_appender_writes_into_an_empty_buffer(rt: HostRuntime) -> Result<(), Fail> {
-    let alloc = rt.alloc();
-    let mut out = BytesMut::new(alloc);
-    date_to_sql(alloc, i32::MIN, &mut out)?;
-    assert_eq!(rt; out.as_slice(), b"\x80\x00\x00\x00".as_slice());
-    let mut out = BytesMut::new(alloc);
-    time_to_sql(alloc, 86_399_999_999, &mut out)?;
-    assert_eq!(rt; out.as_slice(), LAST.as_slice());
-    assert_eq!(rt; date_from_sql(b"\x7f\xff\xff\xff")?, i32::MAX);
-    assert_eq!(rt; time_from_sql(&[0xff; 8])?, -1);
-    Ok(())
+fn timestamps_accept_no_other_type(rt: HostRuntime) -> Result<(), Fail> {
+    let timestamp = simple_type(rt.alloc(), "timestamp", 1_114, "pg_catalog")?;
+    accepts::<DateTime>(&[(Type::TIMESTAMPTZ, false), (timestamp, false)])?;
+    accepts::<Timestamp>(&[(Type::TIMESTAMP, false)])
 }
 
 #[test]
-fn date_out_of_range_errors(rt: HostRuntime) -> Result<(), Fail> {
-    let raw = i32::MAX.to_be_bytes();
-    assert!(rt; read::<Date>(rt.alloc(), &Type::DATE, Some(&raw)).is_err());
-    Ok(())
+fn the_format_of_dates_has_every_count(rt: HostRuntime) -> Result<(), Fail> {
+    let mut out = BytesMut::new(rt.alloc());
+    date_to_sql(rt.alloc(), i32::MIN, &mut out)?;
+    same(out.as_slice(), &[0x80, 0, 0, 0])?;
+    same(date_from_sql(b"\x7f\xff\xff\xff")?, i32::MAX)
 }
 
 #[test]
-fn date_in_range_decodes(rt: HostRuntime) -> Result<(), Fail> {
-    let raw = 1_000i32.to_be_bytes();
-    assert!(rt; read::<Date>(rt.alloc(), &Type::DATE, Some(&raw)).is_ok());
-    Ok(())
-}
-
-#[test]
-fn timestamp_out_of_range_errors(rt: HostRuntime) -> Result<(), Fail> {
-    let raw = 9_000_000_000_000_000_000i64.to_be_bytes();
-    assert!(rt; read::<DateTime>(rt.alloc(), &Type::TIMESTAMP, Some(&raw)).is_err());
-    Ok(())
-}
-
-#[test]
-fn timestamp_in_range_decodes(rt: HostRuntime) -> Result<(), Fail> {
-    let raw = 0i64.to_be_bytes();
-    assert!(rt; read::<DateTime>(rt.alloc(), &Type::TIMESTAMP, Some(&raw)).is_ok());
-    Ok(())
+fn the_format_of_times_has_every_count(rt: HostRuntime) -> Result<(), Fail> {
+    let mut out = BytesMut::new(rt.alloc());
+    time_to_sql(rt.alloc(), 86_399_999_999, &mut out)?;
+    same(out.as_slice(), LAST_TIME.as_slice())?;
+    same(time_from_sql(&[0xff; 8])?, -1)
 }

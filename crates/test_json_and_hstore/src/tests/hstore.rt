@@ -1,7 +1,10 @@
+//! hstore as a map of texts.
+
 use postgres_types::private::BytesMut;
-use postgres_types::protocol::{hstore_from_sql, hstore_to_sql};
+use postgres_types::protocol::{HstoreEntries, hstore_from_sql, hstore_to_sql};
 use postgres_types::{Fault, Type};
-use rows::{made, read, refusal, rewrites, writes};
+use rows::code::{COUNT, KEY_LENGTH, SIZE, USER, UTF8, WAS_NULL};
+use rows::{holds, read, refuses, rewrites, same, simple_type, writes};
 use std::alloc::Global;
 use std::collections::HashMap;
 use std::hash::{BuildHasherDefault, DefaultHasher};
@@ -12,19 +15,32 @@ type Map = HashMap<String, Option<String>>;
 /// The same with another hasher.
 type SipMap = HashMap<String, Option<String>, BuildHasherDefault<DefaultHasher>>;
 
+/// A key and its value, of which `None` is NULL.
+type Entry = (&'static str, Option<&'static str>);
+
 /// a => 1, a => NULL
 const TWICE: [u8; 23] = [
     0, 0, 0, 2, 0, 0, 0, 1, b'a', 0, 0, 0, 1, b'1', 0, 0, 0, 1, b'a', 0xff, 0xff, 0xff, 0xff,
 ];
+
 /// a => NULL
 const NULL: [u8; 13] = [0, 0, 0, 1, 0, 0, 0, 1, b'a', 0xff, 0xff, 0xff, 0xff];
+
 /// a => b, c => NULL
 const TWO: [u8; 23] = [
     0, 0, 0, 2, 0, 0, 0, 1, b'a', 0, 0, 0, 1, b'b', 0, 0, 0, 1, b'c', 0xff, 0xff, 0xff, 0xff,
 ];
 
+/// c => NULL, a => b
+const UNSORTED: [u8; 23] = [
+    0, 0, 0, 2, 0, 0, 0, 1, b'c', 0xff, 0xff, 0xff, 0xff, 0, 0, 0, 1, b'a', 0, 0, 0, 1, b'b',
+];
+
+/// An entry of an empty key and NULL, and a trailing byte.
+const TRAILING: [u8; 13] = [0, 0, 0, 1, 0, 0, 0, 0, 0xff, 0xff, 0xff, 0xff, 9];
+
 fn hstore(alloc: Global) -> Result<Type, Fault> {
-    made(alloc, "hstore", 100_002, "public")
+    simple_type(alloc, "hstore", 100_002, "public")
 }
 
 fn put(alloc: Global, map: &mut Map, key: &str, value: Option<&str>) -> Result<(), Fail> {
@@ -37,6 +53,15 @@ fn put(alloc: Global, map: &mut Map, key: &str, value: Option<&str>) -> Result<(
     Ok(())
 }
 
+/// The map of these entries.
+fn map_of(alloc: Global, entries: &[Entry]) -> Result<Map, Fail> {
+    let mut map = Map::new(alloc);
+    for (key, value) in entries {
+        put(alloc, &mut map, *key, *value)?;
+    }
+    Ok(map)
+}
+
 /// What the map has at the key, where it has the key.
 fn value_of<'m>(map: &'m Map, key: &str) -> Option<Option<&'m str>> {
     map.get(key)
@@ -44,90 +69,127 @@ fn value_of<'m>(map: &'m Map, key: &str) -> Option<Option<&'m str>> {
 }
 
 #[test]
-fn the_last_of_equal_keys_stays(rt: HostRuntime) -> Result<(), Fail> {
+fn the_last_of_equal_keys_is_kept(rt: HostRuntime) -> Result<(), Fail> {
     let alloc = rt.alloc();
     let ty = hstore(alloc)?;
-    let map: Map = read(alloc, &ty, Some(&TWICE))?;
-    assert_eq!(rt; map.len(), 1);
-    assert_eq!(rt; value_of(&map, "a"), Some(None));
     rewrites::<Map>(alloc, &ty, &TWICE, &NULL)?;
     rewrites::<SipMap>(alloc, &ty, &TWICE, &NULL)
 }
+
+/// Maps by their entries, and their cells.
+const WRITTEN: [(&[Entry], &[u8]); 3] = [
+    (&[], &[0; 4]),
+    (&[("c", None), ("a", Some("b"))], &TWO),
+    (&[("a", Some("b")), ("c", None)], &TWO),
+];
 
 #[test]
 fn maps_are_written_in_key_order(rt: HostRuntime) -> Result<(), Fail> {
     let alloc = rt.alloc();
     let ty = hstore(alloc)?;
-    let mut map = Map::new(alloc);
-    writes(alloc, &map, &ty, &[0, 0, 0, 0])?;
-    put(alloc, &mut map, "c", None)?;
-    put(alloc, &mut map, "a", Some("b"))?;
-    writes(alloc, &map, &ty, &TWO)?;
-    let mut map = Map::new(alloc);
-    put(alloc, &mut map, "a", Some("b"))?;
-    put(alloc, &mut map, "c", None)?;
-    writes(alloc, &map, &ty, &TWO)?;
-    let map: Map = read(alloc, &ty, Some(&TWO))?;
-    assert_eq!(rt; map.len(), 2);
-    assert_eq!(rt; value_of(&map, "a"), Some(Some("b")));
-    assert_eq!(rt; value_of(&map, "c"), Some(None));
-    assert_eq!(rt; value_of(&map, "b"), None);
-    let none: Map = read(alloc, &ty, Some(&[0, 0, 0, 0]))?;
-    assert!(rt; none.is_empty());
+    for (entries, cell) in WRITTEN {
+        writes(alloc, &map_of(alloc, entries)?, &ty, cell)?;
+    }
     Ok(())
 }
+
+/// What a map has at keys; `None` where it has no such key.
+type Values = &'static [(&'static str, Option<Option<&'static str>>)];
+
+/// Cells, how many keys their maps have, and what these have at keys.
+const READ: [(&[u8], usize, Values); 3] = [
+    (&TWICE, 1, &[("a", Some(None))]),
+    (
+        &TWO,
+        2,
+        &[("a", Some(Some("b"))), ("c", Some(None)), ("b", None)],
+    ),
+    (&[0; 4], 0, &[]),
+];
+
+fn has_values(map: &Map, values: Values) -> Result<(), Fail> {
+    for (key, value) in values {
+        same(value_of(map, *key), *value)?;
+    }
+    Ok(())
+}
+
+#[test]
+fn maps_are_read(rt: HostRuntime) -> Result<(), Fail> {
+    let alloc = rt.alloc();
+    let ty = hstore(alloc)?;
+    for (cell, len, values) in READ {
+        let map: Map = read(alloc, &ty, Some(cell))?;
+        same(map.len(), len)?;
+        same(map.is_empty(), len == 0)?;
+        has_values(&map, values)?;
+    }
+    Ok(())
+}
+
+/// Damaged cells and the fault of the first check that fails; 0 where the cell is read.
+const DAMAGED: [(Option<&[u8]>, u32); 16] = [
+    (Some(&[]), SIZE),
+    (Some(&[0, 0, 0]), SIZE),
+    (Some(&[0x7f, 0xff, 0xff, 0xff, 0, 0]), SIZE),
+    (Some(&[0xff, 0xff, 0xff, 0xff]), COUNT),
+    (Some(&[0, 0, 0, 0, 0]), SIZE),
+    (Some(&[0, 0, 0, 1, 0, 0, 0]), SIZE),
+    (Some(b"\0\0\0\x01\xff\xff\xff\xff"), KEY_LENGTH),
+    (Some(b"\0\0\0\x01\0\0\0\x02\xff"), SIZE),
+    (Some(b"\0\0\0\x01\0\0\0\x01\xff"), UTF8),
+    (Some(b"\0\0\0\x01\0\0\0\x01a\0\0\0"), SIZE),
+    (Some(b"\0\0\0\x01\0\0\0\x01a\0\0\0\x01"), SIZE),
+    (Some(b"\0\0\0\x01\0\0\0\x01a\0\0\0\x01\x80"), UTF8),
+    (Some(b"\0\0\0\x01\0\0\0\x01a\xff\xff\xff\xfb"), 0),
+    (Some(b"\0\0\0\x01\0\0\0\x01a\x80\0\0\0"), 0),
+    (Some(b"\0\0\0\x01\0\0\0\0\0\0\0\0\x09"), SIZE),
+    (None, WAS_NULL),
+];
 
 #[test]
 fn a_damaged_cell_is_refused_by_its_first_check(rt: HostRuntime) -> Result<(), Fail> {
     let alloc = rt.alloc();
-    let ty = hstore(alloc)?;
-    let rows: [(u32, &[u8]); 15] = [
-        (4, &[]),
-        (4, &[0, 0, 0]),
-        (4, &[0x7f, 0xff, 0xff, 0xff, 0, 0]),
-        (6, &[0xff, 0xff, 0xff, 0xff]),
-        (4, &[0, 0, 0, 0, 0]),
-        (4, &[0, 0, 0, 1, 0, 0, 0]),
-        (7, &[0, 0, 0, 1, 0xff, 0xff, 0xff, 0xff]),
-        (4, &[0, 0, 0, 1, 0, 0, 0, 2, 0xff]),
-        (5, &[0, 0, 0, 1, 0, 0, 0, 1, 0xff]),
-        (4, &[0, 0, 0, 1, 0, 0, 0, 1, b'a', 0, 0, 0]),
-        (4, &[0, 0, 0, 1, 0, 0, 0, 1, b'a', 0, 0, 0, 1]),
-        (5, &[0, 0, 0, 1, 0, 0, 0, 1, b'a', 0, 0, 0, 1, 0x80]),
-        (0, &[0, 0, 0, 1, 0, 0, 0, 1, b'a', 0xff, 0xff, 0xff, 0xfb]),
-        (0, &[0, 0, 0, 1, 0, 0, 0, 1, b'a', 0x80, 0, 0, 0]),
-        (4, &[0, 0, 0, 1, 0, 0, 0, 0, 0, 0, 0, 0, 9]),
-    ];
-    for (fault, cell) in &rows {
-        assert_eq!(rt; refusal::<Map>(alloc, &ty, Some(*cell)), *fault);
+    refuses::<Map>(alloc, &hstore(alloc)?, &DAMAGED)?;
+    refuses::<Map>(alloc, &Type::TEXT, &[(Some(&NULL), USER)])
+}
+
+/// The cell begins with these entries; answers those that follow.
+fn begins<'a>(alloc: Global, cell: &'a [u8], first: &[Entry]) -> Result<HstoreEntries<'a>, Fail> {
+    let mut entries = hstore_from_sql(alloc, cell)?;
+    for entry in first {
+        same(entries.next().transpose()?, Some(*entry))?;
     }
-    assert_eq!(rt; refusal::<Map>(alloc, &ty, None), 2);
-    assert_eq!(rt; refusal::<Map>(alloc, &Type::TEXT, Some(&NULL)), 21);
+    Ok(entries)
+}
+
+/// No entry follows, however often it is called.
+fn ends(entries: &mut HstoreEntries<'_>) -> Result<(), Fail> {
+    for _ in 0..2 {
+        holds(entries.next().is_none(), "no entry")?;
+    }
     Ok(())
 }
 
 #[test]
-fn entries_come_in_their_order_and_then_none(rt: HostRuntime) -> Result<(), Fail> {
-    let alloc = rt.alloc();
-    let mut entries = hstore_from_sql(alloc, &TWICE)?;
-    assert_eq!(rt; entries.next().transpose()?, Some(("a", Some("1"))));
-    assert_eq!(rt; entries.next().transpose()?, Some(("a", None)));
-    assert!(rt; entries.next().is_none());
-    assert!(rt; entries.next().is_none());
-    let left = [0, 0, 0, 1, 0, 0, 0, 0, 0xff, 0xff, 0xff, 0xff, 9];
-    let mut entries = hstore_from_sql(alloc, &left)?;
-    assert_eq!(rt; entries.next().transpose()?, Some(("", None)));
+fn entries_keep_their_order(rt: HostRuntime) -> Result<(), Fail> {
+    let mut entries = begins(rt.alloc(), &TWICE, &[("a", Some("1")), ("a", None)])?;
+    ends(&mut entries)
+}
+
+#[test]
+fn trailing_bytes_are_refused_once(rt: HostRuntime) -> Result<(), Fail> {
+    let mut entries = begins(rt.alloc(), &TRAILING, &[("", None)])?;
     let Some(Err(fault)) = entries.next() else {
-        return Err(Fail::from("bytes behind the last entry are taken"));
+        return Err(Fail::from("trailing bytes are accepted"));
     };
-    assert_eq!(rt; fault.code(), 4);
-    assert!(rt; entries.next().is_none());
-    assert!(rt; entries.next().is_none());
-    let mut out = BytesMut::new(alloc);
-    hstore_to_sql(alloc, &[("c", None), ("a", Some("b"))], &mut out)?;
-    let unsorted = [
-        0, 0, 0, 2, 0, 0, 0, 1, b'c', 0xff, 0xff, 0xff, 0xff, 0, 0, 0, 1, b'a', 0, 0, 0, 1, b'b',
-    ];
-    assert_eq!(rt; out.as_slice(), unsorted.as_slice());
-    Ok(())
+    same(fault.code(), SIZE)?;
+    ends(&mut entries)
+}
+
+#[test]
+fn entries_are_written_in_their_order(rt: HostRuntime) -> Result<(), Fail> {
+    let mut out = BytesMut::new(rt.alloc());
+    hstore_to_sql(rt.alloc(), &[("c", None), ("a", Some("b"))], &mut out)?;
+    same(out.as_slice(), UNSORTED.as_slice())
 }

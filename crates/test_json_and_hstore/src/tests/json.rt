@@ -1,35 +1,13 @@
-//! Documents, as `serde_json::Value`.
+//! JSON and JSONB as `serde_json::Value`.
 
+use postgres_types::Type;
 use postgres_types::private::BytesMut;
-use postgres_types::{FromSql, ToSql, Type};
-use rows::{made, read, reads, refusal, refuses, writes};
+use rows::code::{JSON_NUMBER, JSON_TEXT, JSON_VERSION, SIZE, USER, WAS_NULL};
+use rows::{accepts, read, reads, refusal, refuses, refuses_both, same, simple_type, writes};
 use serde::{Deserialize, Serialize};
 use serde_json::{Value, json};
 use std::alloc::Global;
 use std::test::Fail;
-
-const NO_DOCUMENT: [&[u8]; 8] = [
-    b"",
-    b"{",
-    b"[1,]",
-    b"nul",
-    b"{}{}",
-    b"1e400",
-    b"\"\xc3\"",
-    b"\xff",
-];
-
-const OTHER_NUMBERS: [&[u8]; 9] = [
-    b"18446744073709551616",
-    b"-9223372036854775809",
-    b"1.5",
-    b"1.0",
-    b"1e2",
-    b"-0",
-    b"[1.5]",
-    b"{\"a\":1.5}",
-    b"{\"a\":[1,{\"b\":[2,1e0]}]}",
-];
 
 /// A JSONB cell: the version, and the text.
 fn jsonb(alloc: Global, text: &[u8]) -> Result<BytesMut, Fail> {
@@ -38,14 +16,31 @@ fn jsonb(alloc: Global, text: &[u8]) -> Result<BytesMut, Fail> {
     Ok(cell)
 }
 
+/// The text is read as the document, of JSON and of JSONB.
+fn reads_document(alloc: Global, text: &str, document: Value) -> Result<(), Fail> {
+    reads(alloc, &Type::JSON, text.as_bytes(), document.clone()?)?;
+    let cell = jsonb(alloc, text.as_bytes())?;
+    reads(alloc, &Type::JSONB, cell.as_slice(), document)
+}
+
 #[test]
-fn a_text_is_read_as_its_document(rt: HostRuntime) -> Result<(), Fail> {
-    let alloc = rt.alloc();
+fn scalars_are_read(rt: HostRuntime) -> Result<(), Fail> {
     let rows = [
         ("null", Value::Null),
         (" true\n", Value::from(true)),
         ("18446744073709551615", Value::from(u64::MAX)),
         ("-9223372036854775808", Value::from(i64::MIN)),
+    ];
+    for (text, document) in rows {
+        reads_document(rt.alloc(), text, document)?;
+    }
+    Ok(())
+}
+
+#[test]
+fn texts_and_objects_are_read(rt: HostRuntime) -> Result<(), Fail> {
+    let alloc = rt.alloc();
+    let rows = [
         ("\"\\u00e9\"", json!(in alloc; "\u{e9}")?),
         ("{}", json!(in alloc; {})?),
         (
@@ -54,21 +49,36 @@ fn a_text_is_read_as_its_document(rt: HostRuntime) -> Result<(), Fail> {
         ),
         ("{\"a\":1.5,\"a\":2}", json!(in alloc; {"a": 2})?),
     ];
-    for (text, value) in rows {
-        reads(alloc, &Type::JSON, text.as_bytes(), value.clone()?)?;
-        let cell = jsonb(alloc, text.as_bytes())?;
-        reads(alloc, &Type::JSONB, cell.as_slice(), value)?;
+    for (text, document) in rows {
+        reads_document(alloc, text, document)?;
     }
     Ok(())
 }
 
+/// The document is written as the text, to JSON and to JSONB.
+fn writes_document(alloc: Global, document: &Value, text: &str) -> Result<(), Fail> {
+    writes(alloc, document, &Type::JSON, text.as_bytes())?;
+    let cell = jsonb(alloc, text.as_bytes())?;
+    writes(alloc, document, &Type::JSONB, cell.as_slice())
+}
+
 #[test]
-fn a_document_is_written_as_its_compact_text(rt: HostRuntime) -> Result<(), Fail> {
-    let alloc = rt.alloc();
+fn scalars_are_written(rt: HostRuntime) -> Result<(), Fail> {
     let rows = [
         (Value::Null, "null"),
         (Value::from(u64::MAX), "18446744073709551615"),
         (Value::from(i64::MIN), "-9223372036854775808"),
+    ];
+    for (document, text) in rows {
+        writes_document(rt.alloc(), &document, text)?;
+    }
+    writes(rt.alloc(), &Value::Null, &Type::JSON, b"\x6e\x75\x6c\x6c")
+}
+
+#[test]
+fn texts_and_objects_are_written_compactly(rt: HostRuntime) -> Result<(), Fail> {
+    let alloc = rt.alloc();
+    let rows = [
         (json!(in alloc; {})?, "{}"),
         (
             json!(in alloc; {"b": 1, "a": [true, null]})?,
@@ -76,110 +86,125 @@ fn a_document_is_written_as_its_compact_text(rt: HostRuntime) -> Result<(), Fail
         ),
         (json!(in alloc; "\u{e9}\"\n")?, "\"\u{e9}\\\"\\n\""),
     ];
-    for (value, text) in rows {
-        writes(alloc, &value, &Type::JSON, text.as_bytes())?;
-        let cell = jsonb(alloc, text.as_bytes())?;
-        writes(alloc, &value, &Type::JSONB, cell.as_slice())?;
+    for (document, text) in rows {
+        writes_document(alloc, &document, text)?;
     }
-    writes(alloc, &Value::Null, &Type::JSON, &[0x6e, 0x75, 0x6c, 0x6c])?;
-    let written = b"\x01{\"a\":[true,null],\"b\":1}";
-    for cell in [
-        b"\x01{\"b\":1,\"a\":[true,null]}".as_slice(),
-        b"\x01 { \"b\" : 1, \"a\" : [ true, null ] } ",
-    ] {
+    Ok(())
+}
+
+/// Cells of one document.
+const OF_ONE_DOCUMENT: [&[u8]; 2] = [
+    b"\x01{\"b\":1,\"a\":[true,null]}",
+    b"\x01 { \"b\" : 1, \"a\" : [ true, null ] } ",
+];
+
+#[test]
+fn spaces_and_the_order_of_keys_are_not_kept(rt: HostRuntime) -> Result<(), Fail> {
+    let alloc = rt.alloc();
+    for cell in OF_ONE_DOCUMENT {
         let document: Value = read(alloc, &Type::JSONB, Some(cell))?;
+        let written = b"\x01{\"a\":[true,null],\"b\":1}";
         writes(alloc, &document, &Type::JSONB, written)?;
     }
     Ok(())
 }
 
+/// Texts that are no document, and texts with a number that is no integer of 64 bits.
+const REFUSED_TEXTS: [(&[u8], u32); 17] = [
+    (b"", JSON_TEXT),
+    (b"{", JSON_TEXT),
+    (b"[1,]", JSON_TEXT),
+    (b"nul", JSON_TEXT),
+    (b"{}{}", JSON_TEXT),
+    (b"1e400", JSON_TEXT),
+    (b"\"\xc3\"", JSON_TEXT),
+    (b"\xff", JSON_TEXT),
+    (b"18446744073709551616", JSON_NUMBER),
+    (b"-9223372036854775809", JSON_NUMBER),
+    (b"1.5", JSON_NUMBER),
+    (b"1.0", JSON_NUMBER),
+    (b"1e2", JSON_NUMBER),
+    (b"-0", JSON_NUMBER),
+    (b"[1.5]", JSON_NUMBER),
+    (b"{\"a\":1.5}", JSON_NUMBER),
+    (b"{\"a\":[1,{\"b\":[2,1e0]}]}", JSON_NUMBER),
+];
+
 #[test]
-fn a_damaged_cell_is_refused_by_its_first_check(rt: HostRuntime) -> Result<(), Fail> {
+fn other_texts_are_refused(rt: HostRuntime) -> Result<(), Fail> {
     let alloc = rt.alloc();
-    for (code, texts) in [(15, NO_DOCUMENT.as_slice()), (16, OTHER_NUMBERS.as_slice())] {
-        for text in texts {
-            assert_eq!(rt; refusal::<Value>(alloc, &Type::JSON, Some(*text)), code);
-            let cell = jsonb(alloc, text)?;
-            assert_eq!(rt;
-                refusal::<Value>(alloc, &Type::JSONB, Some(cell.as_slice())),
-                code
-            );
-        }
+    for (text, code) in REFUSED_TEXTS {
+        same(refusal::<Value>(alloc, &Type::JSON, Some(text)), code)?;
+        let cell = jsonb(alloc, text)?;
+        let refused = refusal::<Value>(alloc, &Type::JSONB, Some(cell.as_slice()));
+        same(refused, code)?;
     }
-    let versions: [(Option<&[u8]>, u32); 6] = [
-        (Some(&[]), 4),
-        (Some(&[2, 0x7b, 0x7d]), 13),
-        (Some(&[0x7b, 0x7d]), 13),
-        (Some(&[0]), 13),
-        (Some(&[1]), 15),
-        (None, 2),
-    ];
-    refuses::<Value>(alloc, &Type::JSONB, &versions)?;
-    assert_eq!(rt;
-        refusal::<Value>(alloc, &Type::JSON, Some(&[1, 0x7b, 0x7d])),
-        15
-    );
-    assert_eq!(rt; refusal::<Value>(alloc, &Type::JSON, None), 2);
-    assert_eq!(rt; refusal::<Value>(alloc, &Type::TEXT, Some(b"{}")), 21);
     Ok(())
 }
+
+const REFUSED_JSONB: [(Option<&[u8]>, u32); 6] = [
+    (Some(&[]), SIZE),
+    (Some(&[2, b'{', b'}']), JSON_VERSION),
+    (Some(&[b'{', b'}']), JSON_VERSION),
+    (Some(&[0]), JSON_VERSION),
+    (Some(&[1]), JSON_TEXT),
+    (None, WAS_NULL),
+];
+
+const REFUSED_JSON: [(Option<&[u8]>, u32); 2] = [
+    (Some(&[1, b'{', b'}']), JSON_TEXT),
+    (None, WAS_NULL),
+];
+
+#[test]
+fn jsonb_has_a_version_and_json_has_none(rt: HostRuntime) -> Result<(), Fail> {
+    let alloc = rt.alloc();
+    refuses::<Value>(alloc, &Type::JSONB, &REFUSED_JSONB)?;
+    refuses::<Value>(alloc, &Type::JSON, &REFUSED_JSON)?;
+    refuses::<Value>(alloc, &Type::TEXT, &[(Some(b"{}"), USER)])
+}
+
+/// Depths of arrays, and the fault; 0 where the text is read.
+const DEPTHS: [(u8, u32); 2] = [(127, 0), (128, JSON_TEXT)];
 
 #[test]
 fn arrays_nest_at_most_127_deep(rt: HostRuntime) -> Result<(), Fail> {
     let alloc = rt.alloc();
-    for (depth, code) in [(127usize, 0), (128, 15)] {
+    for (depth, code) in DEPTHS {
+        let depth = usize::from(depth);
         let mut text = BytesMut::new(alloc);
-        for _ in 0..depth {
-            text.extend_from_slice(b"[")?;
-        }
-        for _ in 0..depth {
-            text.extend_from_slice(b"]")?;
-        }
-        assert_eq!(rt;
-            refusal::<Value>(alloc, &Type::JSON, Some(text.as_slice())),
-            code
-        );
+        text.resize(depth, b'[')?;
+        text.resize(2 * depth, b']')?;
+        let refused = refusal::<Value>(alloc, &Type::JSON, Some(text.as_slice()));
+        same(refused, code)?;
     }
     Ok(())
 }
 
 #[test]
-fn another_number_is_not_written(rt: HostRuntime) -> Result<(), Fail> {
+fn other_numbers_are_not_written(rt: HostRuntime) -> Result<(), Fail> {
     let alloc = rt.alloc();
-    let values = [
+    let documents = [
         Value::from(1.5f64),
         json!(in alloc; [1, 1.5])?,
         json!(in alloc; {"a": {"b": [2.0]}})?,
     ];
-    let mut out = BytesMut::copy_from_slice(alloc, b"before")?;
-    for value in &values {
-        for ty in [Type::JSON, Type::JSONB] {
-            let refused = value.to_sql_checked(alloc, &ty, &mut out);
-            assert_eq!(rt; refused.err().map(|fault| fault.code()), Some(16));
-        }
-        let refused = value.to_sql(alloc, &Type::JSON, &mut out);
-        assert_eq!(rt; refused.err().map(|fault| fault.code()), Some(16));
-        let refused = value.to_sql(alloc, &Type::JSONB, &mut out);
-        assert_eq!(rt; refused.err().map(|fault| fault.code()), Some(16));
-        assert_eq!(rt; out.as_slice(), b"before".as_slice());
+    for document in &documents {
+        refuses_both(alloc, document, &Type::JSON, JSON_NUMBER)?;
+        refuses_both(alloc, document, &Type::JSONB, JSON_NUMBER)?;
     }
     Ok(())
 }
 
 #[test]
 fn documents_accept_json_and_jsonb(rt: HostRuntime) -> Result<(), Fail> {
-    let alloc = rt.alloc();
-    for (ty, accepted) in [
+    accepts::<Value>(&[
         (Type::JSON, true),
         (Type::JSONB, true),
         (Type::TEXT, false),
         (Type::JSON_ARRAY, false),
-        (rows::made(alloc, "json", 114, "pg_catalog")?, false),
-    ] {
-        assert_eq!(rt; <Value as FromSql>::accepts(&ty), accepted);
-        assert_eq!(rt; <Value as ToSql>::accepts(&ty), accepted);
-    }
-    Ok(())
+        (simple_type(rt.alloc(), "json", 114, "pg_catalog")?, false),
+    ])
 }
 
 #[derive(Debug, Drop, PartialEq, Serialize, Deserialize)]
@@ -189,25 +214,29 @@ struct Moon {
     craters: Vec<u32>,
 }
 
-#[test]
-fn a_type_of_serde_goes_through_the_text(rt: HostRuntime) -> Result<(), Fail> {
-    let alloc = rt.alloc();
-    let moon = Moon {
+/// The moon's text, with its keys in order.
+const MOON: &str = "{\"craters\":[7,9],\"name\":\"Io\",\"orbit_days\":2}";
+
+fn make_moon(alloc: Global) -> Result<Moon, Fail> {
+    Ok(Moon {
         name: String::from_str(alloc, "Io")?,
         orbit_days: 2,
         craters: Vec::from_slice(alloc, &[7u32, 9])?,
-    };
-    let text = serde_json::to_string(alloc, &moon)?;
-    let value: Value = read(alloc, &Type::JSON, Some(text.as_str().as_bytes()))?;
+    })
+}
+
+#[test]
+fn the_text_of_a_serde_type_is_read_and_written(rt: HostRuntime) -> Result<(), Fail> {
+    let alloc = rt.alloc();
+    let text = serde_json::to_string(alloc, &make_moon(alloc)?)?;
+    let document: Value = read(alloc, &Type::JSON, Some(text.as_str().as_bytes()))?;
+    writes(alloc, &document, &Type::JSON, MOON.as_bytes())?;
     let expected = json!(in alloc; {"name": "Io", "orbit_days": 2, "craters": [7, 9]})?;
-    assert!(rt; value == expected);
-    let mut out = BytesMut::new(alloc);
-    let _ = value.to_sql(alloc, &Type::JSON, &mut out)?;
-    assert_eq!(rt;
-        out.as_slice(),
-        b"{\"craters\":[7,9],\"name\":\"Io\",\"orbit_days\":2}".as_slice()
-    );
-    let back: Moon = serde_json::from_str(alloc, str::from_utf8(out.as_slice())?)?;
-    assert_eq!(rt; back, moon);
-    Ok(())
+    same(document, expected)
+}
+
+#[test]
+fn the_written_text_is_of_the_serde_type(rt: HostRuntime) -> Result<(), Fail> {
+    let found: Moon = serde_json::from_str(rt.alloc(), MOON)?;
+    same(found, make_moon(rt.alloc())?)
 }

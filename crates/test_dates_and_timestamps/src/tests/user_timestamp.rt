@@ -1,14 +1,13 @@
-//! A conversion of a user's own inside the wrapper of moments.
+//! A user-defined conversion inside `Timestamp`.
 
-use super::params::binds;
 use postgres_types::private::BytesMut;
 use postgres_types::protocol::{timestamp_from_sql, timestamp_to_sql};
 use postgres_types::{Fault, Format, FromSql, IsNull, Timestamp, ToSql, Type, WrongType};
-use rows::{reads, writes};
+use rows::{binds, reads, spells};
 use std::alloc::Global;
 use std::test::Fail;
 
-/// A moment, by its microseconds from 2000-01-01.
+/// Microseconds from 2000-01-01 00:00:00; every integer is a value.
 #[derive(Debug, Clone, Copy, PartialEq)]
 struct Micros(i64);
 
@@ -100,35 +99,42 @@ impl ToSql for Micros {
     ghost checks = { λ _ _. refl };
 }
 
-/// A second after 2000-01-01.
+/// A second after 2000-01-01 00:00:00.
 const SECOND: [u8; 8] = [0, 0, 0, 0, 0, 0x0f, 0x42, 0x40];
 
-/// The greatest number of 8 bytes.
-const LAST: [u8; 8] = [0x7f, 0xff, 0xff, 0xff, 0xff, 0xff, 0xff, 0xff];
+/// The greatest integer of 8 bytes.
+const GREATEST: [u8; 8] = [0x7f, 0xff, 0xff, 0xff, 0xff, 0xff, 0xff, 0xff];
 
 /// An array of infinity and NULL.
-const LAST_AND_NULL: [u8; 36] = [
+const INFINITY_AND_NULL: [u8; 36] = [
     0, 0, 0, 1, 0, 0, 0, 1, 0, 0, 4, 0x5a, 0, 0, 0, 2, 0, 0, 0, 1, 0, 0, 0, 8, 0x7f, 0xff, 0xff,
     0xff, 0xff, 0xff, 0xff, 0xff, 0xff, 0xff, 0xff, 0xff,
 ];
 
+const ROWS: [(Timestamp<Micros>, &[u8]); 2] = [
+    (Timestamp::Value(Micros(1_000_000)), &SECOND),
+    (Timestamp::PosInfinity, &GREATEST),
+];
+
 #[test]
-fn a_users_moment_has_infinities(rt: HostRuntime) -> Result<(), Fail> {
+fn a_user_defined_timestamp_has_infinities(rt: HostRuntime) -> Result<(), Fail> {
     let alloc = rt.alloc();
-    let ty = &Type::TIMESTAMP;
-    let second = Timestamp::Value(Micros(1_000_000));
-    writes(alloc, &second, ty, &SECOND)?;
-    reads(alloc, ty, &SECOND, second)?;
-    writes(alloc, &Timestamp::<Micros>::PosInfinity, ty, &LAST)?;
-    reads(alloc, ty, &LAST, Timestamp::<Micros>::PosInfinity)?;
-    reads(alloc, ty, &LAST, Micros(i64::MAX))?;
-    let list = [Some(Timestamp::<Micros>::PosInfinity), None];
-    writes(alloc, &list, &Type::TIMESTAMP_ARRAY, &LAST_AND_NULL)?;
-    reads(alloc, &Type::TIMESTAMP_ARRAY, &LAST_AND_NULL, list)
+    spells(alloc, &Type::TIMESTAMP, &ROWS)?;
+    reads(alloc, &Type::TIMESTAMP, &GREATEST, Micros(i64::MAX))
+}
+
+const ARRAYS: [([Option<Timestamp<Micros>>; 2], &[u8]); 1] = [(
+    [Some(Timestamp::PosInfinity), None],
+    &INFINITY_AND_NULL,
+)];
+
+#[test]
+fn an_array_of_them_has_infinities(rt: HostRuntime) -> Result<(), Fail> {
+    spells(rt.alloc(), &Type::TIMESTAMP_ARRAY, &ARRAYS)
 }
 
 #[test]
-fn a_users_moment_is_bound(rt: HostRuntime) -> Result<(), Fail> {
+fn user_defined_timestamps_are_parameters(rt: HostRuntime) -> Result<(), Fail> {
     let alloc = rt.alloc();
     let params: [Box<dyn ToSql>; 2] = [
         Box::new(alloc, Timestamp::Value(Micros(1_000_000)))?,
@@ -139,5 +145,5 @@ fn a_users_moment_is_bound(rt: HostRuntime) -> Result<(), Fail> {
         0, 0, 0, 8, 0xff, 0xff, 0xff, 0xff, 0xff, 0xff, 0xff, 0xff,
     ];
     let types = [Type::TIMESTAMP, Type::TIMESTAMP];
-    binds(&rt, alloc, &params, &types, &frames)
+    binds(alloc, &params, &types, &frames)
 }

@@ -1,0 +1,23 @@
+//! Values that both calls of writing refuse.
+
+use crate::{refuses_value, same};
+use postgres_types::private::BytesMut;
+use postgres_types::{ToSql, Type};
+use std::alloc::Global;
+use std::test::Fail;
+
+/// What stands in a buffer before a value is refused.
+const BEFORE: &[u8] = b"before";
+
+/// Writing the value to that type, which is accepted, is refused by both calls with the fault of
+/// that number, and appends nothing.
+pub fn refuses_both<T: ToSql>(alloc: Global, value: &T, ty: &Type, code: u32) -> Result<(), Fail> {
+    refuses_value(alloc, value, ty, code)?;
+    if !T::accepts(ty) {
+        return Err(Fail::from("not accepted"));
+    }
+    let mut out = BytesMut::copy_from_slice(alloc, BEFORE)?;
+    let refused = value.to_sql(alloc, ty, &mut out);
+    same(refused.err().map(|fault| fault.code()), Some(code))?;
+    same(out.as_slice(), BEFORE)
+}

@@ -1,0 +1,250 @@
+//! Dates and timestamps with infinities.
+
+use jiff::civil;
+use pg_base::special::laws::{same_date, same_timestamp};
+use postgres_types::{Date, Format, FromSql, Paired, Timestamp, ToSql, Type, UnixTime};
+use rows::code::{DECODE, SIZE, TRANSMIT, WAS_NULL};
+use rows::{
+    Days, NoDay, accepts, debugs, holds, reads_back, refuses, refuses_both, refuses_type, rewrites,
+    same, spells, unix, writes, writes_null,
+};
+use std::alloc::Global;
+use std::test::Fail;
+
+const LAST_DATE: [u8; 4] = [0x7f, 0xff, 0xff, 0xff];
+
+const FIRST_DATE: [u8; 4] = [0x80, 0, 0, 0];
+
+const LAST: [u8; 8] = [0x7f, 0xff, 0xff, 0xff, 0xff, 0xff, 0xff, 0xff];
+
+const FIRST: [u8; 8] = [0x80, 0, 0, 0, 0, 0, 0, 0];
+
+/// Each cell is read as a `T`, which is written as that cell.
+fn rewrites_all<'a, T: Paired<'a>>(
+    alloc: Global,
+    ty: &Type,
+    rows: &'a [(T, &'a [u8])],
+) -> Result<(), Fail> {
+    for (_, cell) in rows {
+        rewrites::<T>(alloc, ty, *cell, *cell)?;
+    }
+    Ok(())
+}
+
+const DATES: [(Date<Days>, &[u8]); 5] = [
+    (Date::PosInfinity, &LAST_DATE),
+    (Date::NegInfinity, &FIRST_DATE),
+    (Date::Value(Days(3)), &[0, 0, 0, 3]),
+    (Date::Value(Days(i32::MAX - 1)), &[0x7f, 0xff, 0xff, 0xfe]),
+    (Date::Value(Days(i32::MIN + 1)), &[0x80, 0, 0, 1]),
+];
+
+const REFUSED_DATES: [(Option<&[u8]>, u32); 3] = [
+    (Some(&[0xff, 0xff, 0xff]), SIZE),
+    (Some(&[0; 5]), SIZE),
+    (None, WAS_NULL),
+];
+
+#[test]
+fn dates_have_infinities(rt: HostRuntime) -> Result<(), Fail> {
+    let alloc = rt.alloc();
+    spells(alloc, &Type::DATE, &DATES)?;
+    rewrites_all(alloc, &Type::DATE, &DATES)?;
+    refuses::<Date<Days>>(alloc, &Type::DATE, &REFUSED_DATES)
+}
+
+#[test]
+fn null_is_no_date(rt: HostRuntime) -> Result<(), Fail> {
+    let alloc = rt.alloc();
+    refuses::<Date<Option<Days>>>(alloc, &Type::DATE, &[(None, WAS_NULL)])?;
+    writes_null(alloc, &Date::Value(None::<Days>), &Type::DATE)?;
+    let format = Date::Value(Days(3)).encode_format(&Type::DATE);
+    same(format, Format::Binary)
+}
+
+/// The number for a cell that is read.
+const READ: u32 = 0;
+
+const CELLS_OF_NO_DAY: [(Option<&[u8]>, u32); 4] = [
+    (Some(&LAST_DATE), READ),
+    (Some(&FIRST_DATE), READ),
+    (Some(&[0, 0, 0, 3]), DECODE),
+    (Some(&[0; 5]), SIZE),
+];
+
+const CELLS_WITHOUT_INFINITIES: [(Option<&[u8]>, u32); 3] = [
+    (Some(&LAST_DATE), DECODE),
+    (Some(&FIRST_DATE), DECODE),
+    (Some(&[0, 0, 0, 3]), DECODE),
+];
+
+#[test]
+fn infinities_are_tested_before_the_value(rt: HostRuntime) -> Result<(), Fail> {
+    let alloc = rt.alloc();
+    refuses::<Date<NoDay>>(alloc, &Type::DATE, &CELLS_OF_NO_DAY)?;
+    refuses::<NoDay>(alloc, &Type::DATE, &CELLS_WITHOUT_INFINITIES)
+}
+
+#[test]
+fn the_extreme_values_are_read_back_as_infinities(rt: HostRuntime) -> Result<(), Fail> {
+    let alloc = rt.alloc();
+    let greatest = Date::Value(Days(i32::MAX));
+    writes(alloc, &greatest, &Type::DATE, &LAST_DATE)?;
+    let inner: Date<Date<Days>> = Date::Value(Date::PosInfinity);
+    reads_back(alloc, &Type::DATE, &inner, &LAST_DATE, Date::PosInfinity)?;
+    let last = Timestamp::Value(unix(9_224_318_721_654, 775_807_000)?);
+    reads_back(
+        alloc,
+        &Type::TIMESTAMP,
+        &last,
+        &LAST,
+        Timestamp::PosInfinity,
+    )
+}
+
+/// Timestamps are written to the type as their cells, which are read back and rewritten.
+fn spells_timestamps(alloc: Global, ty: &Type) -> Result<(), Fail> {
+    let base = unix(946_684_800, 0)?;
+    let before = unix(946_684_799, 999_999_000)?;
+    let rows: [(Timestamp<UnixTime>, &[u8]); 4] = [
+        (Timestamp::PosInfinity, &LAST),
+        (Timestamp::NegInfinity, &FIRST),
+        (Timestamp::Value(base), &[0; 8]),
+        (Timestamp::Value(before), &[0xff; 8]),
+    ];
+    spells(alloc, ty, &rows)?;
+    rewrites_all(alloc, ty, &rows)
+}
+
+const REFUSED_TIMESTAMPS: [(Option<&[u8]>, u32); 4] = [
+    (Some(&LAST_DATE), SIZE),
+    (Some(&[0xff; 7]), SIZE),
+    (Some(&[0; 9]), SIZE),
+    (None, WAS_NULL),
+];
+
+#[test]
+fn timestamps_have_infinities(rt: HostRuntime) -> Result<(), Fail> {
+    let alloc = rt.alloc();
+    for ty in [Type::TIMESTAMP, Type::TIMESTAMPTZ] {
+        spells_timestamps(alloc, &ty)?;
+        refuses::<Timestamp<UnixTime>>(alloc, &ty, &REFUSED_TIMESTAMPS)?;
+    }
+    Ok(())
+}
+
+#[test]
+fn null_is_no_timestamp(rt: HostRuntime) -> Result<(), Fail> {
+    let alloc = rt.alloc();
+    let base = Timestamp::Value(unix(946_684_800, 0)?);
+    for ty in [Type::TIMESTAMP, Type::TIMESTAMPTZ] {
+        refuses::<Timestamp<Option<UnixTime>>>(alloc, &ty, &[(None, WAS_NULL)])?;
+        writes_null(alloc, &Timestamp::Value(None::<UnixTime>), &ty)?;
+        same(base.encode_format(&ty), Format::Binary)?;
+    }
+    Ok(())
+}
+
+#[test]
+fn timestamps_out_of_range_are_not_written(rt: HostRuntime) -> Result<(), Fail> {
+    let far = Timestamp::Value(unix(9_224_318_721_654, 775_808_000)?);
+    refuses_both(rt.alloc(), &far, &Type::TIMESTAMP, TRANSMIT)
+}
+
+#[test]
+fn types_of_the_value_are_accepted(_rt: HostRuntime) -> Result<(), Fail> {
+    accepts::<Date<Days>>(&[(Type::DATE, true)])?;
+    accepts::<Date<UnixTime>>(&[(Type::DATE, false), (Type::TIMESTAMP, false)])?;
+    accepts::<Timestamp<Days>>(&[(Type::TIMESTAMP, false), (Type::DATE, false)])
+}
+
+#[test]
+fn other_types_are_refused(rt: HostRuntime) -> Result<(), Fail> {
+    let alloc = rt.alloc();
+    let date = Date::Value(unix(0, 0)?);
+    refuses_type(alloc, &date, &Type::DATE, "Date")?;
+    let timestamp = Timestamp::Value(Days(0));
+    refuses_type(alloc, &timestamp, &Type::TIMESTAMP, "Timestamp")
+}
+
+const DAY: Date<Days> = Date::Value(Days(3));
+
+/// Pairs of dates, and whether they are equal.
+const EQUAL_DATES: [(Date<Days>, Date<Days>, bool); 3] = [
+    (DAY, Date::Value(Days(3)), true),
+    (DAY, Date::Value(Days(4)), false),
+    (Date::PosInfinity, Date::NegInfinity, false),
+];
+
+#[test]
+fn dates_are_compared(_rt: HostRuntime) -> Result<(), Fail> {
+    for (left, right, equal) in EQUAL_DATES {
+        same(same_date(&left, &right), equal)?;
+    }
+    let copied = DAY;
+    same(DAY, copied)?;
+    same(DAY.clone()?, DAY)
+}
+
+#[test]
+fn timestamps_are_compared(_rt: HostRuntime) -> Result<(), Fail> {
+    let time = Timestamp::Value(unix(1, 0)?);
+    let copied = time;
+    same(time, copied)?;
+    same(time.clone()?, time)?;
+    let start: Timestamp<UnixTime> = Timestamp::NegInfinity;
+    holds(same_timestamp(&start, &start.clone()?), "the same infinity")?;
+    holds(!same_timestamp(&start, &time), "a value is no infinity")
+}
+
+#[test]
+fn infinities_have_a_debug_text(rt: HostRuntime) -> Result<(), Fail> {
+    let alloc = rt.alloc();
+    debugs(alloc, &DAY, "Value(Days(3))")?;
+    debugs(alloc, &Date::<Days>::PosInfinity, "PosInfinity")?;
+    debugs(alloc, &Timestamp::<UnixTime>::NegInfinity, "NegInfinity")?;
+    let time = Timestamp::Value(unix(1, 0)?);
+    debugs(alloc, &time, "Value(UnixTime { secs: 1, nanos: 0 })")
+}
+
+#[test]
+fn dates_of_jiff_have_infinities(rt: HostRuntime) -> Result<(), Fail> {
+    let alloc = rt.alloc();
+    let rows: [(Date<civil::Date>, &[u8]); 3] = [
+        (Date::PosInfinity, &LAST_DATE),
+        (Date::NegInfinity, &FIRST_DATE),
+        (
+            Date::Value(civil::Date::new(2002, 9, 27)?),
+            &[0, 0, 3, 0xe8],
+        ),
+    ];
+    spells(alloc, &Type::DATE, &rows)?;
+    let far = [(Some([0x7fu8, 0xff, 0xff, 0xfe].as_slice()), DECODE)];
+    refuses::<Date<civil::Date>>(alloc, &Type::DATE, &far)?;
+    let inner: Date<Date<civil::Date>> = Date::Value(Date::PosInfinity);
+    reads_back(alloc, &Type::DATE, &inner, &LAST_DATE, Date::PosInfinity)
+}
+
+#[test]
+fn datetimes_of_jiff_have_infinities(rt: HostRuntime) -> Result<(), Fail> {
+    let alloc = rt.alloc();
+    let midnight = civil::Date::new(2000, 1, 1)?.to_datetime(civil::Time::midnight());
+    let rows: [(Timestamp<civil::DateTime>, &[u8]); 3] = [
+        (Timestamp::PosInfinity, &LAST),
+        (Timestamp::NegInfinity, &FIRST),
+        (Timestamp::Value(midnight), &[0; 8]),
+    ];
+    spells(alloc, &Type::TIMESTAMP, &rows)?;
+    let truncated = [(Some(LAST_DATE.as_slice()), SIZE)];
+    refuses::<Timestamp<civil::DateTime>>(alloc, &Type::TIMESTAMP, &truncated)
+}
+
+#[test]
+fn timestamps_of_jiff_have_infinities(rt: HostRuntime) -> Result<(), Fail> {
+    let base = jiff::Timestamp::from_second(946_684_800)?;
+    let rows: [(Timestamp<jiff::Timestamp>, &[u8]); 2] = [
+        (Timestamp::NegInfinity, &FIRST),
+        (Timestamp::Value(base), &[0; 8]),
+    ];
+    spells(rt.alloc(), &Type::TIMESTAMPTZ, &rows)
+}
