@@ -1,3 +1,6 @@
+mod array_cells;
 mod boxes;
+mod cells;
+mod list_reading;
+mod list_refusals;
 mod list_writing;
-mod lists;

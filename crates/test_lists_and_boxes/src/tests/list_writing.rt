@@ -1,163 +1,116 @@
+//! Lists and arrays that are written.
+
+use super::cells::{EMPTY, INFINITY, NULL, ONE_AND_TWO, VECTORS};
 use jiff::civil;
-use postgres_types::private::BytesMut;
-use postgres_types::protocol::array_to_sql;
 use postgres_types::{Date, Format, Kind, ToSql, Type};
-use rows::{made, made_of, refuses_type, refuses_value, writes};
+use rows::{
+    accepts, code, refuses_type, refuses_values, same, simple_type, unix, user_type, writes,
+};
 use std::alloc::Global;
-use std::boxed::BoxedSlice;
 use std::test::Fail;
 
-/// [1, 2] to INT4_ARRAY.
-const TWO_ELEMENTS: [u8; 36] = [
-    0, 0, 0, 1, 0, 0, 0, 0, 0, 0, 0, 0x17, 0, 0, 0, 2, 0, 0, 0, 1, 0, 0, 0, 4, 0, 0, 0, 1, 0, 0, 0,
-    4, 0, 0, 0, 2,
+/// The `INT2_VECTOR` of 5.
+const FIVE: [u8; 26] = [
+    0, 0, 0, 1, 0, 0, 0, 0, 0, 0, 0, 0x15, 0, 0, 0, 1, 0, 0, 0, 0, 0, 0, 0, 2, 0, 5,
 ];
 
-fn one_and_two(alloc: Global) -> Result<Vec<i32>, Fail> {
-    Ok(Vec::from_slice(alloc, &[1, 2])?)
+/// The `OID_VECTOR` of 7.
+const SEVEN_FROM_0: [u8; 28] = [
+    0, 0, 0, 1, 0, 0, 0, 0, 0, 0, 0, 0x1a, 0, 0, 0, 1, 0, 0, 0, 0, 0, 0, 0, 4, 0, 0, 0, 7,
+];
+
+/// The `OID_ARRAY` of 7.
+const SEVEN_FROM_1: [u8; 28] = [
+    0, 0, 0, 1, 0, 0, 0, 0, 0, 0, 0, 0x1a, 0, 0, 0, 1, 0, 0, 0, 1, 0, 0, 0, 4, 0, 0, 0, 7,
+];
+
+/// 1 and 2 are written in that form.
+fn is_written<T: ToSql>(alloc: Global, value: &T) -> Result<(), Fail> {
+    writes(alloc, value, &Type::INT4_ARRAY, &ONE_AND_TWO)?;
+    same(value.encode_format(&Type::INT4_ARRAY), Format::Binary)
 }
 
 #[test]
-fn each_list_is_written(rt: HostRuntime) -> Result<(), Fail> {
+fn each_form_of_a_list_is_written(rt: HostRuntime) -> Result<(), Fail> {
     let alloc = rt.alloc();
-    let ty = Type::INT4_ARRAY;
-    writes(alloc, &one_and_two(alloc)?, &ty, &TWO_ELEMENTS)?;
-    let lent = one_and_two(alloc)?;
-    let slice: &[i32] = lent.as_slice();
-    writes(alloc, &slice, &ty, &TWO_ELEMENTS)?;
-    writes(alloc, &[1i32, 2], &ty, &TWO_ELEMENTS)?;
-    let boxed: BoxedSlice<i32> = one_and_two(alloc)?.into_boxed_slice();
-    writes(alloc, &boxed, &ty, &TWO_ELEMENTS)?;
-    assert_eq!(rt; lent.encode_format(&ty), Format::Binary);
-    assert_eq!(rt; slice.encode_format(&ty), Format::Binary);
-    assert_eq!(rt; [1i32, 2].encode_format(&ty), Format::Binary);
-    assert_eq!(rt; boxed.encode_format(&ty), Format::Binary);
-    Ok(())
+    let list: Vec<i32> = Vec::from_slice(alloc, &[1, 2])?;
+    is_written(alloc, &list)?;
+    is_written(alloc, &list.as_slice())?;
+    is_written(alloc, &[1i32, 2])?;
+    is_written(alloc, &list.into_boxed_slice())
 }
 
 #[test]
-fn a_null_element_is_flagged(rt: HostRuntime) -> Result<(), Fail> {
+fn null_and_empty_lists_are_written(rt: HostRuntime) -> Result<(), Fail> {
     let alloc = rt.alloc();
-    let mut values: Vec<Option<i32>> = Vec::new(alloc);
-    values.push(None)?;
-    let cell = [
-        0, 0, 0, 1, 0, 0, 0, 1, 0, 0, 0, 0x17, 0, 0, 0, 1, 0, 0, 0, 1, 0xff, 0xff, 0xff, 0xff,
-    ];
-    writes(alloc, &values, &Type::INT4_ARRAY, &cell)
-}
-
-#[test]
-fn an_empty_list_has_one_dimension(rt: HostRuntime) -> Result<(), Fail> {
-    let alloc = rt.alloc();
-    let values: Vec<i32> = Vec::new(alloc);
-    let cell = [
-        0, 0, 0, 1, 0, 0, 0, 0, 0, 0, 0, 0x17, 0, 0, 0, 0, 0, 0, 0, 1,
-    ];
-    writes(alloc, &values, &Type::INT4_ARRAY, &cell)
+    let null = vec![in alloc; None::<i32>]?;
+    writes(alloc, &null, &Type::INT4_ARRAY, &NULL)?;
+    let empty: Vec<i32> = Vec::new(alloc);
+    writes(alloc, &empty, &Type::INT4_ARRAY, &EMPTY)
 }
 
 #[test]
 fn vectors_begin_at_0(rt: HostRuntime) -> Result<(), Fail> {
     let alloc = rt.alloc();
     let shorts: Vec<i16> = Vec::from_slice(alloc, &[5])?;
-    let cell = [
-        0, 0, 0, 1, 0, 0, 0, 0, 0, 0, 0, 0x15, 0, 0, 0, 1, 0, 0, 0, 0, 0, 0, 0, 2, 0, 5,
-    ];
-    writes(alloc, &shorts, &Type::INT2_VECTOR, &cell)?;
+    writes(alloc, &shorts, &Type::INT2_VECTOR, &FIVE)?;
     let oids: Vec<u32> = Vec::from_slice(alloc, &[7])?;
-    let cell = [
-        0, 0, 0, 1, 0, 0, 0, 0, 0, 0, 0, 0x1a, 0, 0, 0, 1, 0, 0, 0, 0, 0, 0, 0, 4, 0, 0, 0, 7,
-    ];
-    writes(alloc, &oids, &Type::OID_VECTOR, &cell)?;
-    let cell = [
-        0, 0, 0, 1, 0, 0, 0, 0, 0, 0, 0, 0x1a, 0, 0, 0, 1, 0, 0, 0, 1, 0, 0, 0, 4, 0, 0, 0, 7,
-    ];
-    writes(alloc, &oids, &Type::OID_ARRAY, &cell)
+    writes(alloc, &oids, &Type::OID_VECTOR, &SEVEN_FROM_0)?;
+    writes(alloc, &oids, &Type::OID_ARRAY, &SEVEN_FROM_1)
 }
 
 #[test]
 fn lists_of_dates_have_infinities(rt: HostRuntime) -> Result<(), Fail> {
     let alloc = rt.alloc();
-    let mut values: Vec<Date<civil::Date>> = Vec::new(alloc);
-    values.push(Date::PosInfinity)?;
-    let cell = [
-        0, 0, 0, 1, 0, 0, 0, 0, 0, 0, 4, 0x3a, 0, 0, 0, 1, 0, 0, 0, 1, 0, 0, 0, 4, 0x7f, 0xff,
-        0xff, 0xff,
-    ];
-    writes(alloc, &values, &Type::DATE_ARRAY, &cell)
+    let dates: Vec<Date<civil::Date>> = vec![in alloc; Date::PosInfinity]?;
+    writes(alloc, &dates, &Type::DATE_ARRAY, &INFINITY)
 }
 
 #[test]
 fn lists_nest(rt: HostRuntime) -> Result<(), Fail> {
     let alloc = rt.alloc();
-    let ty = made_of(
-        alloc,
-        "int2vectors",
-        100_010,
-        Kind::Array(Type::INT2_VECTOR),
-        "public",
-    )?;
-    let mut values: Vec<Vec<i16>> = Vec::new(alloc);
-    values.push(Vec::from_slice(alloc, &[5])?)?;
-    values.push(Vec::new(alloc))?;
-    let cell = [
-        0, 0, 0, 1, 0, 0, 0, 0, 0, 0, 0, 0x16, 0, 0, 0, 2, 0, 0, 0, 1, //
-        0, 0, 0, 0x1a, 0, 0, 0, 1, 0, 0, 0, 0, 0, 0, 0, 0x15, 0, 0, 0, 1, 0, 0, 0, 0, 0, 0, 0, 2,
-        0, 5, //
-        0, 0, 0, 0x14, 0, 0, 0, 1, 0, 0, 0, 0, 0, 0, 0, 0x15, 0, 0, 0, 0, 0, 0, 0, 0,
-    ];
-    writes(alloc, &values, &ty, &cell)
+    let element = Kind::Array(Type::INT2_VECTOR);
+    let ty = user_type(alloc, "int2vectors", 100_010, element, "public")?;
+    let five: Vec<i16> = Vec::from_slice(alloc, &[5])?;
+    let lists = vec![in alloc; five, Vec::new(alloc)]?;
+    writes(alloc, &lists, &ty, &VECTORS)
 }
 
 #[test]
-fn lists_refuse_what_the_value_does(rt: HostRuntime) -> Result<(), Fail> {
-    let alloc = rt.alloc();
-    assert!(rt; <Vec<i32> as ToSql>::accepts(&Type::INT4_ARRAY));
-    assert!(rt; !<Vec<i32> as ToSql>::accepts(&Type::INT8_ARRAY));
-    assert!(rt; !<Vec<i32> as ToSql>::accepts(&Type::INT4));
-    assert!(rt; !<Vec<u8> as ToSql>::accepts(&Type::BYTEA_ARRAY));
-    let boxed = one_and_two(alloc)?.into_boxed_slice();
-    let odd = made(alloc, "odd", 99_999, "public")?;
+fn lists_accept_arrays_of_what_their_elements_accept(_: HostRuntime) -> Result<(), Fail> {
+    accepts::<Vec<i32>>(&[
+        (Type::INT4_ARRAY, true),
+        (Type::INT8_ARRAY, false),
+        (Type::INT4, false),
+    ])?;
+    same(<Vec<u8> as ToSql>::accepts(&Type::BYTEA_ARRAY), false)
+}
+
+/// Types that are no arrays of `INT4` are refused under that name.
+fn refuses_types<T: ToSql>(alloc: Global, value: &T, rust: &str) -> Result<(), Fail> {
+    let odd = simple_type(alloc, "odd", 99_999, "public")?;
     for ty in [&Type::INT8, &Type::INT8_ARRAY, &odd] {
-        refuses_type(alloc, &one_and_two(alloc)?, ty, "Vec")?;
-        refuses_type(alloc, &one_and_two(alloc)?.as_slice(), ty, "&[T]")?;
-        refuses_type(alloc, &[1i32, 2], ty, "[T; N]")?;
-        refuses_type(alloc, &boxed, ty, "Box<[T]>")?;
+        refuses_type(alloc, value, ty, rust)?;
     }
     Ok(())
 }
 
 #[test]
-fn the_first_refused_element_gives_its_fault(rt: HostRuntime) -> Result<(), Fail> {
+fn lists_refuse_other_types(rt: HostRuntime) -> Result<(), Fail> {
     let alloc = rt.alloc();
-    let far = postgres_types::UnixTime::new(i64::MAX, 0);
-    let Some(far) = far else {
-        return Err(Fail::from("no moment"));
-    };
-    refuses_value(alloc, &[far], &Type::TIMESTAMP_ARRAY, 12)
+    let list: Vec<i32> = Vec::from_slice(alloc, &[1, 2])?;
+    refuses_types(alloc, &list, "Vec")?;
+    refuses_types(alloc, &list.as_slice(), "&[T]")?;
+    refuses_types(alloc, &[1i32, 2], "[T; N]")?;
+    refuses_types(alloc, &list.into_boxed_slice(), "Box<[T]>")
 }
 
 #[test]
-fn an_array_is_appended(rt: HostRuntime) -> Result<(), Fail> {
-    let alloc = rt.alloc();
-    let mut cells: Vec<Option<Vec<u8>>> = Vec::new(alloc);
-    cells.push(Some(Vec::from_slice(alloc, &[0, 0, 0, 1])?))?;
-    cells.push(Some(Vec::from_slice(alloc, &[0, 0, 0, 2])?))?;
-    let mut out = BytesMut::copy_from_slice(alloc, b"before")?;
-    array_to_sql(alloc, 1, 23, cells.as_slice(), &mut out)?;
-    assert!(rt; out.starts_with(b"before"));
-    assert_eq!(rt; &out[6..], TWO_ELEMENTS.as_slice());
-    out.clear();
-    let mut cells: Vec<Option<Vec<u8>>> = Vec::new(alloc);
-    cells.push(None)?;
-    array_to_sql(alloc, -1, 0x0102_0304, cells.as_slice(), &mut out)?;
-    assert_eq!(rt;
-        out.as_slice(),
-        [
-            0u8, 0, 0, 1, 0, 0, 0, 1, 1, 2, 3, 4, 0, 0, 0, 1, 0xff, 0xff, 0xff, 0xff, 0xff, 0xff,
-            0xff, 0xff,
-        ]
-        .as_slice()
-    );
-    Ok(())
+fn the_first_refused_element_gives_its_fault(rt: HostRuntime) -> Result<(), Fail> {
+    let far = unix(i64::MAX, 0)?;
+    refuses_values(
+        rt.alloc(),
+        &Type::TIMESTAMP_ARRAY,
+        &[([far], code::TRANSMIT)],
+    )
 }

@@ -1,66 +1,99 @@
+//! Faults: their numbers and texts.
+
 use postgres_types::{Fault, Type, WasNull, WrongType};
+use rows::{code, debugs, displays, same};
+use std::alloc::Global;
 use std::test::Fail;
 
-#[test]
-fn faults_print_their_texts(rt: HostRuntime) -> Result<(), Fail> {
-    let rows = [
-        (1, Fault::Memory, "out of memory"),
-        (2, Fault::WasNull, "a Postgres value was `NULL`"),
-        (
-            3,
-            Fault::WrongType(WrongType::new(Type::INT4, "String")),
-            "cannot convert between the Rust type `String` and the Postgres type `int4`",
-        ),
-        (4, Fault::Size, "invalid buffer size"),
-        (5, Fault::Utf8, "invalid UTF-8"),
-        (6, Fault::Count, "invalid count"),
-        (7, Fault::KeyLength, "invalid key length"),
-        (8, Fault::Dimensions, "array contains too many dimensions"),
-        (
-            9,
-            Fault::TooFew {
-                expected: 3,
-                got: 2,
-            },
-            "too few elements in array (expected 3, got 2)",
-        ),
-        (
-            10,
-            Fault::Excess { expected: 1 },
-            "excess elements in array (expected 1, got more than that)",
-        ),
-        (11, Fault::Decode, "value too large to decode"),
-        (12, Fault::Transmit, "value too large to transmit"),
-        (13, Fault::JsonVersion, "unsupported JSONB encoding version"),
-        (14, Fault::TextVersion, "unsupported text version"),
-        (15, Fault::JsonText, "invalid JSON"),
-        (16, Fault::JsonNumber, "JSON number is not a whole number"),
-        (17, Fault::Family, "invalid IP family"),
-        (18, Fault::Netmask, "invalid netmask"),
-        (19, Fault::AddressLength, "invalid address length"),
-        (20, Fault::HostBits, "host bits are set"),
-        (21, Fault::user("odd"), "odd"),
-    ];
-    for (code, fault, text) in rows {
-        assert_eq!(rt; fault.code(), code);
-        assert_eq!(rt; format!(in rt.alloc(); "{fault}")?.as_str(), text);
+/// The faults that a constant can hold: the number, the fault and its text.
+const FAULTS: [(u32, Fault, &str); 19] = [
+    (code::MEMORY, Fault::Memory, "out of memory"),
+    (
+        code::WAS_NULL,
+        Fault::WasNull,
+        "a Postgres value was `NULL`",
+    ),
+    (code::SIZE, Fault::Size, "invalid buffer size"),
+    (code::UTF8, Fault::Utf8, "invalid UTF-8"),
+    (code::COUNT, Fault::Count, "invalid count"),
+    (code::KEY_LENGTH, Fault::KeyLength, "invalid key length"),
+    (
+        code::DIMENSIONS,
+        Fault::Dimensions,
+        "array contains too many dimensions",
+    ),
+    (
+        code::TOO_FEW,
+        Fault::TooFew {
+            expected: 3,
+            got: 2,
+        },
+        "too few elements in array (expected 3, got 2)",
+    ),
+    (
+        code::EXCESS,
+        Fault::Excess { expected: 1 },
+        "excess elements in array (expected 1, got more than that)",
+    ),
+    (code::DECODE, Fault::Decode, "value too large to decode"),
+    (
+        code::TRANSMIT,
+        Fault::Transmit,
+        "value too large to transmit",
+    ),
+    (
+        code::JSON_VERSION,
+        Fault::JsonVersion,
+        "unsupported JSONB encoding version",
+    ),
+    (
+        code::TEXT_VERSION,
+        Fault::TextVersion,
+        "unsupported text version",
+    ),
+    (code::JSON_TEXT, Fault::JsonText, "invalid JSON"),
+    (
+        code::JSON_NUMBER,
+        Fault::JsonNumber,
+        "JSON number is not a whole number",
+    ),
+    (code::FAMILY, Fault::Family, "invalid IP family"),
+    (code::NETMASK, Fault::Netmask, "invalid netmask"),
+    (
+        code::ADDRESS_LENGTH,
+        Fault::AddressLength,
+        "invalid address length",
+    ),
+    (code::HOST_BITS, Fault::HostBits, "host bits are set"),
+];
+
+fn have_texts(alloc: Global, rows: &[(u32, Fault, &str)]) -> Result<(), Fail> {
+    for (number, fault, text) in rows {
+        same(fault.code(), *number)?;
+        displays(alloc, fault, text)?;
     }
     Ok(())
 }
 
 #[test]
-fn was_null_prints_its_text(rt: HostRuntime) -> Result<(), Fail> {
-    let text = format!(in rt.alloc(); "{WasNull} {WasNull:?}")?;
-    assert_eq!(rt; text.as_str(), "a Postgres value was `NULL` WasNull");
-    Ok(())
+fn each_fault_has_its_number_and_text(rt: HostRuntime) -> Result<(), Fail> {
+    have_texts(rt.alloc(), &FAULTS)?;
+    let wrong = WrongType::new(Type::INT4, "String");
+    let text = "cannot convert between the Rust type `String` and the Postgres type `int4`";
+    let rows = [
+        (code::WRONG_TYPE, Fault::WrongType(wrong), text),
+        (code::USER, Fault::user("odd"), "odd"),
+    ];
+    have_texts(rt.alloc(), &rows)
 }
 
 #[test]
-fn a_text_of_its_own_is_shown_by_debug(rt: HostRuntime) -> Result<(), Fail> {
-    let fault = Fault::user("odd");
-    assert_eq!(rt;
-        format!(in rt.alloc(); "{fault:?}")?.as_str(),
-        "User(\"odd\")"
-    );
-    Ok(())
+fn was_null_has_its_texts(rt: HostRuntime) -> Result<(), Fail> {
+    displays(rt.alloc(), &WasNull, "a Postgres value was `NULL`")?;
+    debugs(rt.alloc(), &WasNull, "WasNull")
+}
+
+#[test]
+fn a_user_fault_debugs_as_its_text(rt: HostRuntime) -> Result<(), Fail> {
+    debugs(rt.alloc(), &Fault::user("odd"), "User(\"odd\")")
 }

@@ -1,44 +1,146 @@
-use postgres_types::{Field, Kind, KindRef, Type};
-use rows::made;
+//! User-defined types, kinds and fields: their text, equality, hashing and clones.
+
+use pg_base::types::laws::{
+    fields_hash_alike, hash_alike, kinds_hash_alike, same_field, same_kind, same_kind_ref,
+    same_type,
+};
+use postgres_types::{Fault, Field, Kind, Type};
+use rows::{displays, holds, same, simple_type, user_type};
+use std::alloc::Global;
 use std::test::Fail;
 
+fn mood(alloc: Global, schema: &str) -> Result<Type, Fault> {
+    let sad = String::from_str(alloc, "sad")?;
+    let happy = String::from_str(alloc, "happy")?;
+    let labels = vec![in alloc; sad, happy]?;
+    user_type(alloc, "mood", 16_400, Kind::Enum(labels), schema)
+}
+
+fn field(alloc: Global, name: &str, ty: Type) -> Result<Field, Fault> {
+    Ok(Field::new(String::from_str(alloc, name)?, ty))
+}
+
+/// A composite kind of a user-defined and a built-in type.
+fn feeling(alloc: Global) -> Result<Kind, Fault> {
+    let feels = field(alloc, "feels", mood(alloc, "app")?)?;
+    let id = field(alloc, "id", Type::INT4)?;
+    Ok(Kind::Composite(vec![in alloc; feels, id]?))
+}
+
 #[test]
-fn oids_name_types(rt: HostRuntime) -> Result<(), Fail> {
+fn a_type_displays_its_schema(rt: HostRuntime) -> Result<(), Fail> {
     let alloc = rt.alloc();
-    let texts = Type::from_oid(1009).ok_or("none")?;
-    assert!(rt; texts == Type::TEXT_ARRAY);
-    assert_eq!(rt; format!(in alloc; "{texts}")?.as_str(), "_text");
-    assert!(rt; matches!(&texts.kind(), KindRef::Array(member) if **member == Type::TEXT));
-    let vector = Type::from_oid(22).ok_or("none")?;
-    assert!(rt; vector == Type::INT2_VECTOR);
-    assert!(rt; matches!(&vector.kind(), KindRef::Array(member) if **member == Type::INT2));
-    assert!(rt; Type::from_oid(16) == Some(Type::BOOL));
-    assert!(rt; Type::from_oid(0) == None);
+    let rows = [
+        ("app", "app.mood"),
+        ("public", "mood"),
+        ("pg_catalog", "mood"),
+    ];
+    for (schema, text) in rows {
+        displays(alloc, &mood(alloc, schema)?, text)?;
+        displays(alloc, &simple_type(alloc, "mood", 99_000, schema)?, text)?;
+    }
     Ok(())
 }
 
 #[test]
-fn types_print_a_schema_of_their_own(rt: HostRuntime) -> Result<(), Fail> {
+fn a_user_defined_type_equals_no_built_in_one(rt: HostRuntime) -> Result<(), Fail> {
+    let alike = simple_type(rt.alloc(), "int4", 23, "pg_catalog")?;
+    same(alike.oid(), Type::INT4.oid())?;
+    same(
+        (alike.name(), alike.schema()),
+        (Type::INT4.name(), Type::INT4.schema()),
+    )?;
+    same(alike.kind(), Type::INT4.kind())?;
+    holds(alike != Type::INT4, "they are equal")?;
+    holds(!same_type(&alike, &Type::INT4), "they are the same")
+}
+
+#[test]
+fn equal_types_are_hashed_alike(rt: HostRuntime) -> Result<(), Fail> {
     let alloc = rt.alloc();
-    let app = made(alloc, "mood", 99_000, "app")?;
-    let public = made(alloc, "mood", 99_000, "public")?;
-    assert_eq!(rt; format!(in alloc; "{app}")?.as_str(), "app.mood");
-    assert_eq!(rt; format!(in alloc; "{public}")?.as_str(), "mood");
-    assert!(rt; app != public);
-    assert!(rt; app.try_clone()? == app);
+    let one = user_type(alloc, "pair", 16_401, feeling(alloc)?, "app")?;
+    let other = user_type(alloc, "pair", 16_401, feeling(alloc)?, "app")?;
+    holds(same_type(&one, &other), "not the same")?;
+    holds(hash_alike(&one, &other), "not hashed alike")
+}
+
+#[test]
+fn types_of_one_different_part_are_different(rt: HostRuntime) -> Result<(), Fail> {
+    let alloc = rt.alloc();
+    let plain = simple_type(alloc, "id", 16_402, "app")?;
+    let others = [
+        simple_type(alloc, "ID", 16_402, "app")?,
+        simple_type(alloc, "id", 16_403, "app")?,
+        user_type(alloc, "id", 16_402, Kind::Pseudo, "app")?,
+        simple_type(alloc, "id", 16_402, "public")?,
+    ];
+    for other in &others {
+        holds(plain != *other, "they are equal")?;
+    }
+    Ok(())
+}
+
+/// The kind and a type of that kind are cloned as equal ones.
+fn is_cloned(alloc: Global, kind: Kind) -> Result<(), Fail> {
+    let copy = kind.try_clone(alloc)?;
+    holds(same_kind(&kind, &copy), "another kind")?;
+    holds(kinds_hash_alike(&kind, &copy), "not hashed alike")?;
+    let whole = user_type(alloc, "whole", 16_404, kind, "app")?;
+    type_is_cloned(&whole)
+}
+
+fn type_is_cloned(ty: &Type) -> Result<(), Fail> {
+    let shared = ty.try_clone()?;
+    holds(same_type(ty, &shared), "another type")?;
+    holds(ty.clone()? == shared, "not equal")?;
+    holds(same_kind_ref(&ty.kind(), &shared.kind()), "another kind")
+}
+
+#[test]
+fn each_kind_is_cloned(rt: HostRuntime) -> Result<(), Fail> {
+    let alloc = rt.alloc();
+    let kinds = [
+        Kind::Simple,
+        Kind::Enum(vec![in alloc; String::from_str(alloc, "sad")?]?),
+        Kind::Pseudo,
+        Kind::Array(mood(alloc, "app")?),
+        Kind::Range(Type::INT4),
+        Kind::Multirange(Type::DATE),
+        Kind::Domain(Type::TEXT),
+        feeling(alloc)?,
+        Kind::Composite(vec![in alloc; field(alloc, "price", Type::INT8)?]?),
+    ];
+    for kind in kinds {
+        is_cloned(alloc, kind)?;
+    }
     Ok(())
 }
 
 #[test]
-fn kinds_and_fields_are_cloned(rt: HostRuntime) -> Result<(), Fail> {
+fn a_type_without_parts_is_cloned(rt: HostRuntime) -> Result<(), Fail> {
     let alloc = rt.alloc();
-    let field = Field::new(String::from_str(alloc, "price")?, Type::INT8);
-    assert!(rt; field.try_clone(alloc)? == field);
-    assert_eq!(rt; field.name(), "price");
-    assert!(rt; *field.type_() == Type::INT8);
-    let mut fields = Vec::new(alloc);
-    fields.push(field)?;
-    let kind = Kind::Composite(fields);
-    assert!(rt; kind.try_clone(alloc)? == kind);
-    Ok(())
+    let app = simple_type(alloc, "mood", 99_000, "app")?;
+    holds(
+        app != simple_type(alloc, "mood", 99_000, "public")?,
+        "they are equal",
+    )?;
+    type_is_cloned(&app)
+}
+
+/// The field has that name and type, and is cloned as an equal one.
+fn is_field(alloc: Global, field: &Field, name: &str, ty: &Type) -> Result<(), Fail> {
+    same(field.name(), name)?;
+    same(field.type_(), ty)?;
+    let copy = field.try_clone(alloc)?;
+    holds(same_field(field, &copy), "another field")?;
+    holds(fields_hash_alike(field, &copy), "not hashed alike")
+}
+
+#[test]
+fn a_field_is_cloned(rt: HostRuntime) -> Result<(), Fail> {
+    let alloc = rt.alloc();
+    let feels = field(alloc, "feels", mood(alloc, "app")?)?;
+    is_field(alloc, &feels, "feels", &mood(alloc, "app")?)?;
+    let price = field(alloc, "price", Type::INT8)?;
+    is_field(alloc, &price, "price", &Type::INT8)
 }
