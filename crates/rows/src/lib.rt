@@ -5,8 +5,8 @@
 pub mod code;
 mod days;
 mod memory;
-mod plain;
 mod params;
+mod plain;
 mod reading;
 mod refusals;
 mod texts;
@@ -15,8 +15,8 @@ mod writing;
 
 pub use days::{Days, NoDay};
 pub use memory::hoard;
-pub use plain::{appends, fault_code, parses};
 pub use params::binds;
+pub use plain::{appends, fault_code, parses};
 pub use reading::{read, reads, refusal, refuses};
 pub use refusals::refuses_both;
 use std::fmt::Debug;
@@ -26,6 +26,9 @@ pub use types::{accepts, simple_type, unix, user_type};
 pub use writing::{
     reads_back, refuses_type, refuses_value, refuses_values, rewrites, spells, writes, writes_null,
 };
+
+/// What stands in a buffer before a call that writes to it.
+const BEFORE: &[u8] = b"before";
 
 /// What a row is and what it was to be.
 #[derive(Debug, Drop)]

@@ -1,14 +1,11 @@
 //! Parameters of a Bind message.
 ghost use Rattle.std.specs.Prelude.{◌≡◌, length};
 
-use crate::{holds, same};
+use crate::{BEFORE, holds, same};
 use postgres_types::private::BytesMut;
 use postgres_types::{ToSql, Type, params_to_sql};
 use std::alloc::Global;
 use std::test::Fail;
-
-/// What stands in a buffer before the parameters are appended to it.
-const BEFORE: &[u8] = b"before";
 
 /// The frames of the parameters are appended to what was there.
 pub fn binds(

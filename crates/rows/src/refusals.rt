@@ -1,13 +1,10 @@
 //! Values that both calls of writing refuse.
 
-use crate::{refuses_value, same};
+use crate::{BEFORE, refuses_value, same};
 use postgres_types::private::BytesMut;
 use postgres_types::{ToSql, Type};
 use std::alloc::Global;
 use std::test::Fail;
-
-/// What stands in a buffer before a value is refused.
-const BEFORE: &[u8] = b"before";
 
 /// Writing the value to that type, which is accepted, is refused by both calls with the fault of
 /// that number, and appends nothing.

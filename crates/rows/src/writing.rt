@@ -1,15 +1,12 @@
 //! Rows of writing.
 
 use crate::code::WRONG_TYPE;
-use crate::{read, reads, same};
+use crate::{BEFORE, read, reads, same};
 use postgres_types::private::BytesMut;
 use postgres_types::{FromSql, IsNull, Paired, ToSql, Type, rewrite};
 use std::alloc::Global;
 use std::fmt::Debug;
 use std::test::Fail;
-
-/// What stands in a buffer before a value is written to it.
-const BEFORE: &[u8] = b"before";
 
 /// The value is written as the cell, by both calls, after what was there.
 pub fn writes<T: ToSql>(alloc: Global, value: &T, ty: &Type, cell: &[u8]) -> Result<(), Fail> {
