@@ -62,6 +62,6 @@ fn no_bytes_are_not_null(rt: HostRuntime) -> Result<(), Fail> {
 #[test]
 fn bytes_and_frames_are_appended(rt: HostRuntime) -> Result<(), Fail> {
     let alloc = rt.alloc();
-    appends(alloc, bytea_to_sql, &BYTEA)?;
-    appends(alloc, frame_to_sql, &FRAMES)
+    appends(alloc, |alloc, v, out| bytea_to_sql(alloc, v, out), &BYTEA)?;
+    appends(alloc, |alloc, v, out| frame_to_sql(alloc, v, out), &FRAMES)
 }

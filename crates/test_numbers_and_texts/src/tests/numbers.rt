@@ -115,17 +115,17 @@ fn damaged_wide_integers_and_oids_are_refused(rt: HostRuntime) -> Result<(), Fai
 #[test]
 fn booleans_and_narrow_integers_are_appended(rt: HostRuntime) -> Result<(), Fail> {
     let alloc = rt.alloc();
-    appends(alloc, bool_to_sql, &BOOL)?;
-    appends(alloc, char_to_sql, &CHAR)?;
-    appends(alloc, int2_to_sql, &INT2)
+    appends(alloc, |alloc, v, out| bool_to_sql(alloc, v, out), &BOOL)?;
+    appends(alloc, |alloc, v, out| char_to_sql(alloc, v, out), &CHAR)?;
+    appends(alloc, |alloc, v, out| int2_to_sql(alloc, v, out), &INT2)
 }
 
 #[test]
 fn wide_integers_and_oids_are_appended(rt: HostRuntime) -> Result<(), Fail> {
     let alloc = rt.alloc();
-    appends(alloc, int4_to_sql, &INT4)?;
-    appends(alloc, int8_to_sql, &INT8)?;
-    appends(alloc, oid_to_sql, &OID)
+    appends(alloc, |alloc, v, out| int4_to_sql(alloc, v, out), &INT4)?;
+    appends(alloc, |alloc, v, out| int8_to_sql(alloc, v, out), &INT8)?;
+    appends(alloc, |alloc, v, out| oid_to_sql(alloc, v, out), &OID)
 }
 
 #[test]

@@ -88,18 +88,30 @@ fn owned_texts_are_written(rt: HostRuntime) -> Result<(), Fail> {
 #[test]
 fn texts_are_appended(rt: HostRuntime) -> Result<(), Fail> {
     let alloc = rt.alloc();
-    appends(alloc, text_to_sql, &TEXT)?;
-    appends(alloc, ltree_to_sql, &VERSIONED)?;
-    appends(alloc, lquery_to_sql, &VERSIONED)?;
-    appends(alloc, ltxtquery_to_sql, &VERSIONED)
+    appends(alloc, |alloc, v, out| text_to_sql(alloc, v, out), &TEXT)?;
+    appends(
+        alloc,
+        |alloc, v, out| ltree_to_sql(alloc, v, out),
+        &VERSIONED,
+    )?;
+    appends(
+        alloc,
+        |alloc, v, out| lquery_to_sql(alloc, v, out),
+        &VERSIONED,
+    )?;
+    appends(
+        alloc,
+        |alloc, v, out| ltxtquery_to_sql(alloc, v, out),
+        &VERSIONED,
+    )
 }
 
 #[test]
 fn texts_are_parsed() -> Result<(), Fail> {
-    parses(text_from_sql, &TEXT)?;
-    parses(ltree_from_sql, &VERSIONED)?;
-    parses(lquery_from_sql, &VERSIONED)?;
-    parses(ltxtquery_from_sql, &VERSIONED)
+    parses(|cell| text_from_sql(cell), &TEXT)?;
+    parses(|cell| ltree_from_sql(cell), &VERSIONED)?;
+    parses(|cell| lquery_from_sql(cell), &VERSIONED)?;
+    parses(|cell| ltxtquery_from_sql(cell), &VERSIONED)
 }
 
 #[test]

@@ -104,8 +104,8 @@ fn positions_have_their_cells(rt: HostRuntime) -> Result<(), Fail> {
 
 #[test]
 fn positions_are_appended_and_parsed_from_cells(rt: HostRuntime) -> Result<(), Fail> {
-    appends(rt.alloc(), lsn_to_sql, &LSN)?;
-    parses(lsn_from_sql, &LSN)
+    appends(rt.alloc(), |alloc, v, out| lsn_to_sql(alloc, v, out), &LSN)?;
+    parses(|cell| lsn_from_sql(cell), &LSN)
 }
 
 #[test]

@@ -236,10 +236,10 @@ fn uuids_have_their_cells(rt: HostRuntime) -> Result<(), Fail> {
 #[test]
 fn mac_addresses_and_uuids_are_appended_and_parsed(rt: HostRuntime) -> Result<(), Fail> {
     let alloc = rt.alloc();
-    appends(alloc, macaddr_to_sql, &MAC)?;
-    parses(macaddr_from_sql, &MAC)?;
-    appends(alloc, uuid_to_sql, &UUID)?;
-    parses(uuid_from_sql, &UUID)
+    appends(alloc, |alloc, v, out| macaddr_to_sql(alloc, v, out), &MAC)?;
+    parses(|cell| macaddr_from_sql(cell), &MAC)?;
+    appends(alloc, |alloc, v, out| uuid_to_sql(alloc, v, out), &UUID)?;
+    parses(|cell| uuid_from_sql(cell), &UUID)
 }
 
 #[test]
