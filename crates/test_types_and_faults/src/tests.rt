@@ -1,6 +1,6 @@
 mod catalog;
 mod debug;
+mod failing_rows;
 mod faults;
 mod names;
-mod rows;
 mod types;

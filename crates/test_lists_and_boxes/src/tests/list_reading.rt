@@ -2,8 +2,9 @@
 
 use super::cells::{EMPTY, INFINITY, NO_DIMENSION, NULL, ONE_AND_TWO, VECTORS};
 use jiff::civil;
-use postgres_types::{Date, Kind, Type};
-use rows::{code, reads, refusal, rewrites, same, user_type};
+use postgres_types::{Date, Fault, Kind, Type};
+use rows::{code, read, reads, refusal, rewrites, same, user_type};
+use std::alloc::Global;
 use std::boxed::BoxedSlice;
 use std::test::Fail;
 
@@ -53,7 +54,8 @@ fn texts_are_read_in_place(rt: HostRuntime) -> Result<(), Fail> {
         0, 0, 0,
     ];
     let alloc = rt.alloc();
-    reads(alloc, &Type::TEXT_ARRAY, &cell, vec![in alloc; "ab", ""]?)
+    let texts: Vec<&str> = read(alloc, &Type::TEXT_ARRAY, Some(&cell))?;
+    same(texts.as_slice(), ["ab", ""].as_slice())
 }
 
 /// The array of 7 with the OID of text.
@@ -104,18 +106,32 @@ fn elements_are_read_by_any_conversion(rt: HostRuntime) -> Result<(), Fail> {
     )
 }
 
+/// The type of arrays of `INT2_VECTOR`.
+fn vectors(alloc: Global) -> Result<Type, Fault> {
+    let element = Kind::Array(Type::INT2_VECTOR);
+    user_type(alloc, "vectors", 100_010, element, "public")
+}
+
 #[test]
 fn lists_nest(rt: HostRuntime) -> Result<(), Fail> {
     let alloc = rt.alloc();
-    let element = Kind::Array(Type::INT2_VECTOR);
-    let ty = user_type(alloc, "vectors", 100_010, element, "public")?;
     let five: Vec<i16> = Vec::from_slice(alloc, &[5])?;
     let lists = vec![in alloc; five, Vec::new(alloc)]?;
-    reads(alloc, &ty, &VECTORS, lists)?;
+    reads(alloc, &vectors(alloc)?, &VECTORS, lists)
+}
+
+#[test]
+fn arrays_of_lists_are_read(rt: HostRuntime) -> Result<(), Fail> {
+    let alloc = rt.alloc();
     let five: BoxedSlice<i16> = BoxedSlice::from_slice(alloc, &[5])?;
     let none: BoxedSlice<i16> = BoxedSlice::from_slice(alloc, &[])?;
-    reads(alloc, &ty, &VECTORS, [five, none])?;
-    // The fault of an inner list is the outer list's.
+    reads(alloc, &vectors(alloc)?, &VECTORS, [five, none])
+}
+
+#[test]
+fn the_fault_of_an_inner_list_is_the_outer_ones(rt: HostRuntime) -> Result<(), Fail> {
+    let alloc = rt.alloc();
+    let ty = vectors(alloc)?;
     let refused = refusal::<Vec<[i16; 1]>>(alloc, &ty, Some(&VECTORS));
     same(refused, code::TOO_FEW)
 }

@@ -87,19 +87,22 @@ fn the_first_truncated_or_refused_element_gives_the_fault(rt: HostRuntime) -> Re
 /// The number of a fault, and the lengths that it states: what was expected and what was found.
 type Lengths = (u32, usize, usize);
 
-/// The cell is refused with that number and those lengths.
+fn refused_lengths<'a, T: FromSql<'a>>(alloc: Global, cell: &'a [u8]) -> Lengths {
+    match read::<T>(alloc, &INTS, Some(cell)) {
+        Ok(_) => (0, 0, 0),
+        Err(Fault::TooFew { expected, got }) => (code::TOO_FEW, expected, got),
+        Err(Fault::Excess { expected }) => (code::EXCESS, expected, 0),
+        Err(fault) => (fault.code(), 0, 0),
+    }
+}
+
+/// Each cell is refused with that number and those lengths.
 fn refuses_length<'a, T: FromSql<'a>>(
     alloc: Global,
     rows: &'a [(&'a [u8], Lengths)],
 ) -> Result<(), Fail> {
     for (cell, lengths) in rows {
-        let found = match read::<T>(alloc, &INTS, Some(*cell)) {
-            Ok(_) => (0, 0, 0),
-            Err(Fault::TooFew { expected, got }) => (code::TOO_FEW, expected, got),
-            Err(Fault::Excess { expected }) => (code::EXCESS, expected, 0),
-            Err(fault) => (fault.code(), 0, 0),
-        };
-        same(found, *lengths)?;
+        same(refused_lengths::<T>(alloc, *cell), *lengths)?;
     }
     Ok(())
 }

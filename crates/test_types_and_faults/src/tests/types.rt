@@ -55,38 +55,36 @@ fn a_user_defined_type_equals_no_built_in_one(rt: HostRuntime) -> Result<(), Fai
     holds(!same_type(&alike, &Type::INT4), "they are the same")
 }
 
+fn pair(alloc: Global) -> Result<Type, Fault> {
+    user_type(alloc, "pair", 16_401, feeling(alloc)?, "app")
+}
+
 #[test]
 fn equal_types_are_hashed_alike(rt: HostRuntime) -> Result<(), Fail> {
-    let alloc = rt.alloc();
-    let one = user_type(alloc, "pair", 16_401, feeling(alloc)?, "app")?;
-    let other = user_type(alloc, "pair", 16_401, feeling(alloc)?, "app")?;
+    let (one, other) = (pair(rt.alloc())?, pair(rt.alloc())?);
     holds(same_type(&one, &other), "not the same")?;
     holds(hash_alike(&one, &other), "not hashed alike")
+}
+
+fn differs(one: &Type, other: Result<Type, Fault>) -> Result<(), Fail> {
+    let other = other?;
+    holds(*one != other, "they are equal")
 }
 
 #[test]
 fn types_of_one_different_part_are_different(rt: HostRuntime) -> Result<(), Fail> {
     let alloc = rt.alloc();
     let plain = simple_type(alloc, "id", 16_402, "app")?;
-    let others = [
-        simple_type(alloc, "ID", 16_402, "app")?,
-        simple_type(alloc, "id", 16_403, "app")?,
-        user_type(alloc, "id", 16_402, Kind::Pseudo, "app")?,
-        simple_type(alloc, "id", 16_402, "public")?,
-    ];
-    for other in &others {
-        holds(plain != *other, "they are equal")?;
-    }
-    Ok(())
+    differs(&plain, simple_type(alloc, "ID", 16_402, "app"))?;
+    differs(&plain, simple_type(alloc, "id", 16_403, "app"))?;
+    differs(&plain, user_type(alloc, "id", 16_402, Kind::Pseudo, "app"))?;
+    differs(&plain, simple_type(alloc, "id", 16_402, "public"))
 }
 
-/// The kind and a type of that kind are cloned as equal ones.
-fn is_cloned(alloc: Global, kind: Kind) -> Result<(), Fail> {
+fn kind_is_cloned(alloc: Global, kind: &Kind) -> Result<(), Fail> {
     let copy = kind.try_clone(alloc)?;
-    holds(same_kind(&kind, &copy), "another kind")?;
-    holds(kinds_hash_alike(&kind, &copy), "not hashed alike")?;
-    let whole = user_type(alloc, "whole", 16_404, kind, "app")?;
-    type_is_cloned(&whole)
+    holds(same_kind(kind, &copy), "another kind")?;
+    holds(kinds_hash_alike(kind, &copy), "not hashed alike")
 }
 
 fn type_is_cloned(ty: &Type) -> Result<(), Fail> {
@@ -96,34 +94,43 @@ fn type_is_cloned(ty: &Type) -> Result<(), Fail> {
     holds(same_kind_ref(&ty.kind(), &shared.kind()), "another kind")
 }
 
+/// The kind and a type of that kind are cloned as equal ones.
+fn is_cloned(alloc: Global, kind: Kind) -> Result<(), Fail> {
+    kind_is_cloned(alloc, &kind)?;
+    let whole = user_type(alloc, "whole", 16_404, kind, "app")?;
+    type_is_cloned(&whole)
+}
+
 #[test]
-fn each_kind_is_cloned(rt: HostRuntime) -> Result<(), Fail> {
+fn each_kind_without_lists_is_cloned(rt: HostRuntime) -> Result<(), Fail> {
     let alloc = rt.alloc();
-    let kinds = [
+    for kind in [
         Kind::Simple,
-        Kind::Enum(vec![in alloc; String::from_str(alloc, "sad")?]?),
         Kind::Pseudo,
-        Kind::Array(mood(alloc, "app")?),
         Kind::Range(Type::INT4),
         Kind::Multirange(Type::DATE),
         Kind::Domain(Type::TEXT),
-        feeling(alloc)?,
-        Kind::Composite(vec![in alloc; field(alloc, "price", Type::INT8)?]?),
-    ];
-    for kind in kinds {
+    ] {
         is_cloned(alloc, kind)?;
     }
-    Ok(())
+    is_cloned(alloc, Kind::Array(mood(alloc, "app")?))
+}
+
+#[test]
+fn enumerated_and_composite_kinds_are_cloned(rt: HostRuntime) -> Result<(), Fail> {
+    let alloc = rt.alloc();
+    let sad = String::from_str(alloc, "sad")?;
+    is_cloned(alloc, Kind::Enum(vec![in alloc; sad]?))?;
+    is_cloned(alloc, feeling(alloc)?)?;
+    let price = field(alloc, "price", Type::INT8)?;
+    is_cloned(alloc, Kind::Composite(vec![in alloc; price]?))
 }
 
 #[test]
 fn a_type_without_parts_is_cloned(rt: HostRuntime) -> Result<(), Fail> {
     let alloc = rt.alloc();
     let app = simple_type(alloc, "mood", 99_000, "app")?;
-    holds(
-        app != simple_type(alloc, "mood", 99_000, "public")?,
-        "they are equal",
-    )?;
+    differs(&app, simple_type(alloc, "mood", 99_000, "public"))?;
     type_is_cloned(&app)
 }
 
