@@ -1,4 +1,4 @@
--- Answers behind answers.
+-- Answers after answers.
 use Rattle.std.proofs.Common.{◌≡◌, ℕ, List, Option, [], ◌∷◌, ◌++◌, ◌+◌, length, refl, sym, ap, subst, ◌∙◌, append_assoc}
 use Rattle.std.proofs.Math.Seq.{take-append-add}
 use Rattle.std.specs.Io.KnownBytes.{Appends}
@@ -11,7 +11,7 @@ answered-append [] b x y p q = subst (Answered b) (sym (ap (λ (l : List ℕ). l
 answered-append (line ∷ a) b x y p q =
     (p.0, p.1 ++ y, p.2, ap (λ (l : List ℕ). l ++ y) p.3 ∙ append_assoc p.0 (10 ∷ p.1) y, answered-append a b p.1 y p.4 q)
 
--- an answer and byte 10 were put behind what was there
+-- an answer and byte 10 were put after what was there
 pub gains_one : (line answer old mid new : List ℕ) → Answer line answer → mid ≡ old ++ answer → new ≡ mid ++ 10 ∷ [] → GainsAnswers (line ∷ []) old new
 gains_one line answer old mid new p e f =
     (answer ++ 10 ∷ [], (answer, [], p, refl, refl), f ∙ ap (λ (l : List ℕ). l ++ 10 ∷ []) e ∙ append_assoc old answer (10 ∷ []))
@@ -20,7 +20,7 @@ pub gains_more : (a b : List (List ℕ)) (old mid new : List ℕ) → GainsAnswe
 gains_more a b old mid new p q =
     (p.0 ++ q.0, answered-append a b p.0 q.0 p.1 q.1, q.2 ∙ ap (λ (l : List ℕ). l ++ q.0) p.2 ∙ append_assoc old p.0 q.0)
 
--- what was put behind nothing is the answers
+-- what was put after nothing is the answers
 pub gained : (lines : List (List ℕ)) (old new : List ℕ) → GainsAnswers lines old new → old ≡ [] → Answered lines new
 gained lines old new p none = subst (Answered lines) (sym (p.2 ∙ ap (λ (l : List ℕ). l ++ p.0) none)) p.1
 
@@ -30,7 +30,7 @@ writes_none o = ([], refl, Appends-nil o)
 pub writes_more : (a b : List (List ℕ)) (o n m : Option (List ℕ)) → WritesAnswers a o n → WritesAnswers b n m → WritesAnswers (a ++ b) o m
 writes_more a b o n m p q = (p.0 ++ q.0, answered-append a b p.0 q.0 p.1 q.1, Appends-trans o n m _ _ p.2 q.2)
 
--- a beginning behind whole answers
+-- a beginning after whole answers
 pub writes_part : (a b : List (List ℕ)) (o n m : Option (List ℕ)) → WritesAnswers a o n → WritesPart b n m → WritesPart (a ++ b) o m
 writes_part a b o n m p q = (
   p.0 ++ q.0,

@@ -25,10 +25,6 @@ pub ok_branch : {T E A : Type 0} (r : Result T E) (a b new : A) → new ≡ (if 
 ok_branch (Ok x) a b new is e = is
 ok_branch (Err y) a b new is e = let bad : ⊥ = cc in absurd bad
 
-pub ok_weaker : {T E : Type 0} {P Q : Type 0} (r : Result T E) → (P → Q) → OnOk r P → OnOk r Q
-ok_weaker (Ok x) f p = f p
-ok_weaker (Err e) f p = tt
-
 -- what is known of the error holds of any
 pub err_known : {T E : Type 0} {P Q : E → Type 0} (r : Result T E) → ((e : E) → P e → Q e) → IsErrAnd r P → IfErr r Q
 err_known (Ok x) f p = tt

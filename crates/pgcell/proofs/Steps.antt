@@ -38,16 +38,16 @@ under_way-some (Some x) None o n line u = absurd u
 under_way-some (Some x) (Some y) o n line u = answers_first x u.0 _ o n (whole x (line ++ y) u.0 u.1) u.2
 
 -- where the lines of what is left begin
-lines_behind : (x line y block z : List ℕ) (done : List (List ℕ)) → lines_of x ≡ done ++ lines_of (line ++ y) → y ≡ block ++ z
+lines_after : (x line y block z : List ℕ) (done : List (List ℕ)) → lines_of x ≡ done ++ lines_of (line ++ y) → y ≡ block ++ z
     → lines_of x ≡ done ++ lines_of ((line ++ block) ++ z)
-lines_behind x line y block z done e k =
+lines_after x line y block z done e k =
     e ∙ ap (λ (l : List ℕ). done ++ lines_of (line ++ l)) k ∙ ap (λ (l : List ℕ). done ++ lines_of l) (sym (append_assoc line block z))
 
 splits_taken : (x line y block z next : List ℕ) (done more : List (List ℕ)) → Splits x done (line ++ y) → y ≡ block ++ z
     → Splits (line ++ block) more next → Splits x (done ++ more) (next ++ z)
 splits_taken x line y block z next done more s k t = λ after.
-    let behind : line ++ y ++ after ≡ (line ++ block) ++ (z ++ after) = ap (λ (l : List ℕ). line ++ l ++ after) k ∙ simp append_assoc in
-    s after ∙ ap (λ (l : List ℕ). done ++ lines_of l) behind
+    let joined : line ++ y ++ after ≡ (line ++ block) ++ (z ++ after) = ap (λ (l : List ℕ). line ++ l ++ after) k ∙ simp append_assoc in
+    s after ∙ ap (λ (l : List ℕ). done ++ lines_of l) joined
     ∙ ap (λ (l : List (List ℕ)). done ++ l) (t (z ++ after) ∙ ap (λ (l : List ℕ). more ++ lines_of l) (sym (append_assoc next z after)))
     ∙ sym (append_assoc done more _)
 
@@ -66,7 +66,7 @@ under_way-taken (Some x) (Some y) (Some z) o n m line next block old new u k t n
 lines_begun : (x line y block z : List ℕ) (done more rest : List (List ℕ)) → lines_of x ≡ done ++ lines_of (line ++ y) → y ≡ block ++ z
     → lines_of ((line ++ block) ++ z) ≡ more ++ rest → lines_of x ≡ (done ++ more) ++ rest
 lines_begun x line y block z done more rest e k f =
-    lines_behind x line y block z done e k ∙ ap (λ (l : List (List ℕ)). done ++ l) f ∙ sym (append_assoc done more rest)
+    lines_after x line y block z done e k ∙ ap (λ (l : List (List ℕ)). done ++ l) f ∙ sym (append_assoc done more rest)
 
 pub under_way-stopped : (a b d o n m : Option (List ℕ)) (line block old new : List ℕ) → IsUnderWay a b o n line → Consumes b d block
     → TakesSome (line ++ block) old new → old ≡ [] → Appends n m new → AnswersSome a o m

@@ -6,13 +6,13 @@ use Rattle.std.proofs.lemmas.Str.{IsUtf8-from_is_utf8}
 use Rattle.pgcell.specs.Split.{Lacks, split}
 
 -- the first part ends at the first separator
-pub split_more : (separator : ℕ) (front behind : List ℕ) → Lacks separator front → split separator (front ++ separator ∷ behind) ≡ Some (front, behind)
-split_more separator [] behind h =
-    ap (λ t. cond t (Some ([], behind)) (option_map (λ parts. (separator ∷ parts.0, parts.1)) (split separator behind))) (eq-eqb separator separator refl)
-split_more separator (byte ∷ bytes) behind h =
+pub split_more : (separator : ℕ) (before after : List ℕ) → Lacks separator before → split separator (before ++ separator ∷ after) ≡ Some (before, after)
+split_more separator [] after h =
+    ap (λ t. cond t (Some ([], after)) (option_map (λ parts. (separator ∷ parts.0, parts.1)) (split separator after))) (eq-eqb separator separator refl)
+split_more separator (byte ∷ bytes) after h =
     let rest = option_map (λ (parts : List ℕ × List ℕ). (byte ∷ parts.0, parts.1)) in
-    ap (λ t. cond t (Some ([], bytes ++ separator ∷ behind)) (rest (split separator (bytes ++ separator ∷ behind)))) h.0
-    ∙ ap rest (split_more separator bytes behind h.1)
+    ap (λ t. cond t (Some ([], bytes ++ separator ∷ after)) (rest (split separator (bytes ++ separator ∷ after)))) h.0
+    ∙ ap rest (split_more separator bytes after h.1)
 
 -- what lacks the separator is not divided
 pub split_none : (separator : ℕ) (bytes : List ℕ) → Lacks separator bytes → split separator bytes ≡ None

@@ -3,7 +3,7 @@ use Rattle.std.specs.Prelude.{◌≡◌, ◌≢◌, ℕ, ◌++◌, List, Option,
 use Rattle.postgres_types.specs.BuiltInRows.{row_oid}
 use Rattle.postgres_types.specs.Content.{BuiltInType, shown}
 use Rattle.postgres_types.specs.Lsn.{lsn_of, lsn_text}
-use Rattle.pgcell.specs.Norm.{AnswersNorm}
+use Rattle.pgcell_norm.specs.Norm.{AnswersNorm}
 use Rattle.pgcell.specs.Request.{Asked, norm, type_of, lsn, request_of}
 
 -- the built-in type of this OID is shown; where no built-in type has it, the text is `none`

@@ -1,8 +1,6 @@
 -- The words of the program.
 pub mod Answer
 pub mod Lines
-pub mod Names
-pub mod Norm
 pub mod Request
 pub mod Run
 pub mod Split

@@ -2,7 +2,7 @@
 use Rattle.std.specs.Prelude.{ℕ, ◌==◌, List, [], ◌∷◌, if◌then◌else◌}
 use Rattle.pgcell.specs.Split.{Lacks}
 
--- a byte in front of the first line
+-- a byte before the first line
 abbrev pub onto : ℕ → List (List ℕ) → List (List ℕ)
 onto x [] = (x ∷ []) ∷ []
 onto x (line ∷ lines) = (x ∷ line) ∷ lines

@@ -6,9 +6,10 @@ use Rattle.std.specs.Str.Parse.{digits_value}
 use Rattle.hex.specs.Hex.{decode_of}
 use Rattle.hex.specs.declared.error.FromHexError.{FromHexError}
 use Rattle.postgres_types.specs.Cells.{Cell}
-use Rattle.pgcell.specs.Names.{same_word, name_of, seen_name}
+use Rattle.pgcell_norm.specs.Forms.{same_word}
+use Rattle.pgcell_norm.specs.Names.{name_of, seen_name}
+use Rattle.pgcell_norm.specs.declared.names.Form.{Form}
 use Rattle.pgcell.specs.Split.{split}
-use Rattle.pgcell.specs.declared.names.Form.{Form}
 use Rattle.pgcell.specs.declared.request.Request.{Request}
 use Rattle.pgcell.specs.declared.request.Request.TheVariants.{Norm, TypeOf, Lsn}
 

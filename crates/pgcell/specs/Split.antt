@@ -6,7 +6,7 @@ use Rattle.std.specs.List.{AllByRecursion}
 abbrev pub Lacks : ℕ → List ℕ → Type 0
 Lacks separator = AllByRecursion (λ byte. (byte == separator) ≡ false)
 
--- the bytes in front of the first separator and those behind it, where there is one
+-- the bytes before the first separator and those after it, where there is one
 abbrev pub split : ℕ → List ℕ → Option (List ℕ × List ℕ)
 split separator [] = None
 split separator (byte ∷ bytes) =

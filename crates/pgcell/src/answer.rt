@@ -5,27 +5,29 @@ ghost use Rattle.postgres_types.specs.Lsn.{lsn_of};
 ghost use Rattle.pgcell.specs.Answer.{Answer, AnswersType, printed_lsn};
 ghost use Rattle.pgcell.specs.Request.{seen_bytes};
 
-use crate::norm::norm;
 use crate::request::Request;
+use pgcell_norm::norm::norm;
 use postgres_types::{Oid, PgLsn, Type};
 use std::alloc::{AllocError, Global};
 
 /// Puts the answer to a line, without a byte 10, after what is pending; where memory is refused
 /// that stays as it was.
 pub fn answer(alloc: Global, line: &[u8], pending: &mut Vec<u8>) -> Result<(), AllocError>
-    ensures ok { OnOk result ((text : List ℕ) × Answer line.now text × (pending.new.items ≡ pending.old.items ++ text)) }
+    ensures ok { OnOk result ((text : List ℕ)
+        × Answer line.now text
+        × (pending.new.items ≡ pending.old.items ++ text)) }
     ensures err { OnErr result (pending.new.items ≡ pending.old.items) }
 {
     match Request::parse(alloc, line)? {
         None => pending.extend_from_slice(b"bad line"),
-        Some(Request::Norm(name, cell)) => norm(alloc, name, lent(&cell), pending),
+        Some(Request::Norm(name, cell)) => norm(alloc, name, borrowed(&cell), pending),
         Some(Request::TypeOf(oid)) => show_type(alloc, oid, pending),
         Some(Request::Lsn(text)) => show_lsn(alloc, text, pending),
     }
 }
 
-/// The cell, lent.
-fn lent(cell: &Option<Vec<u8>>) -> Option<&[u8]>
+/// The cell, borrowed.
+fn borrowed(cell: &Option<Vec<u8>>) -> Option<&[u8]>
     ensures { cell_of result ≡ seen_bytes cell.now }
 {
     match cell {
@@ -36,7 +38,9 @@ fn lent(cell: &Option<Vec<u8>>) -> Option<&[u8]>
 
 /// The answer to `type OID`.
 fn show_type(alloc: Global, oid: Oid, pending: &mut Vec<u8>) -> Result<(), AllocError>
-    ensures ok { OnOk result ((text : List ℕ) × AnswersType oid text × (pending.new.items ≡ pending.old.items ++ text)) }
+    ensures ok { OnOk result ((text : List ℕ)
+        × AnswersType oid text
+        × (pending.new.items ≡ pending.old.items ++ text)) }
     ensures err { OnErr result (pending.new.items ≡ pending.old.items) }
 {
     let Some(ty) = Type::from_oid(oid) else {

@@ -5,8 +5,6 @@
 #![tactic(auto)]
 
 mod answer;
-mod names;
-mod norm;
 mod request;
 mod run;
 mod split;

@@ -3,9 +3,9 @@ ghost use Rattle.std.specs.Prelude.{◌≡◌, ◌∷◌, [], ◌==◌, IfSome, 
 ghost use Rattle.pgcell.specs.Split.{split};
 ghost use Rattle.pgcell.specs.Request.{cell_of_word, lsn_of_text, norm_of, oid_of_word, request_of, seen, seen_bytes, type_of};
 
-use crate::names::Name;
 use crate::split::split_once;
 use hex::FromHexError;
+use pgcell_norm::names::Name;
 use postgres_types::Oid;
 use std::alloc::{AllocError, Global};
 
@@ -105,7 +105,7 @@ fn parse_oid(word: &[u8]) -> Option<Oid>
     }
 }
 
-/// The word in front of the first space, and what stands behind it.
+/// The word before the first space, and what stands after it.
 #[tactic(auto, using(crate::proofs::Words::split_more, crate::proofs::Words::split_none))]
 fn split_word(line: &[u8]) -> Option<(&[u8], &[u8])>
     ensures { option_map (λ parts. (parts.0.now, parts.1.now)) result ≡ split 32 line.now }

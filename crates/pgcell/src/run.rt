@@ -68,7 +68,7 @@ pub fn run<R: Read, W: Write>(alloc: Global, input: &mut R, output: &mut W) -> R
     Err(RunFault::Read)
 }
 
-/// Answers each line that ends in the block, and keeps the bytes behind the last of them.
+/// Answers each line that ends in the block, and keeps the bytes after the last of them.
 fn take_block(
     alloc: Global,
     block: &[u8],
@@ -83,9 +83,9 @@ fn take_block(
         pending.old.items pending.new.items) }
 {
     let mut rest = block;
-    'lines: while let Some((front, behind)) = split_once(rest, b'\n') {
-        end_line(alloc, front, line, pending)?;
-        rest = behind;
+    'lines: while let Some((last, after)) = split_once(rest, b'\n') {
+        end_line(alloc, last, line, pending)?;
+        rest = after;
     }
     line.extend_from_slice(rest)
 }
@@ -112,7 +112,7 @@ fn end_line(
     Ok(())
 }
 
-/// Puts the answer to a line and byte 10 behind what is pending.
+/// Puts the answer to a line and byte 10 after what is pending.
 fn answer_line(alloc: Global, line: &[u8], pending: &mut Vec<u8>) -> Result<(), AllocError>
     ensures ok { OnOk result (GainsAnswers (line.now ∷ []) pending.old.items pending.new.items) }
     ensures err { OnErr result (pending.new.items ≡ pending.old.items) }

@@ -4,7 +4,7 @@ ghost use Rattle.pgcell.specs.Split.{Lacks};
 
 use memchr::memchr;
 
-/// The bytes in front of the first separator, and those behind it.
+/// The bytes before the first separator, and those after it.
 pub fn split_once(bytes: &[u8], separator: u8) -> Option<(&[u8], &[u8])>
     ensures some { IfSome result (λ p. Lacks separator p.0.now × (bytes.now ≡ p.0.now ++ separator ∷ p.1.now)) }
     ensures none { IfNone result (Lacks separator bytes.now) }

@@ -1,14 +1,16 @@
+//! Tests of runs, by readers and writers that give, take or fail in pieces.
+
 mod lines;
 
 use super::{BLOCK, RunFault, run};
 use lines::{
-    ALONE, ARRAYS, LISTED, MOMENTS, NUMBERS_AND_TEXTS, POSITIONS, SMALL_TYPES, TYPES, WORDS,
+    ARRAYS, DATES_AND_TIMES, NUMBERS_AND_TEXTS, POSITIONS, SMALL_TYPES, TYPES, WITH_ARRAYS,
+    WITHOUT_ARRAYS, WORDS,
 };
-use rows::hoard;
+use rows::{hoard, holds, same};
 use std::alloc::Global;
 use std::io;
 use std::io::{Error, ErrorKind, Read, Write};
-use std::process::Abort;
 use std::test::Fail;
 
 /// An empty line between two others, the last of which no byte 10 ends.
@@ -40,9 +42,9 @@ impl Read for Pieces<'_> {
             return Err(Error::from(ErrorKind::Other));
         }
         let n = self.rest.len().min(self.step).min(self.left).min(buf.len());
-        let (front, behind) = self.rest.split_at(n);
-        buf[..n].copy_from_slice(front);
-        self.rest = behind;
+        let (given, rest) = self.rest.split_at(n);
+        buf[..n].copy_from_slice(given);
+        self.rest = rest;
         self.left -= n;
         Ok(n)
     }
@@ -141,8 +143,8 @@ fn answers_to(alloc: Global, text: &[u8], step: usize) -> Result<Vec<u8>, Fail> 
     Ok(taken)
 }
 
-/// Each line of the table has its answer, with and without a byte 10 behind the last.
-fn answers_rows(rt: &impl Abort, alloc: Global, rows: &[(&[u8], &[u8])]) -> Result<(), Fail> {
+/// Each line of the table has its answer, with and without a byte 10 after the last.
+fn answers_rows(alloc: Global, rows: &[(&[u8], &[u8])]) -> Result<(), Fail> {
     let mut text = Vec::new(alloc);
     let mut answers = Vec::new(alloc);
     for (line, answer) in rows {
@@ -151,25 +153,26 @@ fn answers_rows(rt: &impl Abort, alloc: Global, rows: &[(&[u8], &[u8])]) -> Resu
         answers.extend_from_slice(answer)?;
         answers.push(b'\n')?;
     }
-    assert!(rt; answers_to(alloc, text.as_slice(), ROOM)? == answers);
+    let taken = answers_to(alloc, text.as_slice(), ROOM)?;
+    same(taken.as_slice(), answers.as_slice())?;
     text.truncate(text.len().saturating_sub(1));
-    assert!(rt; answers_to(alloc, text.as_slice(), ROOM)? == answers);
-    Ok(())
+    let taken = answers_to(alloc, text.as_slice(), ROOM)?;
+    same(taken.as_slice(), answers.as_slice())
 }
 
 #[test]
 fn each_line_has_its_answer(rt: HostRuntime) -> Result<(), Fail> {
     let alloc = rt.alloc();
-    answers_rows(&rt, alloc, &WORDS)?;
-    answers_rows(&rt, alloc, &NUMBERS_AND_TEXTS)?;
-    answers_rows(&rt, alloc, &TYPES)?;
-    answers_rows(&rt, alloc, &SMALL_TYPES)?;
-    answers_rows(&rt, alloc, &MOMENTS)?;
-    answers_rows(&rt, alloc, &ARRAYS)?;
-    answers_rows(&rt, alloc, &POSITIONS)
+    answers_rows(alloc, &WORDS)?;
+    answers_rows(alloc, &NUMBERS_AND_TEXTS)?;
+    answers_rows(alloc, &TYPES)?;
+    answers_rows(alloc, &SMALL_TYPES)?;
+    answers_rows(alloc, &DATES_AND_TIMES)?;
+    answers_rows(alloc, &ARRAYS)?;
+    answers_rows(alloc, &POSITIONS)
 }
 
-/// What `norm` answers to a name and digits, with a byte 10 behind it.
+/// What `norm` answers to a name and digits, with a byte 10 after it.
 fn rewritten(alloc: Global, name: &[u8], form: &[u8], digits: &[u8]) -> Result<Vec<u8>, Fail> {
     let mut line = Vec::new(alloc);
     line.extend_from_slice(b"norm ")?;
@@ -182,7 +185,6 @@ fn rewritten(alloc: Global, name: &[u8], form: &[u8], digits: &[u8]) -> Result<V
 
 /// The cell is rewritten, and what comes of that is rewritten as it is.
 fn stays_when_rewritten(
-    rt: &impl Abort,
     alloc: Global,
     name: &[u8],
     form: &[u8],
@@ -193,11 +195,10 @@ fn stays_when_rewritten(
         return Err(Fail::from("a refused cell"));
     };
     let again = rewritten(alloc, name, form, digits)?;
-    assert!(rt; again == first);
-    Ok(())
+    same(again.as_slice(), first.as_slice())
 }
 
-/// The digits of an array of one member, whose digits these are.
+/// The digits of an array of one element, whose digits these are.
 fn array_of(alloc: Global, digits: &[u8]) -> Result<Vec<u8>, Fail> {
     let mut array = Vec::new(alloc);
     array.extend_from_slice(b"0000000100000000000000000000000100000007")?;
@@ -211,16 +212,16 @@ fn array_of(alloc: Global, digits: &[u8]) -> Result<Vec<u8>, Fail> {
 #[test]
 fn what_was_rewritten_stays(rt: HostRuntime) -> Result<(), Fail> {
     let alloc = rt.alloc();
-    for (name, digits) in ALONE {
-        stays_when_rewritten(&rt, alloc, name, b"", digits)?;
-        stays_when_rewritten(&rt, alloc, name, b"?", digits)?;
+    for (name, digits) in WITHOUT_ARRAYS {
+        stays_when_rewritten(alloc, name, b"", digits)?;
+        stays_when_rewritten(alloc, name, b"?", digits)?;
     }
-    for (name, digits) in LISTED {
-        stays_when_rewritten(&rt, alloc, name, b"", digits)?;
-        stays_when_rewritten(&rt, alloc, name, b"?", digits)?;
+    for (name, digits) in WITH_ARRAYS {
+        stays_when_rewritten(alloc, name, b"", digits)?;
+        stays_when_rewritten(alloc, name, b"?", digits)?;
         let array = array_of(alloc, digits)?;
-        stays_when_rewritten(&rt, alloc, name, b"[]", array.as_slice())?;
-        stays_when_rewritten(&rt, alloc, name, b"?[]", array.as_slice())?;
+        stays_when_rewritten(alloc, name, b"[]", array.as_slice())?;
+        stays_when_rewritten(alloc, name, b"?[]", array.as_slice())?;
     }
     Ok(())
 }
@@ -229,28 +230,22 @@ fn what_was_rewritten_stays(rt: HostRuntime) -> Result<(), Fail> {
 fn pieces_change_no_answer(rt: HostRuntime) -> Result<(), Fail> {
     for step in 1..12 {
         let taken = answers_to(rt.alloc(), INPUT, step)?;
-        assert_eq!(rt; taken.as_slice(), OUTPUT, "in pieces of {step}");
+        same(taken.as_slice(), OUTPUT)?;
     }
     Ok(())
 }
 
 #[test]
 fn no_input_has_no_answer(rt: HostRuntime) -> Result<(), Fail> {
-    assert!(rt; answers_to(rt.alloc(), b"", ROOM)?.is_empty());
-    Ok(())
+    same(answers_to(rt.alloc(), b"", ROOM)?.as_slice(), b"")
 }
 
 #[test]
 fn an_empty_line_counts_where_it_ends(rt: HostRuntime) -> Result<(), Fail> {
-    assert_eq!(rt;
-        answers_to(rt.alloc(), b"\n", ROOM)?.as_slice(),
-        b"bad line\n".as_slice()
-    );
-    assert_eq!(rt;
-        answers_to(rt.alloc(), b"\n\nnorm text -\n", ROOM)?.as_slice(),
-        b"bad line\nbad line\nok -\n".as_slice()
-    );
-    Ok(())
+    let taken = answers_to(rt.alloc(), b"\n", ROOM)?;
+    same(taken.as_slice(), b"bad line\n")?;
+    let taken = answers_to(rt.alloc(), b"\n\nnorm text -\n", ROOM)?;
+    same(taken.as_slice(), b"bad line\nbad line\nok -\n")
 }
 
 #[test]
@@ -264,7 +259,7 @@ fn a_line_may_be_longer_than_a_block(rt: HostRuntime) -> Result<(), Fail> {
         answer.resize(length - 7, b'6')?;
         answer.push(b'\n')?;
         let taken = answers_to(rt.alloc(), line.as_slice(), ROOM)?;
-        assert!(rt; taken == answer, "a line of {length} bytes");
+        holds(taken == answer, "another answer to a long line")?;
     }
     Ok(())
 }
@@ -279,8 +274,8 @@ fn a_failed_read_leaves_whole_answers(rt: HostRuntime) -> Result<(), Fail> {
         };
         let mut output = make_narrow(rt.alloc(), ROOM)?;
         let outcome = run(rt.alloc(), &mut input, &mut output);
-        assert_eq!(rt; outcome, Err(RunFault::Read));
-        assert_eq!(rt; output.taken.as_slice(), FIRST_TWO);
+        same(outcome, Err(RunFault::Read))?;
+        same(output.taken.as_slice(), FIRST_TWO)?;
     }
     Ok(())
 }
@@ -297,8 +292,8 @@ fn a_read_that_fails_at_the_end_loses_no_whole_line(rt: HostRuntime) -> Result<(
         };
         let mut output = make_narrow(rt.alloc(), ROOM)?;
         let outcome = run(rt.alloc(), &mut input, &mut output);
-        assert_eq!(rt; outcome, Err(RunFault::Read));
-        assert_eq!(rt; output.taken.as_slice(), answers);
+        same(outcome, Err(RunFault::Read))?;
+        same(output.taken.as_slice(), answers)?;
     }
     Ok(())
 }
@@ -309,8 +304,8 @@ fn a_failed_write_leaves_a_beginning(rt: HostRuntime) -> Result<(), Fail> {
         let mut input = INPUT;
         let mut output = make_narrow(rt.alloc(), room)?;
         let outcome = run(rt.alloc(), &mut input, &mut output);
-        assert_eq!(rt; outcome, Err(RunFault::Write));
-        assert_eq!(rt; output.taken.as_slice(), &OUTPUT[..room], "room for {room}");
+        same(outcome, Err(RunFault::Write))?;
+        same(output.taken.as_slice(), &OUTPUT[..room])?;
     }
     Ok(())
 }
@@ -318,11 +313,8 @@ fn a_failed_write_leaves_a_beginning(rt: HostRuntime) -> Result<(), Fail> {
 #[test]
 fn a_writer_that_takes_nothing_is_a_failed_write(rt: HostRuntime) -> Result<(), Fail> {
     let mut input = INPUT;
-    assert_eq!(rt;
-        run(rt.alloc(), &mut input, &mut Full),
-        Err(RunFault::Write)
-    );
-    Ok(())
+    let outcome = run(rt.alloc(), &mut input, &mut Full);
+    same(outcome, Err(RunFault::Write))
 }
 
 #[test]
@@ -339,9 +331,46 @@ fn what_was_interrupted_is_tried_again(rt: HostRuntime) -> Result<(), Fail> {
         inner: make_narrow(rt.alloc(), ROOM)?,
         is_calm: false,
     };
-    assert_eq!(rt; run(rt.alloc(), &mut input, &mut output), Ok(()));
-    assert_eq!(rt; output.inner.taken.as_slice(), OUTPUT);
-    Ok(())
+    same(run(rt.alloc(), &mut input, &mut output), Ok(()))?;
+    same(output.inner.taken.as_slice(), OUTPUT)
+}
+
+/// How often memory was refused before the first line was answered, and how often between the two.
+#[derive(Drop)]
+struct Refusals {
+    before: u32,
+    between: u32,
+}
+
+/// Answers two lines while less and less memory is refused, until a run has what it needs. A run that
+/// is refused memory writes no answer, or the whole answer to the first line.
+fn run_while_refused(
+    alloc: Global,
+    text: &[u8],
+    output: &mut Narrow,
+    hoarded: &mut Vec<Vec<u8>>,
+) -> Result<Refusals, Fail> {
+    let mut refusals = Refusals {
+        before: 0,
+        between: 0,
+    };
+    for _ in 0..100_000 {
+        output.taken.clear();
+        output.room = ROOM;
+        let mut input = text;
+        let outcome = run(alloc, &mut input, output);
+        if outcome != Err(RunFault::Memory) {
+            same(outcome, Ok(()))?;
+            return Ok(refusals);
+        }
+        match output.taken.as_slice() {
+            b"" => refusals.before = refusals.before.saturating_add(1),
+            b"ok 00000007\n" => refusals.between = refusals.between.saturating_add(1),
+            _ => return Err(Fail::from("a part of an answer")),
+        }
+        let _ = hoarded.pop();
+    }
+    Err(Fail::from("memory is always refused"))
 }
 
 #[test]
@@ -356,33 +385,20 @@ fn refused_memory_leaves_whole_answers(rt: HostRuntime) -> Result<(), Fail> {
         room: ROOM,
     };
     // A run before all address space is taken, since the stack cannot grow after that.
-    let mut outcome = run(rt.alloc(), &mut text.as_slice(), &mut output);
-    assert_eq!(rt; outcome, Ok(()));
+    let mut hoarded = Vec::new(rt.alloc());
+    run_while_refused(rt.alloc(), text.as_slice(), &mut output, &mut hoarded)?;
     let answers = Vec::from_slice(rt.alloc(), output.taken.as_slice())?;
-    assert_eq!(rt; answers.len(), text.len() - 13);
-    let mut stopped_before = 0u32;
-    let mut stopped_between = 0u32;
-    let mut hoarded = hoard(rt.alloc())?;
-    for _ in 0..100_000 {
-        output.taken.clear();
-        output.room = ROOM;
-        outcome = run(rt.alloc(), &mut text.as_slice(), &mut output);
-        if outcome != Err(RunFault::Memory) {
-            break;
-        }
-        match output.taken.as_slice() {
-            b"" => stopped_before = stopped_before.saturating_add(1),
-            b"ok 00000007\n" => stopped_between = stopped_between.saturating_add(1),
-            _ => return Err(Fail::from("a part of an answer")),
-        }
-        let _ = hoarded.pop();
-    }
-    assert_eq!(rt; outcome, Ok(()));
-    assert!(rt; output.taken == answers);
-    assert!(rt; stopped_before > 0);
-    assert!(rt; stopped_between > 0);
-    println!(rt;
-        "refused: {stopped_before} times before the first line, {stopped_between} behind it"
+    same(answers.len(), text.len() - 13)?;
+    hoarded = hoard(rt.alloc())?;
+    let Refusals { before, between } = run_while_refused(
+        rt.alloc(),
+        text.as_slice(),
+        &mut output,
+        &mut hoarded,
     )?;
+    holds(output.taken == answers, "another answer")?;
+    holds(before > 0, "never refused before the first line")?;
+    holds(between > 0, "never refused after the first line")?;
+    println!(rt; "refused: {before} times before the first line, {between} after it")?;
     Ok(())
 }

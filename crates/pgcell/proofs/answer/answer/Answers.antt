@@ -1,9 +1,10 @@
 use Rattle.std.proofs.Common.{◌≡◌, ◌++◌, ℕ, List, None, Some, refl, codes}
 use Rattle.postgres_types.specs.Lsn.{lsn_of}
-use Rattle.pgcell.proofs.Outcomes.{ok_weaker, on_ok}
+use Rattle.pgcell.proofs.Outcomes.{on_ok}
+use Rattle.pgcell_norm.proofs.Outcomes.{ok_weaker}
 use Rattle.pgcell.proofs.Printing.{answers_line}
 use Rattle.pgcell.specs.Answer.{AnswersType, printed_lsn}
-use Rattle.pgcell.specs.Norm.{AnswersNorm}
+use Rattle.pgcell_norm.specs.Norm.{AnswersNorm}
 use Rattle.pgcell.specs.Request.{norm, type_of, lsn, seen_bytes}
 use Rattle.pgcell.proofs.answer.answer.Goals as goal
 
@@ -23,7 +24,7 @@ returns-in-Some-Norm-clause-ok c =
     let old = c.args.pending.now.items in
     let new = c.norm.new.pending.items in
     let asked = rw c.in-Some-Norm.field-0-is at (rw c.in-Some-Norm.is at c.in_ok-parse.ensures) in
-    let told = rw c.lent.ensures at c.norm.ensures.ok in
+    let told = rw c.borrowed.ensures at c.norm.ensures.ok in
     ok_weaker {P = (text : List ℕ) × AnswersNorm name.base.now name.form cell text × (new ≡ old ++ text)} c.norm.result
     (λ answer. (answer.0, answers_line c.args.line.now (Some (norm (name.base.now, name.form) cell)) answer.0 asked answer.1, answer.2)) told
 

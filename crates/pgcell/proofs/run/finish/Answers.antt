@@ -3,7 +3,8 @@ use Rattle.std.proofs.lemmas.Bool.Decides.{nat_tests}
 use Rattle.pgcell.specs.Run.{Answered}
 use Rattle.pgcell.proofs.Answers.{gained, writes_none}
 use Rattle.pgcell.proofs.Lines.{no_lines, last_line}
-use Rattle.pgcell.proofs.Outcomes.{err_weaker, ok_weaker, ok_of}
+use Rattle.pgcell.proofs.Outcomes.{err_weaker, ok_of}
+use Rattle.pgcell_norm.proofs.Outcomes.{ok_weaker}
 use Rattle.pgcell.proofs.run.finish.Goals as goal
 
 pub returns-then-is_empty-clause-ok : goal.returns-then-is_empty-clause-ok

@@ -1,7 +1,8 @@
 use Rattle.std.proofs.Common.{[], ◌≡◌, take, arith}
 use Rattle.std.specs.Io.KnownBytes.{Appends, Consumes, IsAtEnd}
 use Rattle.pgcell.specs.declared.run.RunFault.TheVariants.{Write, Memory}
-use Rattle.pgcell.proofs.Outcomes.{err_always, err_weaker, err_known, ok_weaker, ok_of, err_of}
+use Rattle.pgcell.proofs.Outcomes.{err_always, err_weaker, err_known, ok_of, err_of}
+use Rattle.pgcell_norm.proofs.Outcomes.{ok_weaker}
 use Rattle.pgcell.proofs.Steps.{takes_either, under_way-kept, under_way-some, under_way-all, under_way-taken, under_way-stopped, under_way-cut, under_way-unfinished, under_way-end_cut}
 use Rattle.pgcell.proofs.run.run.Goals as goal
 

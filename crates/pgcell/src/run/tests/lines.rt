@@ -79,7 +79,7 @@ pub const TYPES: [(&[u8], &[u8]); 15] = [
     (b"type \xff", b"bad line"),
 ];
 
-/// Bits, addresses, identifiers, positions, moments and maps.
+/// Bits, addresses, identifiers, log positions, timestamps and maps.
 pub const SMALL_TYPES: [(&[u8], &[u8]); 26] = [
     (b"norm bit 00000003BF", b"ok 00000003a0"),
     (b"norm varbit 00000003bf", b"ok 00000003a0"),
@@ -118,8 +118,8 @@ pub const SMALL_TYPES: [(&[u8], &[u8]); 26] = [
     (b"norm hstore? NULL", b"null"),
 ];
 
-/// Dates, times and moments.
-pub const MOMENTS: [(&[u8], &[u8]); 30] = [
+/// Dates, times and timestamps.
+pub const DATES_AND_TIMES: [(&[u8], &[u8]); 30] = [
     (b"norm date 000003E8", b"ok 000003e8"),
     (b"norm date FFBD20B0", b"ok ffbd20b0"),
     (b"norm date FFBD20AF", b"refused 11"),
@@ -205,7 +205,7 @@ pub const ARRAYS: [(&[u8], &[u8]); 24] = [
 ];
 
 /// Each base name that has arrays, and a cell that it accepts.
-pub const LISTED: [(&[u8], &[u8]); 27] = [
+pub const WITH_ARRAYS: [(&[u8], &[u8]); 27] = [
     (b"bool", b"02"),
     (b"char", b"ff"),
     (b"int2", b"fffe"),
@@ -236,7 +236,7 @@ pub const LISTED: [(&[u8], &[u8]); 27] = [
 ];
 
 /// Each base name that has none, and a cell that it accepts.
-pub const ALONE: [(&[u8], &[u8]); 5] = [
+pub const WITHOUT_ARRAYS: [(&[u8], &[u8]); 5] = [
     (b"unknown", b"c3a9"),
     (b"ltree", b"01612e62"),
     (b"hstore", b"00000002000000016100000001310000000161ffffffff"),

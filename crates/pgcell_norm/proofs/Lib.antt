@@ -1,0 +1,4 @@
+mod Forms
+pub mod Outcomes
+mod Printing
+mod Words

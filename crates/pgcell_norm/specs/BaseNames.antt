@@ -1,0 +1,101 @@
+-- The table of base names: what each stands for.
+use Rattle.std.specs.Prelude.{ℕ, Bool, false, List, Option, Some, None, codes, cond, map, String, Vec}
+use Rattle.postgres_types.specs.Content.{Content, BuiltInType, MadeType, SimpleKind}
+use Prim.Native.String.{String as Literal}
+use Rattle.std.specs.Int.{w8, w16, w32, w64}
+use Rattle.std.specs.Global.{Global}
+use Rattle.std.specs.HashMap.{HashMap}
+use Rattle.std.specs.declared.hash.BuildHasherDefault.{BuildHasherDefault}
+use Rattle.std.specs.declared.hash.FoldHasher.{FoldHasher}
+use Rattle.postgres_types.specs.Bits.{ReadsBits, wire_bits}
+use Rattle.postgres_types.specs.Bytes.{ReadsBytes, wire_bytes}
+use Rattle.postgres_types.specs.Civil.{ReadsDate, ReadsDateTime, ReadsInstant, ReadsTime, wire_date, wire_datetime, wire_instant, wire_time}
+use Rattle.postgres_types.specs.Hstore.{ReadsHstore, owned_entry, wire_hstore}
+use Rattle.postgres_types.specs.Identifiers.{ReadsIdentifier, wire_identifier}
+use Rattle.postgres_types.specs.Moments.{ReadsTimestamp, nanos_of, wire_timestamp}
+use Rattle.postgres_types.specs.Network.{ReadsAddress, ReadsCidr, ReadsInet, wire_address, wire_cidr, wire_inet}
+use Rattle.postgres_types.specs.Numbers.{ReadsBool, ReadsSigned, ReadsUnsigned, wire_bool, wire_signed, wire_unsigned}
+use Rattle.postgres_types.specs.Special.{ReadsSpecial, date_seen, timestamp_seen, wire_special}
+use Rattle.pg_base.specs.declared.types.built_in.BuiltIn.{BuiltIn as Row}
+use Rattle.pg_base.specs.declared.types.built_in.BuiltIn.TheVariants.{Bool as BoolRow, BoolArray, Char as CharRow, CharArray, Int2 as Int2Row, Int2Array, Int4 as Int4Row, Int4Array, Int8 as Int8Row, Int8Array, Oid as OidRow, OidArray, Text as TextRow, TextArray, Varchar as VarcharRow, VarcharArray, Bpchar as BpcharRow, BpcharArray, Name as NameRow, NameArray, Bytea as ByteaRow, ByteaArray, Bit as BitRow, BitArray, Varbit as VarbitRow, VarbitArray, Inet as InetRow, InetArray, Cidr as CidrRow, CidrArray, Macaddr as MacaddrRow, MacaddrArray, Uuid as UuidRow, UuidArray, PgLsn as PgLsnRow, PgLsnArray, Date as DateRow, DateArray, Time as TimeRow, TimeArray, Timestamp as TimestampRow, TimestampArray, Timestamptz as TimestamptzRow, TimestamptzArray, Unknown as UnknownRow, Int2Vector as Int2VectorRow, OidVector as OidVectorRow}
+use Rattle.pgcell_norm.specs.Forms.{has_type, same_word}
+use Rattle.pgcell_norm.specs.Rewritten.{ReadsVec, wire_vec, Rewriting, RewrittenAs, RewrittenPlain, RewrittenText}
+use Rattle.pgcell_norm.specs.declared.names.Form.{Form}
+
+-- what a base name stands for: its Postgres type, the type of its arrays, if it has arrays, and how a cell is rewritten
+pub data Entry : Type 1 where
+  no_entry : Entry
+  entry : Content → Option Content → Rewriting → Entry
+
+-- a name may have the forms of arrays only if its base name has arrays
+abbrev pub has_form : Entry → Form → Bool
+has_form no_entry form = false
+has_form (entry own arrays rewritten) form = has_type form arrays
+
+-- a base name with two of the built-in types
+abbrev pub built_in : Row → Row → Rewriting → Entry
+built_in own arrays = entry (BuiltInType own) (Some (BuiltInType arrays))
+
+-- a base name without arrays
+abbrev pub no_arrays : Content → Rewriting → Entry
+no_arrays own = entry own None
+
+-- a user-defined type of that name, of kind Simple and in the schema public
+abbrev pub user_type : Literal → ℕ → Content
+user_type name oid = MadeType (codes name) oid SimpleKind (codes "public")
+
+-- a map of texts
+abbrev pub Map : Type 0
+Map = HashMap (String Global) (Option (String Global)) (BuildHasherDefault FoldHasher)
+
+-- the entry of one base name, and that of the others
+infix 5 if◌is◌then◌else◌
+abbrev pub if◌is◌then◌else◌ : List ℕ → Literal → Entry → Entry → Entry
+if base is name then this else others = cond (same_word base (codes name)) this others
+
+-- the entry of a base name that is no number's, text's, date's, time's or timestamp's
+unfoldable pub other_entry_of : List ℕ → Entry
+other_entry_of base =
+    if base is "bytea" then built_in ByteaRow ByteaArray (RewrittenPlain {A = Vec ℕ Global} (ReadsBytes (λ v. v.items)) (λ v. wire_bytes v.items))
+    else if base is "bit" then built_in BitRow BitArray (RewrittenPlain (ReadsBits (λ v. v)) wire_bits)
+    else if base is "varbit" then built_in VarbitRow VarbitArray (RewrittenPlain (ReadsBits (λ v. v)) wire_bits)
+    else if base is "inet" then built_in InetRow InetArray (RewrittenPlain ReadsInet wire_inet)
+    else if base is "addr" then built_in InetRow InetArray (RewrittenPlain ReadsAddress wire_address)
+    else if base is "cidr" then built_in CidrRow CidrArray (RewrittenPlain ReadsCidr wire_cidr)
+    else if base is "macaddr" then built_in MacaddrRow MacaddrArray (RewrittenPlain (ReadsIdentifier 6) (wire_identifier 6))
+    else if base is "uuid" then built_in UuidRow UuidArray (RewrittenPlain (ReadsIdentifier 16) (wire_identifier 16))
+    else if base is "pg_lsn" then built_in PgLsnRow PgLsnArray (RewrittenPlain (ReadsUnsigned w64) (wire_unsigned w64))
+    else if base is "int2vector" then no_arrays (BuiltInType Int2VectorRow) (RewrittenAs (ReadsVec (λ _. ReadsSigned w16)) (wire_vec (λ _. wire_signed w16)))
+    else if base is "oidvector" then no_arrays (BuiltInType OidVectorRow) (RewrittenAs (ReadsVec (λ _. ReadsUnsigned w32)) (wire_vec (λ _. wire_unsigned w32)))
+    else if base is "hstore" then no_arrays (user_type "hstore" 100002) (RewrittenPlain {A = Map} ReadsHstore (λ m. wire_hstore (map owned_entry m.entries)))
+    else no_entry
+
+-- the same, also of a date, a time or a timestamp
+unfoldable pub timestamp_entry_of : List ℕ → Entry
+timestamp_entry_of base =
+    if base is "date" then built_in DateRow DateArray (RewrittenPlain ReadsDate wire_date)
+    else if base is "date_inf" then built_in DateRow DateArray (RewrittenPlain (ReadsSpecial w32 date_seen ReadsDate) (λ v. wire_special w32 wire_date (date_seen v)))
+    else if base is "time" then built_in TimeRow TimeArray (RewrittenPlain ReadsTime wire_time)
+    else if base is "timestamp" then built_in TimestampRow TimestampArray (RewrittenPlain ReadsDateTime wire_datetime)
+    else if base is "timestamp_inf" then built_in TimestampRow TimestampArray (RewrittenPlain (ReadsSpecial w64 timestamp_seen ReadsDateTime) (λ v. wire_special w64 wire_datetime (timestamp_seen v)))
+    else if base is "timestamptz" then built_in TimestamptzRow TimestamptzArray (RewrittenPlain ReadsInstant wire_instant)
+    else if base is "unix" then built_in TimestampRow TimestampArray (RewrittenPlain (ReadsTimestamp nanos_of) (λ v. wire_timestamp (nanos_of v)))
+    else if base is "unix_inf" then built_in TimestampRow TimestampArray (RewrittenPlain (ReadsSpecial w64 timestamp_seen (ReadsTimestamp nanos_of)) (λ v. wire_special w64 (λ u. wire_timestamp (nanos_of u)) (timestamp_seen v)))
+    else other_entry_of base
+
+-- the entry of any base name, also of a number or a text
+abbrev pub entry_of : List ℕ → Entry
+entry_of base =
+    if base is "bool" then built_in BoolRow BoolArray (RewrittenPlain ReadsBool wire_bool)
+    else if base is "char" then built_in CharRow CharArray (RewrittenPlain (ReadsSigned w8) (wire_signed w8))
+    else if base is "int2" then built_in Int2Row Int2Array (RewrittenPlain (ReadsSigned w16) (wire_signed w16))
+    else if base is "int4" then built_in Int4Row Int4Array (RewrittenPlain (ReadsSigned w32) (wire_signed w32))
+    else if base is "int8" then built_in Int8Row Int8Array (RewrittenPlain (ReadsSigned w64) (wire_signed w64))
+    else if base is "oid" then built_in OidRow OidArray (RewrittenPlain (ReadsUnsigned w32) (wire_unsigned w32))
+    else if base is "text" then built_in TextRow TextArray RewrittenText
+    else if base is "varchar" then built_in VarcharRow VarcharArray RewrittenText
+    else if base is "bpchar" then built_in BpcharRow BpcharArray RewrittenText
+    else if base is "name" then built_in NameRow NameArray RewrittenText
+    else if base is "unknown" then no_arrays (BuiltInType UnknownRow) RewrittenText
+    else if base is "ltree" then no_arrays (user_type "ltree" 100001) RewrittenText
+    else timestamp_entry_of base

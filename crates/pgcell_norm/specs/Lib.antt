@@ -1,0 +1,6 @@
+-- The words of names, and of rewriting a cell by a name.
+pub mod BaseNames
+pub mod Forms
+pub mod Names
+pub mod Norm
+pub mod Rewritten

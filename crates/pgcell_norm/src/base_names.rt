@@ -1,0 +1,102 @@
+//! The table of base names. In each line stand a base name, its Rust type, its Postgres type and,
+//! where it has arrays, their Postgres type.
+ghost use Rattle.std.specs.Prelude.{◌≡◌};
+ghost use Rattle.pgcell_norm.specs.BaseNames.{entry_of, has_form, other_entry_of, timestamp_entry_of};
+
+use crate::names::Form;
+
+/// Numbers and texts. `row` is the macro that is called with each line, after the arguments.
+macro_rules! numbers_and_texts {
+    ($base:expr, $row:ident $args:tt, $other:expr) => {
+        match $base {
+            "bool" => $row!($args bool, BOOL, BOOL_ARRAY),
+            "char" => $row!($args i8, CHAR, CHAR_ARRAY),
+            "int2" => $row!($args i16, INT2, INT2_ARRAY),
+            "int4" => $row!($args i32, INT4, INT4_ARRAY),
+            "int8" => $row!($args i64, INT8, INT8_ARRAY),
+            "oid" => $row!($args u32, OID, OID_ARRAY),
+            "text" => $row!($args String, TEXT, TEXT_ARRAY),
+            "varchar" => $row!($args String, VARCHAR, VARCHAR_ARRAY),
+            "bpchar" => $row!($args String, BPCHAR, BPCHAR_ARRAY),
+            "name" => $row!($args String, NAME, NAME_ARRAY),
+            "unknown" => $row!($args String, UNKNOWN),
+            "ltree" => $row!($args String, user_type("ltree", 100_001)),
+            _ => $other,
+        }
+    };
+}
+
+/// Dates, times and timestamps.
+macro_rules! dates_and_times {
+    ($base:expr, $row:ident $args:tt, $other:expr) => {
+        match $base {
+            "date" => $row!($args civil::Date, DATE, DATE_ARRAY),
+            "date_inf" => $row!($args Date<civil::Date>, DATE, DATE_ARRAY),
+            "time" => $row!($args civil::Time, TIME, TIME_ARRAY),
+            "timestamp" => $row!($args civil::DateTime, TIMESTAMP, TIMESTAMP_ARRAY),
+            "timestamp_inf" => $row!($args Timestamp<civil::DateTime>, TIMESTAMP, TIMESTAMP_ARRAY),
+            "timestamptz" => $row!($args jiff::Timestamp, TIMESTAMPTZ, TIMESTAMPTZ_ARRAY),
+            "unix" => $row!($args UnixTime, TIMESTAMP, TIMESTAMP_ARRAY),
+            "unix_inf" => $row!($args Timestamp<UnixTime>, TIMESTAMP, TIMESTAMP_ARRAY),
+            _ => $other,
+        }
+    };
+}
+
+/// The others.
+macro_rules! others {
+    ($base:expr, $row:ident $args:tt, $other:expr) => {
+        match $base {
+            "bytea" => $row!($args Vec<u8>, BYTEA, BYTEA_ARRAY),
+            "bit" => $row!($args BitVec, BIT, BIT_ARRAY),
+            "varbit" => $row!($args BitVec, VARBIT, VARBIT_ARRAY),
+            "inet" => $row!($args IpInet, INET, INET_ARRAY),
+            "addr" => $row!($args IpAddr, INET, INET_ARRAY),
+            "cidr" => $row!($args IpCidr, CIDR, CIDR_ARRAY),
+            "macaddr" => $row!($args MacAddress, MACADDR, MACADDR_ARRAY),
+            "uuid" => $row!($args Uuid, UUID, UUID_ARRAY),
+            "pg_lsn" => $row!($args PgLsn, PG_LSN, PG_LSN_ARRAY),
+            "int2vector" => $row!($args Vec<i16>, INT2_VECTOR),
+            "oidvector" => $row!($args Vec<u32>, OID_VECTOR),
+            "hstore" => $row!($args Map, user_type("hstore", 100_002)),
+            _ => $other,
+        }
+    };
+}
+
+pub(crate) use dates_and_times;
+pub(crate) use numbers_and_texts;
+pub(crate) use others;
+
+/// Of a line of the table, whether a name may have that form.
+macro_rules! has_form {
+    (($form:ident) $rust:ty, $own:ident, $arrays:ident) => {
+        true
+    };
+    (($form:ident) $rust:ty, $($own:tt)*) => {
+        !$form.is_array()
+    };
+}
+
+/// Whether the base name stands for a Postgres type in that form.
+pub fn is_name(base: &str, form: Form) -> bool
+    ensures { result ≡ has_form (entry_of base.now) form }
+{
+    numbers_and_texts!(base, has_form(form), is_timestamp_name(base, form))
+}
+
+/// The same of a base name that is no number's and no text's.
+#[tactic(auto, unfolding(crate::specs::BaseNames::timestamp_entry_of))]
+fn is_timestamp_name(base: &str, form: Form) -> bool
+    ensures { result ≡ has_form (timestamp_entry_of base.now) form }
+{
+    dates_and_times!(base, has_form(form), is_other_name(base, form))
+}
+
+/// The same of one that is no date's, time's or timestamp's either.
+#[tactic(auto, unfolding(crate::specs::BaseNames::other_entry_of))]
+fn is_other_name(base: &str, form: Form) -> bool
+    ensures { result ≡ has_form (other_entry_of base.now) form }
+{
+    others!(base, has_form(form), false)
+}

@@ -1,0 +1,215 @@
+//! The answer to `norm NAME CELL`.
+ghost use Rattle.std.specs.Prelude.{◌≡◌, ◌++◌, ℕ, List, IsTrue, OnOk, OnErr, IfOk, IfSome, Some, Ok, codes, option_map};
+ghost use Rattle.hex.specs.Hex.{encode_lower};
+ghost use Rattle.postgres_types.specs.Content.{MadeType, SimpleKind, content};
+ghost use Rattle.postgres_types.specs.Cells.{cell_of};
+ghost use Rattle.postgres_types.specs.Faults.{refusal_of};
+ghost use Rattle.postgres_types.specs.Lists.{accepted_list};
+ghost use Rattle.pgcell_norm.specs.BaseNames.{has_form, other_entry_of, timestamp_entry_of};
+ghost use Rattle.pgcell_norm.specs.Forms.{has_type};
+ghost use Rattle.pgcell_norm.specs.Norm.{AnswersEntry, AnswersIn, AnswersNorm, PrintsRefusal, WritesOf, printed};
+ghost use Rattle.pgcell_norm.specs.Rewritten.{RewrittenAs, accepted_as};
+
+use crate::base_names::{dates_and_times, numbers_and_texts, others};
+use crate::names::{Form, Name};
+use bytes::BytesMut;
+use jiff::civil;
+use postgres_types::{
+    BitVec, Date, Fault, IpCidr, IpInet, IsNull, Kind, MacAddress, Oid, Paired, PgLsn, Timestamp,
+    Type, UnixTime, rewrite,
+};
+use std::alloc::{AllocError, Global};
+use std::collections::HashMap;
+use std::net::IpAddr;
+use uuid::Uuid;
+
+/// What an hstore is read as.
+type Map = HashMap<String, Option<String>>;
+
+/// Rewrites a cell by a line of the table.
+macro_rules! norm_as {
+    (
+        ($alloc:ident, $name:ident, $cell:ident, $pending:ident)
+        $rust:ty, user_type($ty:literal, $oid:literal)
+    ) => {{
+        let own = user_type($alloc, $ty, $oid)?;
+        norm_as::<$rust>($alloc, $name.form, own, None, $cell, $pending)
+    }};
+    (($alloc:ident, $name:ident, $cell:ident, $pending:ident) $rust:ty, $own:ident) => {
+        norm_as::<$rust>($alloc, $name.form, Type::$own, None, $cell, $pending)
+    };
+    (
+        ($alloc:ident, $name:ident, $cell:ident, $pending:ident)
+        $rust:ty, $own:ident, $arrays:ident
+    ) => {
+        norm_as::<$rust>($alloc, $name.form, Type::$own, Some(Type::$arrays), $cell, $pending)
+    };
+}
+
+/// Rewrites the cell by what the name stands for, and puts what came of it after what is pending.
+pub fn norm(
+    alloc: Global,
+    name: Name<'_>,
+    cell: Option<&[u8]>,
+    pending: &mut Vec<u8>,
+) -> Result<(), AllocError>
+    ensures ok { OnOk result ((text : List ℕ)
+        × AnswersNorm name.entry.base.now name.entry.form (cell_of cell.entry) text
+        × (pending.new.items ≡ pending.old.items ++ text)) }
+    ensures err { OnErr result (pending.new.items ≡ pending.old.items) }
+{
+    numbers_and_texts!(
+        name.base,
+        norm_as(alloc, name, cell, pending),
+        norm_timestamp(alloc, name, cell, pending)
+    )
+}
+
+/// The same of a base name that is no number's and no text's.
+#[tactic(auto, unfolding(crate::specs::BaseNames::timestamp_entry_of))]
+fn norm_timestamp(
+    alloc: Global,
+    name: Name<'_>,
+    cell: Option<&[u8]>,
+    pending: &mut Vec<u8>,
+) -> Result<(), AllocError>
+    requires { IsTrue (has_form (timestamp_entry_of name.base.now) name.form) }
+    ensures ok { OnOk result ((text : List ℕ)
+        × AnswersEntry (timestamp_entry_of name.entry.base.now) name.entry.form
+        (cell_of cell.entry) text
+        × (pending.new.items ≡ pending.old.items ++ text)) }
+    ensures err { OnErr result (pending.new.items ≡ pending.old.items) }
+{
+    dates_and_times!(
+        name.base,
+        norm_as(alloc, name, cell, pending),
+        norm_other(alloc, name, cell, pending)
+    )
+}
+
+/// The same of one that is no date's, time's or timestamp's either.
+#[tactic(auto, unfolding(crate::specs::BaseNames::other_entry_of))]
+fn norm_other(
+    alloc: Global,
+    name: Name<'_>,
+    cell: Option<&[u8]>,
+    pending: &mut Vec<u8>,
+) -> Result<(), AllocError>
+    requires { IsTrue (has_form (other_entry_of name.base.now) name.form) }
+    ensures ok { OnOk result ((text : List ℕ)
+        × AnswersEntry (other_entry_of name.entry.base.now) name.entry.form
+        (cell_of cell.entry) text
+        × (pending.new.items ≡ pending.old.items ++ text)) }
+    ensures err { OnErr result (pending.new.items ≡ pending.old.items) }
+{
+    others!(
+        name.base,
+        norm_as(alloc, name, cell, pending),
+        unreachable!()
+    )
+}
+
+/// A user-defined type of that name, of kind Simple and in the schema public.
+fn user_type(alloc: Global, name: &str, oid: Oid) -> Result<Type, AllocError>
+    ensures { IfOk result (λ ty. content ty ≡ MadeType name.now oid SimpleKind (codes "public")) }
+{
+    let name = String::from_str(alloc, name)?;
+    let schema = String::from_str(alloc, "public")?;
+    Type::new(alloc, name, oid, Kind::Simple, schema).map_err(|_| AllocError)
+}
+
+/// The same as a `T` in that form, by the Postgres type or the type of its arrays.
+fn norm_as<'a, T: Paired<'a>>(
+    alloc: Global,
+    form: Form,
+    own: Type,
+    arrays: Option<Type>,
+    cell: Option<&'a [u8]>,
+    pending: &mut Vec<u8>,
+) -> Result<(), AllocError>
+    requires has_type { IsTrue (has_type form (option_map content arrays)) }
+    requires own_type { IsTrue (T.FromSql.accepted (content own)) }
+    requires array_type { IfSome (option_map content arrays)
+        (λ ty. IsTrue (accepted_list T.FromSql.accepted ty)) }
+    ensures ok { OnOk result ((text : List ℕ)
+        × AnswersIn (content own) (option_map content arrays) (RewrittenAs T.reads T.wire) form
+        (cell_of cell.entry) text
+        × (pending.new.items ≡ pending.old.items ++ text)) }
+    ensures err { OnErr result (pending.new.items ≡ pending.old.items) }
+{
+    let Some(ty) = form.pick(own, arrays) else {
+        unreachable!();
+    };
+    let mut out = BytesMut::new(alloc);
+    match rewrite_as::<T>(alloc, form, &ty, cell, &mut out) {
+        Ok(IsNull::Yes) => pending.extend_from_slice(b"null"),
+        Ok(IsNull::No) => print_bytes(&out, pending),
+        Err(fault) => print_fault(alloc, &fault, pending),
+    }
+}
+
+/// Rewrites the cell as a `T` in that form.
+fn rewrite_as<'a, T: Paired<'a>>(
+    alloc: Global,
+    form: Form,
+    ty: &Type,
+    cell: Option<&'a [u8]>,
+    out: &mut BytesMut,
+) -> Result<IsNull, Fault>
+    requires { IsTrue (accepted_as T.FromSql.accepted form (content ty.now)) }
+    ensures { WritesOf (RewrittenAs T.reads T.wire form (content ty.now) (cell_of cell.entry))
+        out.old.items out.new.items result }
+{
+    match form {
+        Form::Plain => rewrite::<T>(alloc, ty, cell, out),
+        Form::Optional => rewrite::<Option<T>>(alloc, ty, cell, out),
+        Form::Array => rewrite::<Vec<T>>(alloc, ty, cell, out),
+        Form::OptionalArray => rewrite::<Vec<Option<T>>>(alloc, ty, cell, out),
+    }
+}
+
+/// Prints the bytes of a cell.
+fn print_bytes(bytes: &[u8], pending: &mut Vec<u8>) -> Result<(), AllocError>
+    ensures ok { OnOk result (pending.new.items ≡ pending.old.items ++ printed (Ok (Some bytes.now))) }
+    ensures err { OnErr result (pending.new.items ≡ pending.old.items) }
+{
+    if bytes.is_empty() {
+        return pending.extend_from_slice(b"ok -");
+    }
+    let start = pending.len();
+    pending.extend_from_slice(b"ok ")?;
+    if extend_by_digits(bytes, pending).is_err() {
+        pending.truncate(start);
+        return Err(AllocError);
+    }
+    Ok(())
+}
+
+/// Appends the bytes in hexadecimal, written where they stay.
+fn extend_by_digits(bytes: &[u8], text: &mut Vec<u8>) -> Result<(), AllocError>
+    ensures ok { OnOk result (text.new.items ≡ text.old.items ++ encode_lower bytes.now) }
+    ensures err { OnErr result (text.new.items ≡ text.old.items) }
+{
+    let start = text.len();
+    if bytes.len() > (usize::MAX - start) / 2 {
+        return Err(AllocError);
+    }
+    text.resize(start + 2 * bytes.len(), 0)?;
+    match hex::encode_to_slice(bytes, &mut text[start..]) {
+        Ok(()) => Ok(()),
+        Err(_) => unreachable!(),
+    }
+}
+
+/// Prints the number of a refusal. Out of memory is no refusal, and is passed on.
+fn print_fault(alloc: Global, fault: &Fault, pending: &mut Vec<u8>) -> Result<(), AllocError>
+    ensures ok { OnOk result (PrintsRefusal (refusal_of fault.now) pending.old.items pending.new.items) }
+    ensures err { OnErr result (pending.new.items ≡ pending.old.items) }
+{
+    if let Fault::Memory = fault {
+        return Err(AllocError);
+    }
+    let code = fault.code();
+    let text = format!(in alloc; "refused {code}")?;
+    pending.extend_from_slice(text.as_bytes())
+}
