@@ -1,11 +1,14 @@
 -- Two contents are the same just where the test says so.
-use Rattle.std.proofs.Common.{rules, ◌≡◌, refl, ap, ◌==◌, ◌&&◌, true, ℕ, List, [], ◌∷◌}
+use Rattle.std.proofs.Common.{rules, ◌≡◌, ◌∙◌, sym, refl, ap, ◌==◌, ◌&&◌, Bool as Truth, true, false, if◌then◌else◌, ℕ, List, [], ◌∷◌}
 use Rattle.std.specs.Cmp.Lexicographic.{pointwise}
 use Rattle.std.proofs.lemmas.Bool.{and_parts, eqb-true, eq-eqb}
 use denote.Enum.Bare.{same_true, true_same}
 use Rattle.pg_base.specs.contracts.types.built_in.BuiltIn.{the_type}
 use Rattle.pg_base.specs.contracts.types.built_in.BuiltInPartialEq.TheImpl.{ghosts as rows}
 use Rattle.pg_base.specs.declared.types.built_in.BuiltIn.{BuiltIn as Row}
+use Rattle.pg_base.specs.declared.types.built_in.BuiltIn.TheVariants.{Bool}
+use Rattle.pg_base.specs.BuiltInRows.{row_oid}
+use Rattle.pg_base.specs.Constants.{all_rows}
 use Rattle.pg_base.specs.Content.{Content, BuiltInType, MadeType, KindContent, SimpleKind, EnumKind, PseudoKind, ArrayKind, RangeKind, MultirangeKind, DomainKind, CompositeKind, FieldsContent, NoFields, FieldAnd, same_type, same_kind_content, same_fields}
 
 -- texts that the test finds the same are the same
@@ -28,9 +31,31 @@ texts-same (x ∷ xs) (y ∷ ys) h =
     let e = bytes-same x y p.0 in
     let f = texts-same xs ys p.1 in cc
 
+-- the first of these rows that has the OID, or else the last argument
+row-of : List Row → ℕ → Row → Row
+row-of [] oid else_row = else_row
+row-of (r ∷ rs) oid else_row = if row_oid r == oid then r else row-of rs oid else_row
+
+-- each row is found by its OID
+row-found : (a : Row) → row-of all_rows (row_oid a) Bool ≡ a
+unfolding row-of
+row-found Bool = refl
+row-found a = refl
+
 -- the same of rows
-row-same : (a b : Row) → rows.eq a b ≡ true → a ≡ b
-row-same a b h = same_true the_type (search rules) a b h
+row-same : (a b : Row) → (row_oid a == row_oid b) ≡ true → a ≡ b
+row-same a b h = sym (row-found a) ∙ ap (λ oid. row-of all_rows oid Bool) (eqb-true (row_oid a) (row_oid b) h) ∙ row-found b
+
+-- two tests that hold together are one
+one-test : (p q : Truth) → (p ≡ true → q ≡ true) → (q ≡ true → p ≡ true) → p ≡ q
+one-test true q f g = sym (f refl)
+one-test false true f g = g refl
+one-test false false f g = refl
+
+-- the derived == of rows compares their OIDs
+pub eq-rows : (a b : Row) → rows.eq a b ≡ (row_oid a == row_oid b)
+eq-rows a b =
+    one-test _ _ (λ h. eq-eqb _ _ (ap row_oid (same_true the_type (search rules) a b h))) (λ h. true_same the_type a b (row-same a b h))
 
 mutual
   -- types that the test finds the same are the same
@@ -84,7 +109,7 @@ texts-self (x ∷ xs) = rw (bytes-self x, texts-self xs) refl
 mutual
   -- the test finds a type the same as itself
   pub type-self : (a : Content) → same_type a a ≡ true
-  type-self (BuiltInType a) = true_same the_type a a refl
+  type-self (BuiltInType a) = eq-eqb (row_oid a) (row_oid a) refl
   type-self (MadeType m i k s) = rw (bytes-self m, eq-eqb i i refl, kind-self k, bytes-self s) refl
 
   -- the same of a kind

@@ -28,9 +28,11 @@ use Rattle.pg_base.specs.contracts.types.kind.FieldHash.TheImpl.{ghosts as field
 use Rattle.pg_base.specs.contracts.types.PgTypeHash.TheImpl.Laws as type_hash_laws
 use Rattle.pg_base.specs.contracts.types.kind.KindHash.TheImpl.Laws as kind_hash_laws
 use Rattle.pg_base.specs.contracts.types.kind.FieldHash.TheImpl.Laws as field_hash_laws
+use Rattle.pg_base.specs.contracts.types.kind.KindRefHash.TheImpl.{ghosts as view_hashes}
+use Rattle.pg_base.specs.contracts.types.kind.KindRefHash.TheImpl.Laws as view_hash_laws
 use Rattle.pg_base.specs.Content.{Content, SameField, content, field_name, field_type, fields_content, inner_content, kind_content, row_content, same_fields, same_kind_content, same_type}
 use Rattle.pg_base.specs.Seen.{seen}
-use Rattle.pg_base.proofs.Contents.{bytes-same, bytes-self, kind-same, kind-self, type-same, type-self}
+use Rattle.pg_base.proofs.Contents.{bytes-same, bytes-self, eq-rows, kind-same, kind-self, type-same, type-self}
 
 -- lists of strings are compared by their texts
 strings : (xs ys : List (String Global)) → pointwise string_eq xs ys ≡ pointwise (pointwise ◌==◌) (map string_bytes xs) (map string_bytes ys)
@@ -44,7 +46,7 @@ mutual
 
   -- == of the insides of two types
   eq-inner : (a b : Inner) → inners.eq a b ≡ same_type (inner_content a) (inner_content b)
-  eq-inner (BuiltIn x) (BuiltIn y) = inner_laws.is (BuiltIn x) (BuiltIn y)
+  eq-inner (BuiltIn x) (BuiltIn y) = inner_laws.is (BuiltIn x) (BuiltIn y) ∙ eq-rows x y
   eq-inner (Made' p n o k s) (Made' q m i l t) =
       inner_laws.is (Made' p n o k s) (Made' q m i l t) ∙ made_laws.is (record { name = n; oid = o; kind = k; schema = s }) (record { name = m; oid = i; kind = l; schema = t }) ∙ ap (λ b. string_eq n m && (o == i && (b && string_eq s t))) (eq-kind k l)
   eq-inner (BuiltIn x) (Made' q m i l t) = inner_laws.is (BuiltIn x) (Made' q m i l t)
@@ -154,3 +156,7 @@ hash_from_same_kind a b h = kind_hash_laws.respects_eq-law a b (eq_from_same_kin
 -- fields of one name and one type are hashed alike
 pub hash_from_same_field : (a b : Field) → SameField a b → field_hashes.hash_input a ≡ field_hashes.hash_input b
 hash_from_same_field a b h = field_hash_laws.respects_eq-law a b (eq_from_same_field a b h)
+
+-- views that stand for the same are hashed alike
+pub hash_from_same_seen : (a b : KindRef) → seen a ≡ seen b → view_hashes.hash_input a ≡ view_hashes.hash_input b
+hash_from_same_seen a b h = view_hash_laws.respects_eq-law a b (eq_from_same_seen a b h)

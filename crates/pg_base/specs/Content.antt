@@ -2,7 +2,6 @@
 use Rattle.std.specs.Prelude.{◌≡◌, ℕ, List, [], ◌∷◌, string_bytes, map, Bool, true, false, ◌==◌, ◌&&◌, ◌||◌, ◌++◌, codes, if◌then◌else◌}
 use Rattle.std.specs.Option.{option_map_or}
 use Rattle.std.specs.Cmp.Lexicographic.{pointwise}
-use Rattle.pg_base.specs.contracts.types.built_in.BuiltInPartialEq.TheImpl.{ghosts as rows}
 use Rattle.pg_base.specs.declared.types.built_in.BuiltIn.{BuiltIn as Row}
 use Rattle.pg_base.specs.declared.types.PgType.{PgType}
 use Rattle.pg_base.specs.declared.types.Inner.{Inner, BuiltIn, Made'}
@@ -64,9 +63,9 @@ fields_content [] = NoFields
 fields_content (f ∷ fs) = FieldAnd (string_bytes f.name) (content f.type_) (fields_content fs)
 
 abbrev mutual
-  -- whether two types are the same
+  -- whether two types are the same: built-in ones by their OID, and user-defined ones by their parts
   pub same_type : Content → Content → Bool
-  same_type (BuiltInType a) (BuiltInType b) = rows.eq a b
+  same_type (BuiltInType a) (BuiltInType b) = row_oid a == row_oid b
   same_type (MadeType name oid kind schema) (MadeType name' oid' kind' schema') =
       pointwise ◌==◌ name name' && (oid == oid' && (same_kind_content kind kind' && pointwise ◌==◌ schema schema'))
   same_type _ _ = false

@@ -6,6 +6,7 @@ pub mod BuiltInRows
 pub mod Bytes
 pub mod Cells
 pub mod Civil
+pub mod Constants
 pub mod Content
 pub mod Counts
 pub mod Digest

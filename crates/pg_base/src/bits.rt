@@ -11,7 +11,7 @@ pub mod laws;
 
 use crate::fault::Fault;
 use crate::protocol::{Varbit, without_pad};
-use std::alloc::Global;
+use std::alloc::{AllocError, Global};
 use std::marker::Model;
 
 /// A list of bits, packed eight to a byte.
@@ -150,6 +150,18 @@ impl BitVec {
         ensures refused { IfErr result (λ e. e ≡ Memory) }
     {
         Ok(Vec::from_slice(alloc, self.as_bytes())?)
+    }
+}
+
+/// A copy has the same bits.
+impl Clone for BitVec {
+    ghost is_clone = { λ bits copy. copy ≡ bits };
+
+    fn clone(&self) -> Result<BitVec, AllocError> {
+        Ok(BitVec {
+            bytes: self.bytes.clone()?,
+            len: self.len,
+        })
     }
 }
 

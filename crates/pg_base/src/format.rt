@@ -1,5 +1,7 @@
 //! What a write says of its cell, and the format that a value travels in.
 
+pub mod laws;
+
 /// Whether a written value is NULL.
 #[derive(Debug, Clone, Copy, PartialEq, Eq)]
 pub enum IsNull {

@@ -16,7 +16,7 @@ use std::alloc::Global;
 use std::marker::Model;
 
 /// The cells of an array that are to be read; see [`array_from_sql`].
-#[derive(Drop)]
+#[derive(Debug, Drop)]
 pub struct ArrayCells<'a> {
     left: usize,
     bytes: &'a [u8],

@@ -20,7 +20,7 @@ use std::marker::Model;
 type Entry<'a> = (&'a str, Option<&'a str>);
 
 /// The entries of an hstore's cell that are to be read; see [`hstore_from_sql`].
-#[derive(Drop)]
+#[derive(Debug, Drop)]
 pub struct HstoreEntries<'a> {
     left: usize,
     bytes: &'a [u8],
