@@ -1,11 +1,11 @@
 -- Reading the head of an array.
 use Rattle.std.proofs.Common.{◌≡◌, ℕ, suc, zero, List, ◌++◌, length, Result, Ok, Err, ◌∙◌, ap, subst}
 use Rattle.std.proofs.lemmas.Option.{IfSome_then}
-use Rattle.pg_base.specs.declared.fault.Fault.{Fault}
+use Rattle.pg_types.specs.declared.fault.Fault.{Fault}
 use Rattle.pg_base.proofs.ArrayLaws.{dimension_fault}
 use Rattle.pg_base.specs.Arrays.{SpellsDimensions, SpellsHead, dimension_checks, head_checks}
 use Rattle.pg_base.specs.Counts.{IsCount, ToRead}
-use Rattle.pg_base.specs.Faults.{Answers, refusal_of}
+use Rattle.pg_types.specs.Faults.{Answers, refusal_of}
 use Rattle.pg_base.specs.Formats.{Decodes, first_fault_of}
 
 -- what the one dimension gives, the head gives

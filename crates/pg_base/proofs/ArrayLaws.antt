@@ -11,7 +11,7 @@ use Rattle.pg_base.specs.Cells.{Cell, CellsInRow}
 use Rattle.pg_base.proofs.CountLaws.{number_then}
 use Rattle.pg_base.specs.Counts.{IsCount, ToRead, number_in, stated}
 use Rattle.pg_base.proofs.FormatLaws.{be-length}
-use Rattle.pg_base.specs.Faults.{Refusal}
+use Rattle.pg_types.specs.Faults.{Refusal}
 use Rattle.pg_base.specs.Formats.{first_fault_of}
 
 -- what is to be read behind so many dimensions

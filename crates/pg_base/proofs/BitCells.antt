@@ -5,8 +5,8 @@ use Rattle.std.specs.Result.{IsErrAnd}
 use Rattle.std.specs.Int.{w32}
 use Rattle.std.proofs.lemmas.Bool.Decides.{nat_tests}
 use Rattle.bytes.specs.Filled.{Filled}
-use Rattle.pg_base.specs.declared.fault.Fault.{Fault}
-use Rattle.pg_base.specs.declared.fault.Fault.TheVariants.{Memory}
+use Rattle.pg_types.specs.declared.fault.Fault.{Fault}
+use Rattle.pg_types.specs.declared.fault.Fault.TheVariants.{Memory}
 use Rattle.pg_base.specs.Appending.{Appends}
 use Rattle.pg_base.specs.Bits.{FormBits, bits_cell, bytes_for, first_bits, packed}
 use Rattle.pg_base.specs.Cells.{be}

@@ -8,7 +8,7 @@ use Rattle.std.proofs.lemmas.List.{length-append}
 use Rattle.pg_base.specs.Cells.{Cell, Spells, SpellsNone, SpellsAll, CellsInRow, frame, frames, FramesSingle, FramesInFrontSingle}
 use Rattle.pg_base.proofs.CountLaws.{IsNumberThen, number_then}
 use Rattle.pg_base.specs.Counts.{has_number, number_in, has_cell, bytes_in, behind_cell, cell_checks}
-use Rattle.pg_base.specs.Faults.{Refusal, size}
+use Rattle.pg_types.specs.Faults.{Refusal, size}
 use Rattle.pg_base.specs.Formats.{first_fault_of}
 use Rattle.pg_base.proofs.FrameLaws.{bytes-frame, frame_spells, parts_of}
 

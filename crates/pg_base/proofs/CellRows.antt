@@ -11,7 +11,7 @@ use Rattle.pg_base.proofs.CellLaws.{no_cell}
 use Rattle.pg_base.specs.Cells.{Cell, IsBe, Spells, SpellsNone, SpellsAll, CellsInRow}
 use Rattle.pg_base.proofs.CountLaws.{number_then}
 use Rattle.pg_base.specs.Counts.{ToRead, has_number}
-use Rattle.pg_base.specs.Faults.{size}
+use Rattle.pg_types.specs.Faults.{size}
 use Rattle.pg_base.proofs.FrameLaws.{taken}
 
 -- every number of the list is a byte

@@ -13,13 +13,13 @@ use Rattle.jiff.specs.Types.{Date, Time, DateTime, Timestamp}
 use Rattle.jiff.specs.Words.{epoch_day, time_nanos, civil_nanos, IsBetween}
 use Rattle.pg_base.specs.Cells.{be, IsBe, signed_in}
 use Rattle.pg_base.specs.Civil.{is_between, first_fault_count, FormCount, CountGives, base_day, first_day, last_day, IsDayOf, last_micros, IsAfterMidnight, first_civil, last_civil, first_instant, last_instant, instant_nanos, wire_date, wire_time, wire_datetime, wire_instant, ReadsDate, ReadsTime, ReadsDateTime, ReadsInstant}
-use Rattle.pg_base.specs.Faults.{Outcome, Answers, refusal_of, decode}
+use Rattle.pg_types.specs.Faults.{Outcome, Answers, refusal_of, decode}
 use Rattle.pg_base.proofs.FormatLaws.{be-back, be-length, be-single, fits}
 use Rattle.pg_base.specs.Formats.{IsGrammar, Decodes}
 use Rattle.pg_base.specs.Moments.{base_nanos, cut_micros, IsAfterBase}
 use Rattle.pg_base.specs.Numbers.{FormSigned, wire_signed}
 use Rattle.pg_base.specs.Appending.{Wire}
-use Rattle.pg_base.specs.declared.fault.Fault.{Fault}
+use Rattle.pg_types.specs.declared.fault.Fault.{Fault}
 
 test_le : (a b : ℤ) → a ≤ℤ b → int_le a b ≡ true
 test_le a b h = true_from_ne_false _ (λ f. let over = le-false a b f in omega (arith, signed_arith, h))

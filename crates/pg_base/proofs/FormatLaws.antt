@@ -10,7 +10,7 @@ use Rattle.std.specs.Int.{Width, w8, w16, w32, w64, w128, byte_len, bytes_high_f
 use mir.Val.{bits, hbits}
 use Rattle.pg_base.specs.Bytes.{FormBytes, first_fault_bytes}
 use Rattle.pg_base.specs.Cells.{be, signed_in, IsBe, IsBeUnsigned}
-use Rattle.pg_base.specs.Faults.{Refusal}
+use Rattle.pg_types.specs.Faults.{Refusal}
 use Rattle.pg_base.specs.Formats.{Checks, IsGrammar, first_fault_of}
 use Rattle.pg_base.specs.Numbers.{FormSigned, FormUnsigned, FormBool, first_fault_number, fits_signed}
 use Rattle.pg_base.specs.Texts.{FormText, first_fault_text}

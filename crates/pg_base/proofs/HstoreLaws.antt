@@ -6,7 +6,7 @@ use Rattle.std.proofs.lemmas.List.{length-append}
 use Rattle.std.proofs.lemmas.Str.{is_utf8-from_IsUtf8, IsUtf8-nil}
 use Rattle.std.specs.Str.{is_utf8}
 use Rattle.pg_base.specs.Cells.{Cell}
-use Rattle.pg_base.specs.Faults.{Refusal, size, utf8, key_length}
+use Rattle.pg_types.specs.Faults.{Refusal, size, utf8, key_length}
 use Rattle.pg_base.proofs.CellLaws.{IsCellThen, bytes_or_none, cell_by, cell_in, cell_then}
 use Rattle.pg_base.proofs.CountLaws.{number_then}
 use Rattle.pg_base.specs.Counts.{checks_of_next, next_checks, ToRead, behind_cell, bytes_in, has_number, not_negative, number_in, stated}

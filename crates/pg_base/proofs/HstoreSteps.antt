@@ -1,7 +1,7 @@
 -- Steps of reading an hstore.
 use Rattle.std.proofs.Common.{◌≡◌, ℕ, zero, suc, List, Some, sym, ◌∙◌, ap, refl}
 use Rattle.pg_base.specs.Counts.{checks_of_next, next_checks, ToRead}
-use Rattle.pg_base.specs.Faults.{Refusal}
+use Rattle.pg_types.specs.Faults.{Refusal}
 use Rattle.pg_base.specs.Formats.{first_fault_of}
 use Rattle.pg_base.specs.Hstore.{entry_checks}
 

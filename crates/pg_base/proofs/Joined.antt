@@ -5,7 +5,7 @@ use Rattle.std.proofs.lemmas.Bool.Decides.{nat_tests}
 use Rattle.std.proofs.lemmas.List.{length-map}
 use Rattle.std.specs.Int.{w32}
 use Rattle.bytes.specs.Filled.{Filled}
-use Rattle.pg_base.specs.declared.fault.Fault.{Fault}
+use Rattle.pg_types.specs.declared.fault.Fault.{Fault}
 use Rattle.pg_base.specs.Appending.{Appends, Extends, HasRoomFor}
 use Rattle.pg_base.specs.Cells.{be, frame, joined}
 use Rattle.pg_base.specs.Counts.{count_bytes}

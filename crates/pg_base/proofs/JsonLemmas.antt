@@ -6,7 +6,7 @@ use Rattle.std.proofs.lemmas.Str.{is_utf8-from_IsUtf8, IsUtf8-from_is_utf8}
 use Rattle.serde_json.specs.Data.{Data}
 use Rattle.serde_json.specs.Read.{read}
 use Rattle.serde_json.specs.Written.{has_float}
-use Rattle.pg_base.specs.Faults.{json_text, json_number}
+use Rattle.pg_types.specs.Faults.{json_text, json_number}
 use Rattle.pg_base.specs.Json.{document_of, first_fault_json}
 
 unread : (b : List ℕ) (t : Bool) → is_utf8 b ≡ t → (IsUtf8 b → read b ≡ None) → document_of b ≡ None

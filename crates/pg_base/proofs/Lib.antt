@@ -6,10 +6,7 @@ pub mod BitsLaws
 pub mod CellLaws
 pub mod CellRows
 pub mod CivilLaws
-pub mod Contents
 pub mod CountLaws
-pub mod DerivedTypes
-pub mod Fields
 pub mod FormatLaws
 pub mod FrameLaws
 pub mod FrameLists

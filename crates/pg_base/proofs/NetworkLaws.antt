@@ -4,7 +4,7 @@ use Rattle.std.proofs.Common.{sym, ◌∙◌, ap, arith, eq-eqb, le-leb}
 use Rattle.std.specs.Net.Addr.{ipv4_octets, ipv6_segments, octets_of}
 use Rattle.std.specs.declared.net.ip_addr.IpAddr.{IpAddr}
 use Rattle.std.specs.declared.net.ip_addr.IpAddr.TheVariants.{V4, V6}
-use Rattle.pg_base.specs.Faults.{host_bits}
+use Rattle.pg_types.specs.Faults.{host_bits}
 use Rattle.pg_base.specs.Formats.{Checks, IsGrammar, first_fault_of}
 use Rattle.pg_base.specs.Network.{FormAddress, FormCidr, FormInet, Network, address_len, address_octets, family_of, first_fault_cidr, first_fault_inet, host_part, inet_checks, network_bytes, with_netmask}
 

@@ -3,7 +3,7 @@ use Rattle.std.proofs.Common.{◌≡◌, ℕ, List, Bool, true, false, Some, Non
 use Rattle.std.specs.Prelude.{IsUtf8}
 use Rattle.std.specs.Str.{is_utf8}
 use Rattle.std.proofs.lemmas.Str.{is_utf8-from_IsUtf8, IsUtf8-from_is_utf8}
-use Rattle.pg_base.specs.Faults.{utf8, transmit}
+use Rattle.pg_types.specs.Faults.{utf8, transmit}
 use Rattle.pg_base.specs.Cells.{versioned_cell}
 use Rattle.pg_base.specs.Texts.{first_fault_text, wire_text}
 

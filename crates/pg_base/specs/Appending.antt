@@ -2,9 +2,9 @@
 use Rattle.std.specs.Prelude.{◌≡◌, ℕ, ◌+◌, ◌<◌, ◌≤◌, List, ◌++◌, length, Option, Some, None, Result, Ok, Err, ⊤}
 use Rattle.bytes.specs.Filled.{Filled}
 use Rattle.pg_base.specs.Cells.{Cell}
-use Rattle.pg_base.specs.Faults.{Refusal, transmit}
-use Rattle.pg_base.specs.declared.fault.Fault.{Fault}
-use Rattle.pg_base.specs.declared.fault.Fault.TheVariants.{Memory, Transmit}
+use Rattle.pg_types.specs.Faults.{Refusal, transmit}
+use Rattle.pg_types.specs.declared.fault.Fault.{Fault}
+use Rattle.pg_types.specs.declared.fault.Fault.TheVariants.{Memory, Transmit}
 
 -- a written form: a cell, or a refusal
 abbrev pub Wire : Type 0

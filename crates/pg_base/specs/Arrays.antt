@@ -2,10 +2,10 @@
 -- elements' OID in four bytes each, and for each dimension its length and its lower bound.
 use Rattle.std.specs.Prelude.{◌≡◌, ℕ, zero, suc, List, [], ◌∷◌, ◌++◌, length, drop, Option, false, nat_le, Result, ℤ, pos, option_map, Bool, ◌||◌, is_none, if◌then◌else◌, Vec}
 use Rattle.std.specs.Borrow.{Bor}
-use Rattle.pg_base.specs.declared.fault.Fault.{Fault}
+use Rattle.pg_types.specs.declared.fault.Fault.{Fault}
 use Rattle.pg_base.specs.Cells.{Cell, cell_of, Spells, CellsInRow, be, frames, joined}
 use Rattle.pg_base.specs.Counts.{IsCount, TakesNext, ToRead, cell_checks, count_checks, not_negative, number_in, stated, count_bytes}
-use Rattle.pg_base.specs.Faults.{size, count, dimensions}
+use Rattle.pg_types.specs.Faults.{size, count, dimensions}
 use Rattle.pg_base.specs.Formats.{Checks}
 use Rattle.std.specs.Global.{Global}
 use Rattle.std.specs.Int.{w32, to_be_bytes}

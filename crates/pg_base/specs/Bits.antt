@@ -5,10 +5,10 @@ use Rattle.std.specs.List.{range_with_len}
 use Rattle.pg_base.specs.Appending.{Wire, wire_of}
 use Rattle.pg_base.specs.Cells.{Cell, be}
 use Rattle.pg_base.specs.Counts.{IsCount, count_checks, number_in, stated}
-use Rattle.pg_base.specs.declared.types.built_in.BuiltIn.TheVariants.{Bit, Varbit}
-use Rattle.pg_base.specs.Content.{Content, is_row}
-use Rattle.pg_base.specs.Faults.{Refusal, Outcome, refusal_of, size, transmit}
-use Rattle.pg_base.specs.declared.fault.Fault.{Fault}
+use Rattle.pg_types.specs.declared.types.built_in.BuiltIn.TheVariants.{Bit, Varbit}
+use Rattle.pg_types.specs.Content.{Content, is_row}
+use Rattle.pg_types.specs.Faults.{Refusal, Outcome, refusal_of, size, transmit}
+use Rattle.pg_types.specs.declared.fault.Fault.{Fault}
 use Rattle.pg_base.specs.Formats.{first_fault_of, ReadsPlain}
 
 -- BIT and VARBIT

@@ -1,7 +1,7 @@
 -- Bytes: BYTEA (byteasend, bytearecv).
 use Rattle.std.specs.Prelude.{◌≡◌, ℕ, List, [], Option, Some, Ok}
 use Rattle.pg_base.specs.Cells.{Cell}
-use Rattle.pg_base.specs.Faults.{Refusal, Outcome}
+use Rattle.pg_types.specs.Faults.{Refusal, Outcome}
 use Rattle.pg_base.specs.Formats.{first_fault_of, ReadsPlain}
 use Rattle.pg_base.specs.Appending.{Wire}
 

@@ -5,7 +5,7 @@ use Rattle.std.specs.Int.{Width, w32, w64, byte_len}
 use Rattle.jiff.specs.Types.{Date, Time, DateTime, Timestamp}
 use Rattle.jiff.specs.Words.{epoch_day, time_nanos, civil_nanos, IsBetween}
 use Rattle.pg_base.specs.Cells.{Cell, IsBe, signed_in}
-use Rattle.pg_base.specs.Faults.{Refusal, Outcome, size, decode}
+use Rattle.pg_types.specs.Faults.{Refusal, Outcome, size, decode}
 use Rattle.pg_base.specs.Formats.{first_fault_of, ReadsPlain}
 use Rattle.pg_base.specs.Moments.{IsAfterBase, wire_timestamp}
 use Rattle.pg_base.specs.Numbers.{wire_signed}

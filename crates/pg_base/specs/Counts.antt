@@ -3,8 +3,8 @@ use Rattle.std.specs.Prelude.{◌≡◌, ◌==◌, ◌+◌, zero, suc, Result, O
 use Rattle.std.specs.Borrow.{Bor}
 use Rattle.std.specs.Int.{w32}
 use Rattle.pg_base.specs.Cells.{be, IsBe, signed_in}
-use Rattle.pg_base.specs.declared.fault.Fault.{Fault}
-use Rattle.pg_base.specs.Faults.{refusal_of, size, count}
+use Rattle.pg_types.specs.declared.fault.Fault.{Fault}
+use Rattle.pg_types.specs.Faults.{refusal_of, size, count}
 use Rattle.pg_base.specs.Formats.{Checks, first_fault_of}
 
 -- whether four bytes are there

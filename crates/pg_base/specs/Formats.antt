@@ -1,7 +1,7 @@
 -- Plain formats: what bytes spell, and what cells read as.
 use Rattle.std.specs.Prelude.{◌≡◌, ℕ, List, [], ◌∷◌, Bool, if◌then◌else◌, Option, Some, None, Ok, Err}
 use Rattle.pg_base.specs.Cells.{Cell}
-use Rattle.pg_base.specs.Faults.{Refusal, Outcome, was_null}
+use Rattle.pg_types.specs.Faults.{Refusal, Outcome, was_null}
 
 -- checks, in their order: of each whether it is met, and the fault where it is not
 abbrev pub Checks : Type 0

@@ -8,11 +8,11 @@ use Rattle.std.specs.Ordering.{nat_cmp}
 use Rattle.std.specs.declared.cmp.Ordering.{Ordering}
 use Rattle.std.specs.declared.cmp.Ordering.TheVariants.{Less, Equal, Greater}
 use Rattle.std.specs.Str.{bytes_eq, is_utf8}
-use Rattle.pg_base.specs.declared.fault.Fault.{Fault}
+use Rattle.pg_types.specs.declared.fault.Fault.{Fault}
 use Rattle.pg_base.specs.Appending.{Wire, wire_of}
 use Rattle.pg_base.specs.Cells.{Cell, cell_of, frame, Spells, joined}
 use Rattle.pg_base.specs.Counts.{IsCount, TakesNext, ToRead, behind_cell, bytes_in, count_checks, has_cell, has_number, not_negative, number_in, stated, count_bytes}
-use Rattle.pg_base.specs.Faults.{Refusal, Outcome, size, utf8, key_length}
+use Rattle.pg_types.specs.Faults.{Refusal, Outcome, size, utf8, key_length}
 use Rattle.pg_base.specs.Formats.{Checks, first_fault_of, ReadsPlain}
 use Rattle.pg_base.specs.Options.{NoneOr}
 

@@ -1,7 +1,7 @@
 -- Identifiers: MACADDR (macaddr_send, macaddr_recv), of six bytes, and UUID (uuid_send, uuid_recv), of sixteen.
 use Rattle.std.specs.Prelude.{◌≡◌, ℕ, ◌==◌, List, length, Some, if◌then◌else◌, Ok, Err}
 use Rattle.pg_base.specs.Cells.{Cell}
-use Rattle.pg_base.specs.Faults.{Outcome, transmit}
+use Rattle.pg_types.specs.Faults.{Outcome, transmit}
 use Rattle.pg_base.specs.Formats.{ReadsPlain}
 use Rattle.pg_base.specs.Numbers.{first_fault_number}
 use Rattle.pg_base.specs.Appending.{Wire}

@@ -5,11 +5,11 @@ use Rattle.std.specs.Str.{is_utf8}
 use Rattle.serde_json.specs.Data.{Data}
 use Rattle.serde_json.specs.Read.{read}
 use Rattle.serde_json.specs.Written.{has_float, compact_text}
-use Rattle.pg_base.specs.declared.types.built_in.BuiltIn.TheVariants.{Json, Jsonb}
+use Rattle.pg_types.specs.declared.types.built_in.BuiltIn.TheVariants.{Json, Jsonb}
 use Rattle.pg_base.specs.Appending.{Wire}
 use Rattle.pg_base.specs.Cells.{Cell, versioned_cell}
-use Rattle.pg_base.specs.Content.{Content, is_row}
-use Rattle.pg_base.specs.Faults.{Refusal, Outcome, size, json_version, json_text, json_number}
+use Rattle.pg_types.specs.Content.{Content, is_row}
+use Rattle.pg_types.specs.Faults.{Refusal, Outcome, size, json_version, json_text, json_number}
 use Rattle.pg_base.specs.Formats.{Checks, first_fault_of, ReadsPlain}
 
 -- documents accept JSON and JSONB

@@ -2,16 +2,10 @@
 pub mod Appending
 pub mod Arrays
 pub mod Bits
-pub mod BuiltInRows
 pub mod Bytes
 pub mod Cells
 pub mod Civil
-pub mod Constants
-pub mod Content
 pub mod Counts
-pub mod Digest
-pub mod Faults
-pub mod FaultTexts
 pub mod Formats
 pub mod Hstore
 pub mod Identifiers
@@ -23,6 +17,5 @@ pub mod Network
 pub mod Numbers
 pub mod Options
 pub mod Sameness
-pub mod Seen
 pub mod Special
 pub mod Texts

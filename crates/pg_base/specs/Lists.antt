@@ -1,6 +1,6 @@
 -- Lists: the types from which they are read and to which they are written.
 use Rattle.std.specs.Prelude.{Option, Some, None, Bool, false}
-use Rattle.pg_base.specs.Content.{Content, KindContent, SimpleKind, EnumKind, PseudoKind, ArrayKind, RangeKind, MultirangeKind, DomainKind, CompositeKind, kind_of}
+use Rattle.pg_types.specs.Content.{Content, KindContent, SimpleKind, EnumKind, PseudoKind, ArrayKind, RangeKind, MultirangeKind, DomainKind, CompositeKind, kind_of}
 
 -- the member of a kind of array
 abbrev pub member_of_kind : KindContent → Option Content

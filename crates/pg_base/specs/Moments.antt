@@ -2,11 +2,11 @@
 -- format. A moment is told by its nanoseconds from 1970-01-01 00:00:00 UTC.
 use Rattle.std.specs.Prelude.{◌≡◌, ℤ, pos, ◌+ℤ◌, ◌-ℤ◌, ◌*ℤ◌, int_div, ℕ, List, Bool, ◌||◌}
 use Rattle.std.specs.Int.{w64}
-use Rattle.pg_base.specs.declared.types.built_in.BuiltIn.TheVariants.{Timestamp, Timestamptz}
+use Rattle.pg_types.specs.declared.types.built_in.BuiltIn.TheVariants.{Timestamp, Timestamptz}
 use Rattle.pg_base.specs.declared.unix_time.UnixTime.{UnixTime}
 use Rattle.pg_base.specs.Cells.{Cell, IsBe}
-use Rattle.pg_base.specs.Content.{Content, is_row}
-use Rattle.pg_base.specs.Faults.{Outcome}
+use Rattle.pg_types.specs.Content.{Content, is_row}
+use Rattle.pg_types.specs.Faults.{Outcome}
 use Rattle.pg_base.specs.Formats.{ReadsPlain}
 use Rattle.pg_base.specs.Numbers.{first_fault_number, wire_signed}
 use Rattle.pg_base.specs.Appending.{Wire}

@@ -5,7 +5,7 @@ use Rattle.std.specs.Net.Addr.{ipv4_octets, ipv6_octets}
 use Rattle.std.specs.declared.net.ip_addr.IpAddr.{IpAddr}
 use Rattle.std.specs.declared.net.ip_addr.IpAddr.TheVariants.{V4, V6}
 use Rattle.pg_base.specs.Cells.{Cell}
-use Rattle.pg_base.specs.Faults.{Refusal, Outcome, size, family, netmask, address_length, host_bits, transmit}
+use Rattle.pg_types.specs.Faults.{Refusal, Outcome, size, family, netmask, address_length, host_bits, transmit}
 use Rattle.pg_base.specs.Formats.{Checks, first_fault_of, ReadsPlain}
 use Rattle.pg_base.specs.Appending.{Wire}
 

@@ -4,7 +4,7 @@ use Rattle.std.specs.Prelude.{◌≡◌, ℕ, ◌-◌, ◌^◌, ◌==◌, ℤ, p
 use Rattle.std.specs.Int.{Width, byte_len, to_be_bytes}
 use mir.Val.{bits}
 use Rattle.pg_base.specs.Cells.{Cell, be, IsBe, IsBeUnsigned}
-use Rattle.pg_base.specs.Faults.{Refusal, Outcome, size, transmit}
+use Rattle.pg_types.specs.Faults.{Refusal, Outcome, size, transmit}
 use Rattle.pg_base.specs.Formats.{first_fault_of, ReadsPlain}
 use Rattle.pg_base.specs.Appending.{Wire}
 

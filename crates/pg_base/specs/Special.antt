@@ -7,11 +7,11 @@ use Rattle.pg_base.specs.declared.special.Date.{Date}
 use Rattle.pg_base.specs.declared.special.Date.TheVariants.{PosInfinity as AfterDates, NegInfinity as BeforeDates, Value as OneDate}
 use Rattle.pg_base.specs.declared.special.Timestamp.{Timestamp}
 use Rattle.pg_base.specs.declared.special.Timestamp.TheVariants.{PosInfinity as AfterMoments, NegInfinity as BeforeMoments, Value as OneMoment}
-use Rattle.pg_base.specs.declared.types.built_in.BuiltIn.TheVariants.{Date as DateRow}
+use Rattle.pg_types.specs.declared.types.built_in.BuiltIn.TheVariants.{Date as DateRow}
 use Rattle.pg_base.specs.Appending.{Wire}
 use Rattle.pg_base.specs.Cells.{Cell, be}
-use Rattle.pg_base.specs.Content.{Content, is_row}
-use Rattle.pg_base.specs.Faults.{Refusal, Outcome, size}
+use Rattle.pg_types.specs.Content.{Content, is_row}
+use Rattle.pg_types.specs.Faults.{Refusal, Outcome, size}
 use Rattle.pg_base.specs.Formats.{NotNull}
 use Rattle.pg_base.specs.Moments.{accepted_moment}
 

@@ -3,10 +3,10 @@
 use Rattle.std.specs.Prelude.{◌≡◌, ℕ, ◌==◌, ◌||◌, List, [], ◌∷◌, Bool, true, false, Option, Some, IsUtf8, drop, slice_index, if◌then◌else◌, codes, Ok, Err}
 use Rattle.std.specs.Cmp.Lexicographic.{pointwise}
 use Rattle.std.specs.Str.{is_utf8}
-use Rattle.pg_base.specs.declared.types.built_in.BuiltIn.TheVariants.{Varchar, Text, Bpchar, Name, Unknown}
+use Rattle.pg_types.specs.declared.types.built_in.BuiltIn.TheVariants.{Varchar, Text, Bpchar, Name, Unknown}
 use Rattle.pg_base.specs.Cells.{Cell, versioned_cell}
-use Rattle.pg_base.specs.Content.{Content, is_row, name_of}
-use Rattle.pg_base.specs.Faults.{Refusal, Outcome, utf8, text_version, transmit}
+use Rattle.pg_types.specs.Content.{Content, is_row, name_of}
+use Rattle.pg_types.specs.Faults.{Refusal, Outcome, utf8, text_version, transmit}
 use Rattle.pg_base.specs.Formats.{first_fault_of, ReadsPlain}
 use Rattle.pg_base.specs.Appending.{Wire}
 

@@ -1,10 +1,10 @@
 //! Tests of acceptance that reading and writing share.
 ghost use Rattle.std.specs.Prelude.{◌≡◌, codes, option_map};
 ghost use Rattle.std.specs.Cow.{cow_value};
-ghost use Rattle.pg_base.specs.declared.types.built_in.BuiltIn.TheVariants.{Date, Jsonb};
+ghost use Rattle.pg_types.specs.declared.types.built_in.BuiltIn.TheVariants.{Date, Jsonb};
 ghost use Rattle.pg_base.specs.Lists.{member_of};
 ghost use Rattle.pg_base.specs.Bits.{accepted_bits};
-ghost use Rattle.pg_base.specs.Content.{content, is_row};
+ghost use Rattle.pg_types.specs.Content.{content, is_row};
 ghost use Rattle.pg_base.specs.Json.{accepted_json};
 ghost use Rattle.pg_base.specs.Moments.{accepted_moment};
 ghost use Rattle.pg_base.specs.Texts.{accepted_text, has_version, is_named};
@@ -15,7 +15,7 @@ use std::borrow::Cow;
 /// Whether texts are read from cells of that type and written to them: VARCHAR, TEXT, BPCHAR, NAME,
 /// UNKNOWN, and any type that is named citext, ltree, lquery or ltxtquery, whatever its schema and
 /// its kind.
-#[tactic(auto, using(crate::proofs::DerivedTypes::eq_content))]
+#[tactic(auto, using(pg_types::proofs::DerivedTypes::eq_content))]
 pub fn is_text(ty: &PgType) -> bool
     ensures { result ≡ accepted_text (content ty.now) }
 {
@@ -45,7 +45,7 @@ pub fn is_hstore(ty: &PgType) -> bool
 }
 
 /// Whether lists of bits are read from cells of that type and written to them: BIT and VARBIT.
-#[tactic(auto, using(crate::proofs::DerivedTypes::eq_content))]
+#[tactic(auto, using(pg_types::proofs::DerivedTypes::eq_content))]
 pub fn is_bits(ty: &PgType) -> bool
     ensures { result ≡ accepted_bits (content ty.now) }
 {
@@ -53,7 +53,7 @@ pub fn is_bits(ty: &PgType) -> bool
 }
 
 /// Whether moments are read from cells of that type and written to them: TIMESTAMP and TIMESTAMPTZ.
-#[tactic(auto, using(crate::proofs::DerivedTypes::eq_content))]
+#[tactic(auto, using(pg_types::proofs::DerivedTypes::eq_content))]
 pub fn is_moment(ty: &PgType) -> bool
     ensures { result ≡ accepted_moment (content ty.now) }
 {
@@ -61,7 +61,7 @@ pub fn is_moment(ty: &PgType) -> bool
 }
 
 /// Whether dates are read from cells of that type and written to them: DATE.
-#[tactic(auto, using(crate::proofs::DerivedTypes::eq_content))]
+#[tactic(auto, using(pg_types::proofs::DerivedTypes::eq_content))]
 pub fn is_date(ty: &PgType) -> bool
     ensures { result ≡ is_row Date (content ty.now) }
 {
@@ -69,7 +69,7 @@ pub fn is_date(ty: &PgType) -> bool
 }
 
 /// Whether documents are read from cells of that type and written to them: JSON and JSONB.
-#[tactic(auto, using(crate::proofs::DerivedTypes::eq_content))]
+#[tactic(auto, using(pg_types::proofs::DerivedTypes::eq_content))]
 pub fn is_json(ty: &PgType) -> bool
     ensures { result ≡ accepted_json (content ty.now) }
 {
@@ -77,7 +77,7 @@ pub fn is_json(ty: &PgType) -> bool
 }
 
 /// Whether a document's cell begins with a version: the type is JSONB.
-#[tactic(auto, using(crate::proofs::DerivedTypes::eq_content))]
+#[tactic(auto, using(pg_types::proofs::DerivedTypes::eq_content))]
 pub fn is_jsonb(ty: &PgType) -> bool
     ensures { result ≡ is_row Jsonb (content ty.now) }
 {

@@ -2,7 +2,7 @@
 ghost use Rattle.std.specs.Prelude.{◌≡◌, ◌==◌, ◌*◌, ◌<◌, ◌≤◌, ℕ, List, [], Bool, length, IfOk, IfErr, slice_get, if◌then◌else◌};
 ghost use Rattle.std.specs.Bool.{beq};
 ghost use Rattle.std.specs.Cmp.Lexicographic.{pointwise};
-ghost use Rattle.pg_base.specs.declared.fault.Fault.TheVariants.{Memory};
+ghost use Rattle.pg_types.specs.declared.fault.Fault.TheVariants.{Memory};
 ghost use Rattle.std.specs.Cmp.{bool_eq_equiv, partial_equiv_from_equiv};
 ghost use Rattle.std.proofs.lemmas.Cmp.{lists_equiv};
 ghost use Rattle.pg_base.specs.Bits.{Pops, Pushes, TakesBytes, bit_of, bytes_for, first_bits, packed};

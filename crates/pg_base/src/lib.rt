@@ -7,12 +7,11 @@
 pub mod acceptance;
 pub mod bits;
 pub mod epoch;
-pub mod fault;
-pub mod format;
 pub mod json;
 pub mod lsn;
 pub mod network;
 pub mod protocol;
 pub mod special;
-pub mod types;
 pub mod unix_time;
+
+pub use pg_types::{fault, format, types};

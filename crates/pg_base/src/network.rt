@@ -1,6 +1,6 @@
 //! Internet addresses with their netmasks, and hardware addresses.
 ghost use Rattle.std.specs.Prelude.{◌≡◌, ℕ, ◌==◌, List, not};
-ghost use Rattle.pg_base.specs.Faults.{Answers, NeverMemory};
+ghost use Rattle.pg_types.specs.Faults.{Answers, NeverMemory};
 ghost use Rattle.pg_base.specs.Network.{Made, Network, NetmaskFits, NoHostBits, address_bits, address_octets, first_fault_netmask, first_fault_network, host_part, with_netmask};
 
 pub mod laws;

@@ -8,7 +8,7 @@ use Rattle.std.proofs.lemmas.Option.{IfSome_then}
 use Rattle.pg_base.specs.Arrays.{SpellsHead}
 use Rattle.pg_base.specs.Cells.{Cell, Spells}
 use Rattle.pg_base.specs.Counts.{next_checks, cell_checks, ToRead, nothing}
-use Rattle.pg_base.specs.Faults.{Refusal, Outcome, excess, too_few}
+use Rattle.pg_types.specs.Faults.{Refusal, Outcome, excess, too_few}
 use Rattle.pg_base.proofs.FormatLaws.{check_failed, checks_met}
 use Rattle.pg_base.specs.Formats.{first_fault_of}
 use Rattle.pg_base.proofs.CellRows.{AreBytes}

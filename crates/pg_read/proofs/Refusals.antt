@@ -1,10 +1,10 @@
 -- Refusals of a format with more checks.
 use Rattle.std.proofs.Common.{◌≡◌, ℕ, List, [], ◌∷◌, ◌++◌, Bool, true, false, Option, Some, None, Result, Ok, Err, ◌==◌, drop}
 use Rattle.std.specs.Prelude.{IfSome, IsErrAnd, slice_index}
-use Rattle.pg_base.specs.Faults.{Refusal, Answers, refusal_of, host_bits}
+use Rattle.pg_types.specs.Faults.{Refusal, Answers, refusal_of, host_bits}
 use Rattle.pg_base.specs.Formats.{Decodes, first_fault_of}
 use Rattle.pg_base.specs.Network.{FormCidr, FormInet, Network, first_fault_inet, first_fault_cidr, host_part, inet_checks}
-use Rattle.pg_base.specs.declared.fault.Fault.{Fault}
+use Rattle.pg_types.specs.declared.fault.Fault.{Fault}
 
 -- the first check that fails is the first with more checks behind it too
 first_fault-more : (checks more : List (Bool × Refusal)) (r : Refusal) → first_fault_of checks ≡ Some r → first_fault_of (checks ++ more) ≡ Some r

@@ -2,8 +2,8 @@
 use Rattle.std.proofs.Common.{◌≡◌, ℕ, List, ◌∷◌, ◌++◌, [], length, Option, Some, None, Result, Ok, Err, refl, sym, subst, arith, inl, inr}
 use Rattle.pg_base.proofs.CellLaws.{cells_single, frames_in_row}
 use Rattle.pg_base.specs.Cells.{Cell, CellsInRow}
-use Rattle.pg_base.specs.Faults.{Refusal, Outcome, refusal_of}
-use Rattle.pg_base.specs.declared.fault.Fault.{Fault}
+use Rattle.pg_types.specs.Faults.{Refusal, Outcome, refusal_of}
+use Rattle.pg_types.specs.declared.fault.Fault.{Fault}
 use Rattle.pg_read.proofs.ListSteps.{fault_more, fault_stays}
 use Rattle.pg_read.specs.ListLaws.{all_single}
 use Rattle.pg_read.specs.ListReading.{ReadsAll}

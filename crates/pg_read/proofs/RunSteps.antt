@@ -3,8 +3,8 @@ use Rattle.std.proofs.Common.{◌≡◌, ℕ, ◌<◌, ◌≤◌, List, [], ◌�
 use Rattle.std.specs.Prelude.{IfSome}
 use Rattle.pg_base.proofs.CellRows.{AreBytes, row_bytes}
 use Rattle.pg_base.specs.Cells.{Cell, SpellsNone, SpellsAll, CellsInRow}
-use Rattle.pg_base.specs.Faults.{Refusal, Outcome, refusal_of, size}
-use Rattle.pg_base.specs.declared.fault.Fault.{Fault}
+use Rattle.pg_types.specs.Faults.{Refusal, Outcome, refusal_of, size}
+use Rattle.pg_types.specs.declared.fault.Fault.{Fault}
 use Rattle.pg_read.proofs.ListSteps.{cells_behind, spelled_more, value_next}
 use Rattle.pg_read.specs.Framed.{ReadsFirst, ReadsFramed, after_cut}
 use Rattle.pg_read.specs.ListReading.{ReadsAll}

@@ -1,7 +1,7 @@
 -- Reading a box.
 use Rattle.std.specs.Prelude.{Some, Ok, Err}
 use Rattle.pg_base.specs.Cells.{Cell}
-use Rattle.pg_base.specs.Faults.{Outcome}
+use Rattle.pg_types.specs.Faults.{Outcome}
 use Rattle.pg_base.specs.Formats.{NotNull}
 
 -- a box of what the value inside gives, or its fault

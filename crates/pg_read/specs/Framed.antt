@@ -3,8 +3,8 @@ use Rattle.std.specs.Prelude.{◌≡◌, ℕ, ℤ, ◌<◌, nat_lt, if◌then◌
 use Rattle.std.specs.Borrow.{Bor}
 use Rattle.std.specs.Int.{w32}
 use Rattle.pg_base.specs.Cells.{Cell, cell_of, IsBe, Spells, SpellsNone, CellsInRow}
-use Rattle.pg_base.specs.Faults.{Outcome, Answers, NeverMemory, refusal_of, size}
-use Rattle.pg_base.specs.declared.fault.Fault.{Fault}
+use Rattle.pg_types.specs.Faults.{Outcome, Answers, NeverMemory, refusal_of, size}
+use Rattle.pg_types.specs.declared.fault.Fault.{Fault}
 
 -- the call answered Size
 abbrev pub AnswersSize : {A : Type 0} → Result A Fault → Type 0

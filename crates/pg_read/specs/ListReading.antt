@@ -2,8 +2,8 @@
 use Rattle.std.specs.Prelude.{◌≡◌, ◌⊎◌, ◌==◌, nat_le, ℕ, List, [], ◌∷◌, ◌++◌, length, take, Option, Some, None, Ok, Err}
 use Rattle.pg_base.specs.Arrays.{ArrayBody, head_checks}
 use Rattle.pg_base.specs.Cells.{Cell}
-use Rattle.pg_base.specs.Content.{Content}
-use Rattle.pg_base.specs.Faults.{Outcome, size, too_few, excess}
+use Rattle.pg_types.specs.Content.{Content}
+use Rattle.pg_types.specs.Faults.{Outcome, size, too_few, excess}
 use Rattle.pg_base.specs.Formats.{Checks, NotNull, first_fault_of}
 
 -- what cells, or other things that give values, give in their order: the values, or the first fault

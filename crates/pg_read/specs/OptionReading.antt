@@ -1,7 +1,7 @@
 -- Reading an option.
 use Rattle.std.specs.Prelude.{Option, Some, None, Ok, Err}
 use Rattle.pg_base.specs.Cells.{Cell}
-use Rattle.pg_base.specs.Faults.{Outcome}
+use Rattle.pg_types.specs.Faults.{Outcome}
 
 -- the outcome None
 abbrev pub IsNoneOutcome : {A : Type 0} → Outcome (Option A) → Type 0

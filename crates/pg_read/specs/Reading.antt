@@ -1,7 +1,7 @@
 -- What reading is: a relation between a cell and its outcome.
 use Rattle.std.specs.Prelude.{◌≡◌, Some, None, Ok, Err}
 use Rattle.pg_base.specs.Cells.{Cell}
-use Rattle.pg_base.specs.Faults.{Outcome}
+use Rattle.pg_types.specs.Faults.{Outcome}
 
 -- two outcomes are the same value, or the same fault
 abbrev pub SameOutcome : {A : Type 0} → (A → A → Type 0) → Outcome A → Outcome A → Type 0

@@ -3,7 +3,7 @@ use Rattle.std.specs.Prelude.{◌≡◌, ℕ, List, length, Option, Some, None, 
 use Rattle.std.proofs.Common.{sym, ◌∙◌, ap, inl, inr}
 use Rattle.std.specs.Int.{Width}
 use Rattle.pg_base.specs.Cells.{Cell}
-use Rattle.pg_base.specs.Faults.{Refusal, Outcome}
+use Rattle.pg_types.specs.Faults.{Refusal, Outcome}
 use Rattle.pg_base.specs.Formats.{Decodes, NotNull, ReadsPlain, IsGrammar}
 use Rattle.pg_base.specs.Sameness.{SameOption}
 use Rattle.pg_base.specs.Special.{Special, pos_infinity, neg_infinity, value, DecodesSpecial, FormSpecial, RefusedSpecial, ReadsSpecial, SameSpecial}

@@ -1,9 +1,9 @@
 -- Reading a run of framed cells from the front of a slice: what is answered, and where the slice stands then.
 use Rattle.std.specs.Prelude.{◌≡◌, ◌⊎◌, ◌<◌, ℕ, List, [], ◌∷◌, ◌++◌, length, Option, Some, None, Result, Ok, Err}
 use Rattle.pg_base.specs.Cells.{Cell, SpellsAll, CellsInRow, frames}
-use Rattle.pg_base.specs.Faults.{Refusal, Outcome, refusal_of, size}
+use Rattle.pg_types.specs.Faults.{Refusal, Outcome, refusal_of, size}
 use Rattle.pg_base.specs.Sameness.{SameList}
-use Rattle.pg_base.specs.declared.fault.Fault.{Fault}
+use Rattle.pg_types.specs.declared.fault.Fault.{Fault}
 use Rattle.pg_read.specs.Framed.{after_cut}
 use Rattle.pg_read.specs.ListReading.{ReadsAll}
 

@@ -1,8 +1,8 @@
 //! Reading arrays of a length that the type states.
 ghost use Rattle.std.specs.Prelude.{Some, IsTrue};
 ghost use Rattle.pg_base.specs.Lists.{accepted_list, member_of};
-ghost use Rattle.pg_base.specs.Content.{content};
-ghost use Rattle.pg_base.specs.Faults.{Answers};
+ghost use Rattle.pg_types.specs.Content.{content};
+ghost use Rattle.pg_types.specs.Faults.{Answers};
 ghost use Rattle.pg_base.proofs.SamenessLaws.{list_equivalence};
 ghost use Rattle.pg_base.specs.Sameness.{SameList};
 ghost use Rattle.pg_read.specs.ListLaws.{fixed_single, members_single};

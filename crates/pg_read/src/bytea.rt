@@ -1,8 +1,8 @@
 //! Reading bytes.
 ghost use Rattle.std.specs.Prelude.{◌≡◌};
-ghost use Rattle.pg_base.specs.declared.types.built_in.BuiltIn.TheVariants.{Bytea};
+ghost use Rattle.pg_types.specs.declared.types.built_in.BuiltIn.TheVariants.{Bytea};
 ghost use Rattle.pg_base.specs.Bytes.{FormBytes, ReadsBytes, first_fault_bytes};
-ghost use Rattle.pg_base.specs.Content.{content, is_row};
+ghost use Rattle.pg_types.specs.Content.{content, is_row};
 ghost use Rattle.pg_base.proofs.FormatLaws.{bytes_grammar};
 ghost use Rattle.pg_base.proofs.SamenessLaws.{content_equivalence};
 ghost use Rattle.pg_read.specs.Reading.{EveryCell, NullAlone};
@@ -36,7 +36,7 @@ impl<'a> FromSql<'a> for &'a [u8] {
         Err(Fault::WasNull)
     }
 
-    #[tactic(auto, using(pg_base::proofs::DerivedTypes::eq_content))]
+    #[tactic(auto, using(pg_types::proofs::DerivedTypes::eq_content))]
     fn accepts(ty: &PgType) -> bool
         ensures { result ≡ is_row Bytea (content ty.now) }
     {
@@ -66,7 +66,7 @@ impl<'a> FromSql<'a> for Vec<u8> {
         Err(Fault::WasNull)
     }
 
-    #[tactic(auto, using(pg_base::proofs::DerivedTypes::eq_content))]
+    #[tactic(auto, using(pg_types::proofs::DerivedTypes::eq_content))]
     fn accepts(ty: &PgType) -> bool {
         *ty == PgType::BYTEA
     }

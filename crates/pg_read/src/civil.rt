@@ -4,11 +4,11 @@ ghost use Rattle.std.specs.Int.{w32, w64};
 ghost use Rattle.jiff.specs.Words.{civil_nanos, epoch_day, time_nanos};
 ghost use Rattle.pg_base.specs.Civil.{CountGives, FormCount, IsAfterMidnight, IsDayOf, ReadsDate, ReadsDateTime, ReadsInstant, ReadsTime, first_civil, first_day, first_fault_count, first_instant, instant_nanos, last_civil, last_day, last_instant, last_micros};
 ghost use Rattle.pg_base.proofs.CivilLaws.{date_grammar, datetime_grammar, instant_grammar, time_grammar};
-ghost use Rattle.pg_base.specs.Content.{is_row};
-ghost use Rattle.pg_base.specs.Faults.{Answers, NeverMemory};
+ghost use Rattle.pg_types.specs.Content.{is_row};
+ghost use Rattle.pg_types.specs.Faults.{Answers, NeverMemory};
 ghost use Rattle.pg_base.specs.Moments.{IsAfterBase};
 ghost use Rattle.pg_base.proofs.SamenessLaws.{content_equivalence};
-ghost use Rattle.pg_base.specs.declared.types.built_in.BuiltIn.TheVariants.{Date as DateRow, Time as TimeRow, Timestamp as TimestampRow, Timestamptz};
+ghost use Rattle.pg_types.specs.declared.types.built_in.BuiltIn.TheVariants.{Date as DateRow, Time as TimeRow, Timestamp as TimestampRow, Timestamptz};
 ghost use Rattle.pg_read.specs.Reading.{EveryCell};
 ghost use Rattle.pg_read.specs.ReadingLaws.{plain_single};
 
@@ -96,7 +96,7 @@ impl<'a> FromSql<'a> for Date {
         Err(Fault::WasNull)
     }
 
-    #[tactic(auto, using(pg_base::proofs::DerivedTypes::eq_content))]
+    #[tactic(auto, using(pg_types::proofs::DerivedTypes::eq_content))]
     fn accepts(ty: &PgType) -> bool {
         *ty == PgType::DATE
     }
@@ -127,7 +127,7 @@ impl<'a> FromSql<'a> for Time {
         Err(Fault::WasNull)
     }
 
-    #[tactic(auto, using(pg_base::proofs::DerivedTypes::eq_content))]
+    #[tactic(auto, using(pg_types::proofs::DerivedTypes::eq_content))]
     fn accepts(ty: &PgType) -> bool {
         *ty == PgType::TIME
     }
@@ -159,7 +159,7 @@ impl<'a> FromSql<'a> for DateTime {
         Err(Fault::WasNull)
     }
 
-    #[tactic(auto, using(pg_base::proofs::DerivedTypes::eq_content))]
+    #[tactic(auto, using(pg_types::proofs::DerivedTypes::eq_content))]
     fn accepts(ty: &PgType) -> bool {
         *ty == PgType::TIMESTAMP
     }
@@ -191,7 +191,7 @@ impl<'a> FromSql<'a> for Timestamp {
         Err(Fault::WasNull)
     }
 
-    #[tactic(auto, using(pg_base::proofs::DerivedTypes::eq_content))]
+    #[tactic(auto, using(pg_types::proofs::DerivedTypes::eq_content))]
     fn accepts(ty: &PgType) -> bool {
         *ty == PgType::TIMESTAMPTZ
     }

@@ -1,8 +1,8 @@
 //! The trait of reading.
 ghost use Rattle.std.specs.Prelude.{◌≡◌, Some, None, Bool, IsTrue};
 ghost use Rattle.pg_base.specs.Cells.{Cell, cell_of};
-ghost use Rattle.pg_base.specs.Content.{Content, content};
-ghost use Rattle.pg_base.specs.Faults.{Outcome, Answers, NeverMemory};
+ghost use Rattle.pg_types.specs.Content.{Content, content};
+ghost use Rattle.pg_types.specs.Faults.{Outcome, Answers, NeverMemory};
 ghost use Rattle.pg_base.specs.Sameness.{IsEquivalence};
 ghost use Rattle.pg_read.specs.Reading.{ReadsSingle};
 

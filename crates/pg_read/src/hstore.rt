@@ -1,6 +1,6 @@
 //! Reading maps of texts.
 ghost use Rattle.std.specs.Prelude.{◌≡◌, Option, None, codes, option_map, string_bytes, IfOk, IfErr};
-ghost use Rattle.pg_base.specs.declared.fault.Fault.TheVariants.{Memory};
+ghost use Rattle.pg_types.specs.declared.fault.Fault.TheVariants.{Memory};
 ghost use Rattle.pg_base.specs.Cells.{cell_of};
 ghost use Rattle.pg_base.specs.Hstore.{FormHstore, ReadsHstore, SameMap, first_fault_hstore, value_at};
 ghost use Rattle.pg_base.proofs.HstoreLaws.{hstore_grammar, value_equivalence};

@@ -1,7 +1,7 @@
 //! Reading identifiers.
 ghost use Rattle.std.specs.Prelude.{◌≡◌};
-ghost use Rattle.pg_base.specs.declared.types.built_in.BuiltIn.TheVariants.{Macaddr, Uuid as UuidRow};
-ghost use Rattle.pg_base.specs.Content.{is_row};
+ghost use Rattle.pg_types.specs.declared.types.built_in.BuiltIn.TheVariants.{Macaddr, Uuid as UuidRow};
+ghost use Rattle.pg_types.specs.Content.{is_row};
 ghost use Rattle.pg_base.specs.Identifiers.{FormIdentifier, ReadsIdentifier};
 ghost use Rattle.pg_base.proofs.IdentifiersLaws.{identifier_grammar};
 ghost use Rattle.pg_base.specs.Numbers.{first_fault_number};
@@ -40,7 +40,7 @@ impl<'a> FromSql<'a> for MacAddress {
         Err(Fault::WasNull)
     }
 
-    #[tactic(auto, using(pg_base::proofs::DerivedTypes::eq_content))]
+    #[tactic(auto, using(pg_types::proofs::DerivedTypes::eq_content))]
     fn accepts(ty: &PgType) -> bool {
         *ty == PgType::MACADDR
     }
@@ -69,7 +69,7 @@ impl<'a> FromSql<'a> for Uuid {
         Err(Fault::WasNull)
     }
 
-    #[tactic(auto, using(pg_base::proofs::DerivedTypes::eq_content))]
+    #[tactic(auto, using(pg_types::proofs::DerivedTypes::eq_content))]
     fn accepts(ty: &PgType) -> bool {
         *ty == PgType::UUID
     }

@@ -1,9 +1,9 @@
 //! Reading documents.
 ghost use Rattle.std.specs.Prelude.{◌≡◌, Some, true, false};
 ghost use Rattle.serde_json.specs.View.{view};
-ghost use Rattle.pg_base.specs.declared.types.built_in.BuiltIn.TheVariants.{Jsonb};
-ghost use Rattle.pg_base.specs.Content.{content, is_row};
-ghost use Rattle.pg_base.specs.Faults.{Answers};
+ghost use Rattle.pg_types.specs.declared.types.built_in.BuiltIn.TheVariants.{Jsonb};
+ghost use Rattle.pg_types.specs.Content.{content, is_row};
+ghost use Rattle.pg_types.specs.Faults.{Answers};
 ghost use Rattle.pg_base.specs.Json.{FormJson, ReadsJson, accepted_json, first_fault_json};
 ghost use Rattle.pg_base.proofs.JsonLaws.{json_grammar};
 ghost use Rattle.pg_base.proofs.SamenessLaws.{content_equivalence};

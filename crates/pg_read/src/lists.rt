@@ -2,8 +2,8 @@
 ghost use Rattle.std.specs.Prelude.{◌≡◌, Some, IsTrue};
 ghost use Rattle.std.specs.Box.{boxed_slice_items};
 ghost use Rattle.pg_base.specs.Lists.{accepted_list, member_of};
-ghost use Rattle.pg_base.specs.Content.{content};
-ghost use Rattle.pg_base.specs.Faults.{Answers};
+ghost use Rattle.pg_types.specs.Content.{content};
+ghost use Rattle.pg_types.specs.Faults.{Answers};
 ghost use Rattle.pg_base.proofs.SamenessLaws.{list_equivalence};
 ghost use Rattle.pg_base.specs.Sameness.{SameList};
 ghost use Rattle.pg_read.specs.ListLaws.{list_single, members_single};

@@ -1,8 +1,8 @@
 //! Reading log positions.
 ghost use Rattle.std.specs.Prelude.{◌≡◌};
 ghost use Rattle.std.specs.Int.{w64};
-ghost use Rattle.pg_base.specs.declared.types.built_in.BuiltIn.TheVariants.{PgLsn as PgLsnRow};
-ghost use Rattle.pg_base.specs.Content.{is_row};
+ghost use Rattle.pg_types.specs.declared.types.built_in.BuiltIn.TheVariants.{PgLsn as PgLsnRow};
+ghost use Rattle.pg_types.specs.Content.{is_row};
 ghost use Rattle.pg_base.proofs.LsnLaws.{lsn_grammar};
 ghost use Rattle.pg_base.specs.Numbers.{FormUnsigned, ReadsUnsigned, first_fault_number};
 ghost use Rattle.pg_base.proofs.SamenessLaws.{equal_equivalence};
@@ -39,7 +39,7 @@ impl<'a> FromSql<'a> for PgLsn {
         Err(Fault::WasNull)
     }
 
-    #[tactic(auto, using(pg_base::proofs::DerivedTypes::eq_content))]
+    #[tactic(auto, using(pg_types::proofs::DerivedTypes::eq_content))]
     fn accepts(ty: &PgType) -> bool {
         *ty == PgType::PG_LSN
     }

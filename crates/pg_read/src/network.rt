@@ -1,7 +1,7 @@
 //! Reading Internet addresses.
 ghost use Rattle.std.specs.Prelude.{◌≡◌};
-ghost use Rattle.pg_base.specs.declared.types.built_in.BuiltIn.TheVariants.{Cidr, Inet};
-ghost use Rattle.pg_base.specs.Content.{is_row};
+ghost use Rattle.pg_types.specs.declared.types.built_in.BuiltIn.TheVariants.{Cidr, Inet};
+ghost use Rattle.pg_types.specs.Content.{is_row};
 ghost use Rattle.pg_base.specs.Network.{FormAddress, FormCidr, FormInet, ReadsAddress, ReadsCidr, ReadsInet, first_fault_cidr, first_fault_inet};
 ghost use Rattle.pg_base.proofs.NetworkLaws.{address_grammar, cidr_grammar, inet_grammar};
 ghost use Rattle.pg_base.proofs.SamenessLaws.{equal_equivalence};
@@ -42,7 +42,7 @@ impl<'a> FromSql<'a> for IpAddr {
         Err(Fault::WasNull)
     }
 
-    #[tactic(auto, using(pg_base::proofs::DerivedTypes::eq_content))]
+    #[tactic(auto, using(pg_types::proofs::DerivedTypes::eq_content))]
     fn accepts(ty: &PgType) -> bool {
         *ty == PgType::INET
     }
@@ -71,7 +71,7 @@ impl<'a> FromSql<'a> for IpInet {
         Err(Fault::WasNull)
     }
 
-    #[tactic(auto, using(pg_base::proofs::DerivedTypes::eq_content))]
+    #[tactic(auto, using(pg_types::proofs::DerivedTypes::eq_content))]
     fn accepts(ty: &PgType) -> bool {
         *ty == PgType::INET
     }
@@ -101,7 +101,7 @@ impl<'a> FromSql<'a> for IpCidr {
         Err(Fault::WasNull)
     }
 
-    #[tactic(auto, using(pg_base::proofs::DerivedTypes::eq_content))]
+    #[tactic(auto, using(pg_types::proofs::DerivedTypes::eq_content))]
     fn accepts(ty: &PgType) -> bool {
         *ty == PgType::CIDR
     }

@@ -1,8 +1,8 @@
 //! Reading whole numbers and truth values.
 ghost use Rattle.std.specs.Prelude.{◌≡◌};
 ghost use Rattle.std.specs.Int.{w8, w16, w32, w64};
-ghost use Rattle.pg_base.specs.declared.types.built_in.BuiltIn.TheVariants.{Bool, Char, Int2, Int4, Int8, Oid};
-ghost use Rattle.pg_base.specs.Content.{is_row};
+ghost use Rattle.pg_types.specs.declared.types.built_in.BuiltIn.TheVariants.{Bool, Char, Int2, Int4, Int8, Oid};
+ghost use Rattle.pg_types.specs.Content.{is_row};
 ghost use Rattle.pg_base.proofs.FormatLaws.{bool_grammar, char_grammar, int2_grammar, int4_grammar, int8_grammar, oid_grammar};
 ghost use Rattle.pg_base.specs.Numbers.{FormBool, FormSigned, FormUnsigned, first_fault_number, ReadsBool, ReadsSigned, ReadsUnsigned};
 ghost use Rattle.pg_base.proofs.SamenessLaws.{equal_equivalence};
@@ -40,7 +40,7 @@ impl<'a> FromSql<'a> for bool {
         Err(Fault::WasNull)
     }
 
-    #[tactic(auto, using(pg_base::proofs::DerivedTypes::eq_content))]
+    #[tactic(auto, using(pg_types::proofs::DerivedTypes::eq_content))]
     fn accepts(ty: &PgType) -> bool {
         *ty == PgType::BOOL
     }
@@ -69,7 +69,7 @@ impl<'a> FromSql<'a> for i8 {
         Err(Fault::WasNull)
     }
 
-    #[tactic(auto, using(pg_base::proofs::DerivedTypes::eq_content))]
+    #[tactic(auto, using(pg_types::proofs::DerivedTypes::eq_content))]
     fn accepts(ty: &PgType) -> bool {
         *ty == PgType::CHAR
     }
@@ -98,7 +98,7 @@ impl<'a> FromSql<'a> for i16 {
         Err(Fault::WasNull)
     }
 
-    #[tactic(auto, using(pg_base::proofs::DerivedTypes::eq_content))]
+    #[tactic(auto, using(pg_types::proofs::DerivedTypes::eq_content))]
     fn accepts(ty: &PgType) -> bool {
         *ty == PgType::INT2
     }
@@ -127,7 +127,7 @@ impl<'a> FromSql<'a> for i32 {
         Err(Fault::WasNull)
     }
 
-    #[tactic(auto, using(pg_base::proofs::DerivedTypes::eq_content))]
+    #[tactic(auto, using(pg_types::proofs::DerivedTypes::eq_content))]
     fn accepts(ty: &PgType) -> bool {
         *ty == PgType::INT4
     }
@@ -156,7 +156,7 @@ impl<'a> FromSql<'a> for i64 {
         Err(Fault::WasNull)
     }
 
-    #[tactic(auto, using(pg_base::proofs::DerivedTypes::eq_content))]
+    #[tactic(auto, using(pg_types::proofs::DerivedTypes::eq_content))]
     fn accepts(ty: &PgType) -> bool {
         *ty == PgType::INT8
     }
@@ -185,7 +185,7 @@ impl<'a> FromSql<'a> for u32 {
         Err(Fault::WasNull)
     }
 
-    #[tactic(auto, using(pg_base::proofs::DerivedTypes::eq_content))]
+    #[tactic(auto, using(pg_types::proofs::DerivedTypes::eq_content))]
     fn accepts(ty: &PgType) -> bool {
         *ty == PgType::OID
     }

@@ -2,7 +2,7 @@
 //! slice.
 ghost use Rattle.std.specs.Prelude.{◌<◌, ℕ, IsTrue, slice_index};
 ghost use Rattle.pg_base.specs.Cells.{FramesSingle, FramesInFrontSingle};
-ghost use Rattle.pg_base.specs.Content.{content};
+ghost use Rattle.pg_types.specs.Content.{content};
 ghost use Rattle.pg_read.specs.Framed.{TakesNumber, TakesCell, ReadsFramed};
 ghost use Rattle.pg_read.specs.RunReading.{ReadsRun, ReadsFrames};
 

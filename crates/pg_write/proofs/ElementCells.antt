@@ -7,8 +7,8 @@ use Rattle.bytes.specs.Filled.{Filled}
 use Rattle.pg_base.specs.Appending.{Appends, Wire, wire_of}
 use Rattle.pg_base.specs.Arrays.{array_bytes, owned_cell}
 use Rattle.pg_base.specs.Cells.{Cell}
-use Rattle.pg_base.specs.Content.{Content, oid_of}
-use Rattle.pg_base.specs.Faults.{Outcome, Refusal, transmit}
+use Rattle.pg_types.specs.Content.{Content, oid_of}
+use Rattle.pg_types.specs.Faults.{Outcome, Refusal, transmit}
 use Rattle.pg_base.specs.Lists.{member_of}
 use Rattle.pg_write.specs.ListWriting.{element_cells, framed, in_front, lower_bound_of, wire_array, wire_list, wire_members}
 

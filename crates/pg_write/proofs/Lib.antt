@@ -1,6 +1,4 @@
-mod ElementCells
+pub mod ElementCells
 mod KeyOrder
-mod ParamFrames
-mod ParamLists
 pub mod Placing
 pub mod SameEntries

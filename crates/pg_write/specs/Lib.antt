@@ -1,5 +1,4 @@
 -- The words of writing.
 pub mod ListWriting
 pub mod OptionWriting
-pub mod ParamWriting
 pub mod Writing

@@ -1,11 +1,11 @@
 -- Writing lists.
 use Rattle.std.specs.Prelude.{◌≡◌, ℕ, ℤ, pos, List, [], ◌∷◌, length, Option, Some, None, ◌||◌, ◌==◌, nat_le, if◌then◌else◌, Ok, Err}
-use Rattle.pg_base.specs.declared.types.built_in.BuiltIn.TheVariants.{Int2Vector, OidVector}
+use Rattle.pg_types.specs.declared.types.built_in.BuiltIn.TheVariants.{Int2Vector, OidVector}
 use Rattle.pg_base.specs.Appending.{Wire, wire_of}
 use Rattle.pg_base.specs.Arrays.{array_bytes}
 use Rattle.pg_base.specs.Cells.{Cell, frame}
-use Rattle.pg_base.specs.Content.{Content, is_row, oid_of}
-use Rattle.pg_base.specs.Faults.{Outcome, transmit}
+use Rattle.pg_types.specs.Content.{Content, is_row, oid_of}
+use Rattle.pg_types.specs.Faults.{Outcome, transmit}
 use Rattle.pg_base.specs.Lists.{member_of}
 
 -- a cell with its frame, or Transmit where it has none

@@ -1,7 +1,7 @@
 -- Writing an option.
 use Rattle.std.specs.Prelude.{Option, Some, None, Ok}
-use Rattle.pg_base.specs.declared.format.Format.{Format}
-use Rattle.pg_base.specs.declared.format.Format.TheVariants.{Binary}
+use Rattle.pg_types.specs.declared.format.Format.{Format}
+use Rattle.pg_types.specs.declared.format.Format.TheVariants.{Binary}
 use Rattle.pg_base.specs.Appending.{Wire}
 
 -- None is written as NULL, and Some as the value inside

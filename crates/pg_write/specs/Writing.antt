@@ -1,11 +1,11 @@
 -- What a value is written as, and what a write leaves in the buffer.
 use Rattle.std.specs.Prelude.{◌≡◌, ℕ, ◌<◌, List, ◌++◌, length, Bool, true, false, Some, None, Result, Ok, Err, IfSome, IfNone}
 use Rattle.pg_base.specs.Appending.{Wire}
-use Rattle.pg_base.specs.Content.{Content}
-use Rattle.pg_base.specs.Faults.{refusal_of, wrong_type}
-use Rattle.pg_base.specs.declared.fault.Fault.{Fault}
-use Rattle.pg_base.specs.declared.format.IsNull.{IsNull}
-use Rattle.pg_base.specs.declared.format.IsNull.TheVariants.{Yes, No}
+use Rattle.pg_types.specs.Content.{Content}
+use Rattle.pg_types.specs.Faults.{refusal_of, wrong_type}
+use Rattle.pg_types.specs.declared.fault.Fault.{Fault}
+use Rattle.pg_types.specs.declared.format.IsNull.{IsNull}
+use Rattle.pg_types.specs.declared.format.IsNull.TheVariants.{Yes, No}
 
 -- checked writing: a type that is not accepted is WrongType, with the type and the name of the Rust type
 abbrev pub checked_by : Bool → Content → List ℕ → Wire → Wire

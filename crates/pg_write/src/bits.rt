@@ -1,6 +1,6 @@
 //! Writing lists of bits.
 ghost use Rattle.std.specs.Prelude.{true, codes, refl};
-ghost use Rattle.pg_base.specs.declared.format.Format.TheVariants.{Binary};
+ghost use Rattle.pg_types.specs.declared.format.Format.TheVariants.{Binary};
 ghost use Rattle.pg_base.specs.Bits.{accepted_bits, wire_bits};
 ghost use Rattle.pg_write.specs.Writing.{checked_by};
 

@@ -1,6 +1,6 @@
 //! Writing a box.
 ghost use Rattle.std.specs.Prelude.{true, codes, refl};
-ghost use Rattle.pg_base.specs.declared.format.Format.TheVariants.{Binary};
+ghost use Rattle.pg_types.specs.declared.format.Format.TheVariants.{Binary};
 ghost use Rattle.pg_write.specs.Writing.{checked_by};
 
 use crate::to_sql::{ToSql, wrong_type};

@@ -1,10 +1,10 @@
 //! Writing bytes.
 ghost use Rattle.std.specs.Prelude.{◌≡◌, true, codes, refl};
 ghost use Rattle.std.specs.Cow.{cow_slice_items};
-ghost use Rattle.pg_base.specs.declared.format.Format.TheVariants.{Binary};
-ghost use Rattle.pg_base.specs.declared.types.built_in.BuiltIn.TheVariants.{Bytea};
+ghost use Rattle.pg_types.specs.declared.format.Format.TheVariants.{Binary};
+ghost use Rattle.pg_types.specs.declared.types.built_in.BuiltIn.TheVariants.{Bytea};
 ghost use Rattle.pg_base.specs.Bytes.{wire_bytes};
-ghost use Rattle.pg_base.specs.Content.{content, is_row};
+ghost use Rattle.pg_types.specs.Content.{content, is_row};
 ghost use Rattle.pg_write.specs.Writing.{checked_by};
 
 use crate::to_sql::{ToSql, wrong_type};
@@ -37,7 +37,7 @@ impl<'b> ToSql for &'b [u8] {
         Ok(IsNull::No)
     }
 
-    #[tactic(auto, using(pg_base::proofs::DerivedTypes::eq_content))]
+    #[tactic(auto, using(pg_types::proofs::DerivedTypes::eq_content))]
     fn accepts(ty: &PgType) -> bool
         ensures { result ≡ is_row Bytea (content ty.now) }
     {
@@ -85,7 +85,7 @@ impl ToSql for Vec<u8> {
         Ok(IsNull::No)
     }
 
-    #[tactic(auto, using(pg_base::proofs::DerivedTypes::eq_content))]
+    #[tactic(auto, using(pg_types::proofs::DerivedTypes::eq_content))]
     fn accepts(ty: &PgType) -> bool {
         *ty == PgType::BYTEA
     }
@@ -131,7 +131,7 @@ impl<const N: usize> ToSql for [u8; N] {
         Ok(IsNull::No)
     }
 
-    #[tactic(auto, using(pg_base::proofs::DerivedTypes::eq_content))]
+    #[tactic(auto, using(pg_types::proofs::DerivedTypes::eq_content))]
     fn accepts(ty: &PgType) -> bool {
         *ty == PgType::BYTEA
     }
@@ -177,7 +177,7 @@ impl<'b> ToSql for CowSlice<'b, u8> {
         Ok(IsNull::No)
     }
 
-    #[tactic(auto, using(pg_base::proofs::DerivedTypes::eq_content))]
+    #[tactic(auto, using(pg_types::proofs::DerivedTypes::eq_content))]
     fn accepts(ty: &PgType) -> bool
         ensures { result ≡ is_row Bytea (content ty.now) }
     {

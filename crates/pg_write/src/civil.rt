@@ -2,10 +2,10 @@
 ghost use Rattle.std.specs.Prelude.{◌≡◌, ◌/◌, ◌-ℤ◌, pos, true, codes, refl};
 ghost use Rattle.jiff.specs.Words.{civil_nanos, epoch_day, time_nanos};
 ghost use Rattle.pg_base.specs.Civil.{base_day, instant_nanos, wire_date, wire_datetime, wire_instant, wire_time};
-ghost use Rattle.pg_base.specs.Content.{is_row};
+ghost use Rattle.pg_types.specs.Content.{is_row};
 ghost use Rattle.pg_base.specs.Moments.{cut_micros};
-ghost use Rattle.pg_base.specs.declared.format.Format.TheVariants.{Binary};
-ghost use Rattle.pg_base.specs.declared.types.built_in.BuiltIn.TheVariants.{Date as DateRow, Time as TimeRow, Timestamp as TimestampRow, Timestamptz};
+ghost use Rattle.pg_types.specs.declared.format.Format.TheVariants.{Binary};
+ghost use Rattle.pg_types.specs.declared.types.built_in.BuiltIn.TheVariants.{Date as DateRow, Time as TimeRow, Timestamp as TimestampRow, Timestamptz};
 ghost use Rattle.pg_write.specs.Writing.{checked_by};
 
 use crate::to_sql::{ToSql, wrong_type};
@@ -70,7 +70,7 @@ impl ToSql for Date {
         Ok(IsNull::No)
     }
 
-    #[tactic(auto, using(pg_base::proofs::DerivedTypes::eq_content))]
+    #[tactic(auto, using(pg_types::proofs::DerivedTypes::eq_content))]
     fn accepts(ty: &PgType) -> bool {
         *ty == PgType::DATE
     }
@@ -117,7 +117,7 @@ impl ToSql for Time {
         Ok(IsNull::No)
     }
 
-    #[tactic(auto, using(pg_base::proofs::DerivedTypes::eq_content))]
+    #[tactic(auto, using(pg_types::proofs::DerivedTypes::eq_content))]
     fn accepts(ty: &PgType) -> bool {
         *ty == PgType::TIME
     }
@@ -165,7 +165,7 @@ impl ToSql for DateTime {
         Ok(IsNull::No)
     }
 
-    #[tactic(auto, using(pg_base::proofs::DerivedTypes::eq_content))]
+    #[tactic(auto, using(pg_types::proofs::DerivedTypes::eq_content))]
     fn accepts(ty: &PgType) -> bool {
         *ty == PgType::TIMESTAMP
     }
@@ -213,7 +213,7 @@ impl ToSql for Timestamp {
         Ok(IsNull::No)
     }
 
-    #[tactic(auto, using(pg_base::proofs::DerivedTypes::eq_content))]
+    #[tactic(auto, using(pg_types::proofs::DerivedTypes::eq_content))]
     fn accepts(ty: &PgType) -> bool {
         *ty == PgType::TIMESTAMPTZ
     }

@@ -1,7 +1,7 @@
 //! Writing maps of texts.
 ghost use Rattle.std.specs.Prelude.{◌≡◌, map, true, codes, refl, IfOk, IfErr};
-ghost use Rattle.pg_base.specs.declared.fault.Fault.TheVariants.{Memory};
-ghost use Rattle.pg_base.specs.declared.format.Format.TheVariants.{Binary};
+ghost use Rattle.pg_types.specs.declared.fault.Fault.TheVariants.{Memory};
+ghost use Rattle.pg_types.specs.declared.format.Format.TheVariants.{Binary};
 ghost use Rattle.pg_base.specs.Hstore.{in_key_order, lent_entry, owned_entry, wire_hstore};
 ghost use Rattle.pg_base.specs.Texts.{is_named};
 ghost use Rattle.pg_write.specs.Writing.{checked_by};

@@ -1,8 +1,8 @@
 //! Writing identifiers.
 ghost use Rattle.std.specs.Prelude.{true, codes, refl};
-ghost use Rattle.pg_base.specs.declared.format.Format.TheVariants.{Binary};
-ghost use Rattle.pg_base.specs.declared.types.built_in.BuiltIn.TheVariants.{Macaddr, Uuid as UuidRow};
-ghost use Rattle.pg_base.specs.Content.{is_row};
+ghost use Rattle.pg_types.specs.declared.format.Format.TheVariants.{Binary};
+ghost use Rattle.pg_types.specs.declared.types.built_in.BuiltIn.TheVariants.{Macaddr, Uuid as UuidRow};
+ghost use Rattle.pg_types.specs.Content.{is_row};
 ghost use Rattle.pg_base.specs.Identifiers.{wire_identifier};
 ghost use Rattle.pg_write.specs.Writing.{checked_by};
 
@@ -37,7 +37,7 @@ impl ToSql for MacAddress {
         Ok(IsNull::No)
     }
 
-    #[tactic(auto, using(pg_base::proofs::DerivedTypes::eq_content))]
+    #[tactic(auto, using(pg_types::proofs::DerivedTypes::eq_content))]
     fn accepts(ty: &PgType) -> bool {
         *ty == PgType::MACADDR
     }
@@ -83,7 +83,7 @@ impl ToSql for Uuid {
         Ok(IsNull::No)
     }
 
-    #[tactic(auto, using(pg_base::proofs::DerivedTypes::eq_content))]
+    #[tactic(auto, using(pg_types::proofs::DerivedTypes::eq_content))]
     fn accepts(ty: &PgType) -> bool {
         *ty == PgType::UUID
     }

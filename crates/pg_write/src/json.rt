@@ -1,9 +1,9 @@
 //! Writing documents.
 ghost use Rattle.std.specs.Prelude.{true, codes, refl};
 ghost use Rattle.serde_json.specs.View.{view};
-ghost use Rattle.pg_base.specs.declared.format.Format.TheVariants.{Binary};
-ghost use Rattle.pg_base.specs.declared.types.built_in.BuiltIn.TheVariants.{Jsonb};
-ghost use Rattle.pg_base.specs.Content.{is_row};
+ghost use Rattle.pg_types.specs.declared.format.Format.TheVariants.{Binary};
+ghost use Rattle.pg_types.specs.declared.types.built_in.BuiltIn.TheVariants.{Jsonb};
+ghost use Rattle.pg_types.specs.Content.{is_row};
 ghost use Rattle.pg_base.specs.Json.{accepted_json, wire_json};
 ghost use Rattle.pg_write.specs.Writing.{checked_by};
 

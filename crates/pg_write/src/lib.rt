@@ -18,7 +18,6 @@ mod moments;
 mod network;
 mod numbers;
 mod options;
-pub mod params;
 mod references;
 mod special;
 mod texts;

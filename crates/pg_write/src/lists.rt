@@ -1,10 +1,10 @@
 //! Writing lists.
 ghost use Rattle.std.specs.Prelude.{◌≡◌, IsTrue, map, true, codes, refl};
 ghost use Rattle.std.specs.Box.{boxed_slice_items};
-ghost use Rattle.pg_base.specs.declared.format.Format.TheVariants.{Binary};
+ghost use Rattle.pg_types.specs.declared.format.Format.TheVariants.{Binary};
 ghost use Rattle.pg_base.specs.Arrays.{owned_cell};
-ghost use Rattle.pg_base.specs.Content.{content};
-ghost use Rattle.pg_base.specs.Faults.{Answers};
+ghost use Rattle.pg_types.specs.Content.{content};
+ghost use Rattle.pg_types.specs.Faults.{Answers};
 ghost use Rattle.pg_base.specs.Lists.{accepted_list};
 ghost use Rattle.pg_write.specs.ListWriting.{Gives, element_cells, framed, lower_bound_of, wire_fixed, wire_list};
 ghost use Rattle.pg_write.specs.Writing.{Writes, checked_by};
@@ -261,7 +261,7 @@ fn element_cell<T: ToSql>(
 }
 
 /// The number of the first member of an array of that type.
-#[tactic(auto, using(pg_base::proofs::DerivedTypes::eq_content))]
+#[tactic(auto, using(pg_types::proofs::DerivedTypes::eq_content))]
 fn lower_bound(ty: &PgType) -> i32
     ensures { result ≡ lower_bound_of (content ty.now) }
 {

@@ -1,9 +1,9 @@
 //! Writing log positions.
 ghost use Rattle.std.specs.Prelude.{true, codes, refl};
 ghost use Rattle.std.specs.Int.{w64};
-ghost use Rattle.pg_base.specs.declared.format.Format.TheVariants.{Binary};
-ghost use Rattle.pg_base.specs.declared.types.built_in.BuiltIn.TheVariants.{PgLsn as PgLsnRow};
-ghost use Rattle.pg_base.specs.Content.{is_row};
+ghost use Rattle.pg_types.specs.declared.format.Format.TheVariants.{Binary};
+ghost use Rattle.pg_types.specs.declared.types.built_in.BuiltIn.TheVariants.{PgLsn as PgLsnRow};
+ghost use Rattle.pg_types.specs.Content.{is_row};
 ghost use Rattle.pg_base.specs.Numbers.{wire_unsigned};
 ghost use Rattle.pg_write.specs.Writing.{checked_by};
 
@@ -37,7 +37,7 @@ impl ToSql for PgLsn {
         Ok(IsNull::No)
     }
 
-    #[tactic(auto, using(pg_base::proofs::DerivedTypes::eq_content))]
+    #[tactic(auto, using(pg_types::proofs::DerivedTypes::eq_content))]
     fn accepts(ty: &PgType) -> bool {
         *ty == PgType::PG_LSN
     }

@@ -1,6 +1,6 @@
 //! Writing moments.
 ghost use Rattle.std.specs.Prelude.{true, codes, refl};
-ghost use Rattle.pg_base.specs.declared.format.Format.TheVariants.{Binary};
+ghost use Rattle.pg_types.specs.declared.format.Format.TheVariants.{Binary};
 ghost use Rattle.pg_base.specs.Moments.{accepted_moment, nanos_of, wire_timestamp};
 ghost use Rattle.pg_write.specs.Writing.{checked_by};
 

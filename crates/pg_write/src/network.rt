@@ -1,8 +1,8 @@
 //! Writing Internet addresses.
 ghost use Rattle.std.specs.Prelude.{true, codes, refl};
-ghost use Rattle.pg_base.specs.declared.format.Format.TheVariants.{Binary};
-ghost use Rattle.pg_base.specs.declared.types.built_in.BuiltIn.TheVariants.{Cidr, Inet};
-ghost use Rattle.pg_base.specs.Content.{is_row};
+ghost use Rattle.pg_types.specs.declared.format.Format.TheVariants.{Binary};
+ghost use Rattle.pg_types.specs.declared.types.built_in.BuiltIn.TheVariants.{Cidr, Inet};
+ghost use Rattle.pg_types.specs.Content.{is_row};
 ghost use Rattle.pg_base.specs.Network.{wire_address, wire_cidr, wire_inet};
 ghost use Rattle.pg_write.specs.Writing.{checked_by};
 
@@ -38,7 +38,7 @@ impl ToSql for IpAddr {
         Ok(IsNull::No)
     }
 
-    #[tactic(auto, using(pg_base::proofs::DerivedTypes::eq_content))]
+    #[tactic(auto, using(pg_types::proofs::DerivedTypes::eq_content))]
     fn accepts(ty: &PgType) -> bool {
         *ty == PgType::INET
     }
@@ -84,7 +84,7 @@ impl ToSql for IpInet {
         Ok(IsNull::No)
     }
 
-    #[tactic(auto, using(pg_base::proofs::DerivedTypes::eq_content))]
+    #[tactic(auto, using(pg_types::proofs::DerivedTypes::eq_content))]
     fn accepts(ty: &PgType) -> bool {
         *ty == PgType::INET
     }
@@ -130,7 +130,7 @@ impl ToSql for IpCidr {
         Ok(IsNull::No)
     }
 
-    #[tactic(auto, using(pg_base::proofs::DerivedTypes::eq_content))]
+    #[tactic(auto, using(pg_types::proofs::DerivedTypes::eq_content))]
     fn accepts(ty: &PgType) -> bool {
         *ty == PgType::CIDR
     }

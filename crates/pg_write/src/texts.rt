@@ -2,9 +2,9 @@
 ghost use Rattle.std.specs.Prelude.{◌≡◌, Some, true, codes, refl, string_bytes};
 ghost use Rattle.std.specs.Box.{boxed_str_bytes};
 ghost use Rattle.std.specs.Cow.{cow_str_bytes};
-ghost use Rattle.pg_base.specs.declared.format.Format.TheVariants.{Binary};
+ghost use Rattle.pg_types.specs.declared.format.Format.TheVariants.{Binary};
 ghost use Rattle.pg_base.specs.Appending.{Appends};
-ghost use Rattle.pg_base.specs.Content.{content};
+ghost use Rattle.pg_types.specs.Content.{content};
 ghost use Rattle.pg_base.specs.Cells.{versioned_cell};
 ghost use Rattle.pg_base.specs.Texts.{accepted_text, has_version, wire_text};
 ghost use Rattle.pg_write.specs.Writing.{checked_by};

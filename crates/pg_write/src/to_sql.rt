@@ -1,8 +1,8 @@
 //! The trait of writing.
 ghost use Rattle.std.specs.Prelude.{◌≡◌, ◌≤◌, ℕ, List, Bool, IsTrue, IsSome, true, false, length};
-ghost use Rattle.pg_base.specs.declared.format.Format.{Format};
-ghost use Rattle.pg_base.specs.Content.{Content, content, IsBuiltIn};
-ghost use Rattle.pg_base.specs.Faults.{NeverMemory, refusal_of};
+ghost use Rattle.pg_types.specs.declared.format.Format.{Format};
+ghost use Rattle.pg_types.specs.Content.{Content, content, IsBuiltIn};
+ghost use Rattle.pg_types.specs.Faults.{NeverMemory, refusal_of};
 ghost use Rattle.pg_base.specs.Appending.{Wire};
 ghost use Rattle.pg_write.specs.Writing.{Writes, KeepsRoomRule, checked_by, IsWrongType};
 

@@ -4,8 +4,8 @@ use Rattle.postgres_types.specs.Cells.{Cell}
 use Rattle.postgres_types.specs.Faults.{Outcome, Refusal, refusal_of}
 use Rattle.postgres_types.specs.Appending.{Wire}
 use Rattle.postgres_types.specs.Rewriting.{Rewrites}
-use Rattle.pg_base.specs.declared.fault.Fault.{Fault}
-use Rattle.pg_base.specs.declared.format.IsNull.{IsNull}
+use Rattle.pg_types.specs.declared.fault.Fault.{Fault}
+use Rattle.pg_types.specs.declared.format.IsNull.{IsNull}
 use Rattle.pgcell_norm.specs.Norm.{PrintsRefusal, WritesOf, printed}
 use Rattle.pgcell_norm.specs.Rewritten.{RewrittenTo}
 

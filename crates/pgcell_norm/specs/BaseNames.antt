@@ -16,8 +16,8 @@ use Rattle.postgres_types.specs.Moments.{ReadsTimestamp, nanos_of, wire_timestam
 use Rattle.postgres_types.specs.Network.{ReadsAddress, ReadsCidr, ReadsInet, wire_address, wire_cidr, wire_inet}
 use Rattle.postgres_types.specs.Numbers.{ReadsBool, ReadsSigned, ReadsUnsigned, wire_bool, wire_signed, wire_unsigned}
 use Rattle.postgres_types.specs.Special.{ReadsSpecial, date_seen, timestamp_seen, wire_special}
-use Rattle.pg_base.specs.declared.types.built_in.BuiltIn.{BuiltIn as Row}
-use Rattle.pg_base.specs.declared.types.built_in.BuiltIn.TheVariants.{Bool as BoolRow, BoolArray, Char as CharRow, CharArray, Int2 as Int2Row, Int2Array, Int4 as Int4Row, Int4Array, Int8 as Int8Row, Int8Array, Oid as OidRow, OidArray, Text as TextRow, TextArray, Varchar as VarcharRow, VarcharArray, Bpchar as BpcharRow, BpcharArray, Name as NameRow, NameArray, Bytea as ByteaRow, ByteaArray, Bit as BitRow, BitArray, Varbit as VarbitRow, VarbitArray, Inet as InetRow, InetArray, Cidr as CidrRow, CidrArray, Macaddr as MacaddrRow, MacaddrArray, Uuid as UuidRow, UuidArray, PgLsn as PgLsnRow, PgLsnArray, Date as DateRow, DateArray, Time as TimeRow, TimeArray, Timestamp as TimestampRow, TimestampArray, Timestamptz as TimestamptzRow, TimestamptzArray, Unknown as UnknownRow, Int2Vector as Int2VectorRow, OidVector as OidVectorRow}
+use Rattle.pg_types.specs.declared.types.built_in.BuiltIn.{BuiltIn as Row}
+use Rattle.pg_types.specs.declared.types.built_in.BuiltIn.TheVariants.{Bool as BoolRow, BoolArray, Char as CharRow, CharArray, Int2 as Int2Row, Int2Array, Int4 as Int4Row, Int4Array, Int8 as Int8Row, Int8Array, Oid as OidRow, OidArray, Text as TextRow, TextArray, Varchar as VarcharRow, VarcharArray, Bpchar as BpcharRow, BpcharArray, Name as NameRow, NameArray, Bytea as ByteaRow, ByteaArray, Bit as BitRow, BitArray, Varbit as VarbitRow, VarbitArray, Inet as InetRow, InetArray, Cidr as CidrRow, CidrArray, Macaddr as MacaddrRow, MacaddrArray, Uuid as UuidRow, UuidArray, PgLsn as PgLsnRow, PgLsnArray, Date as DateRow, DateArray, Time as TimeRow, TimeArray, Timestamp as TimestampRow, TimestampArray, Timestamptz as TimestamptzRow, TimestamptzArray, Unknown as UnknownRow, Int2Vector as Int2VectorRow, OidVector as OidVectorRow}
 use Rattle.pgcell_norm.specs.Forms.{has_type, same_word}
 use Rattle.pgcell_norm.specs.Rewritten.{ReadsVec, wire_vec, Rewriting, RewrittenAs, RewrittenPlain, RewrittenText}
 use Rattle.pgcell_norm.specs.declared.names.Form.{Form}

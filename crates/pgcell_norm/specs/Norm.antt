@@ -7,8 +7,8 @@ use Rattle.postgres_types.specs.Content.{Content}
 use Rattle.postgres_types.specs.Faults.{Refusal, number_of, refusal_of}
 use Rattle.postgres_types.specs.Appending.{Wire}
 use Rattle.postgres_types.specs.Writing.{Writes}
-use Rattle.pg_base.specs.declared.fault.Fault.{Fault}
-use Rattle.pg_base.specs.declared.format.IsNull.{IsNull}
+use Rattle.pg_types.specs.declared.fault.Fault.{Fault}
+use Rattle.pg_types.specs.declared.format.IsNull.{IsNull}
 use Rattle.pgcell_norm.specs.BaseNames.{Entry, no_entry, entry, entry_of}
 use Rattle.pgcell_norm.specs.Forms.{type_in}
 use Rattle.pgcell_norm.specs.Rewritten.{Rewriting}

@@ -2,12 +2,12 @@
 use Rattle.std.proofs.Common.{◌≡◌, ℕ, List, Some, None, Result, Ok, Err, sym, ◌∙◌, subst, inl, inr}
 use Rattle.std.specs.Prelude.{◌⊎◌}
 use Rattle.std.proofs.lemmas.Option.{IfSome_then}
-use Rattle.pg_base.specs.declared.fault.Fault.{Fault}
-use Rattle.pg_base.specs.declared.format.IsNull.{IsNull}
-use Rattle.pg_base.specs.declared.format.IsNull.TheVariants.{Yes, No}
+use Rattle.pg_types.specs.declared.fault.Fault.{Fault}
+use Rattle.pg_types.specs.declared.format.IsNull.{IsNull}
+use Rattle.pg_types.specs.declared.format.IsNull.TheVariants.{Yes, No}
 use Rattle.pg_base.specs.Appending.{Wire}
 use Rattle.pg_base.specs.Cells.{Cell}
-use Rattle.pg_base.specs.Faults.{Refusal, Outcome, refusal_of}
+use Rattle.pg_types.specs.Faults.{Refusal, Outcome, refusal_of}
 use Rattle.pg_read.specs.Reading.{ReadsSingle}
 use Rattle.pg_write.specs.Writing.{Writes}
 use Rattle.postgres_types.specs.BackLaws.{kept}

@@ -3,7 +3,7 @@ use Rattle.std.specs.Prelude.{◌≡◌, Some, None, Ok, Err}
 use Rattle.std.proofs.Common.{subst}
 use Rattle.pg_base.specs.Appending.{Wire}
 use Rattle.pg_base.specs.Cells.{Cell}
-use Rattle.pg_base.specs.Faults.{Outcome}
+use Rattle.pg_types.specs.Faults.{Outcome}
 use Rattle.postgres_types.specs.ReadingBack.{IsLawful, WrittenAsCell, WrittenAsBytes, IfNull}
 
 -- what is said where the value is not written as NULL may be replaced

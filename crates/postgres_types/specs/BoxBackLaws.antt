@@ -4,7 +4,7 @@ use Rattle.std.proofs.Common.{sym, subst}
 use Rattle.std.specs.Int.{Width}
 use Rattle.pg_base.specs.Appending.{Wire}
 use Rattle.pg_base.specs.Cells.{Cell}
-use Rattle.pg_base.specs.Faults.{Outcome}
+use Rattle.pg_types.specs.Faults.{Outcome}
 use Rattle.pg_base.specs.Formats.{IsWasNull}
 use Rattle.pg_read.specs.BoxReading.{InBox, ReadsBox}
 use Rattle.postgres_types.specs.BackLaws.{if_null_map}

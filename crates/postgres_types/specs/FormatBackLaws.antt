@@ -13,7 +13,7 @@ use Rattle.pg_base.specs.Bits.{FormBits, ReadsBits, first_fault_bits, packed, wi
 use Rattle.pg_base.proofs.BitsLaws.{bits_grammar}
 use Rattle.pg_base.specs.Bytes.{FormBytes, ReadsBytes, first_fault_bytes, wire_bytes}
 use Rattle.pg_base.specs.Cells.{Cell, IsBe, be}
-use Rattle.pg_base.specs.Faults.{Outcome, Refusal}
+use Rattle.pg_types.specs.Faults.{Outcome, Refusal}
 use Rattle.pg_base.specs.Formats.{IsGrammar}
 use Rattle.pg_base.proofs.FormatLaws.{bool_grammar, bytes_grammar, has_fitted, text_grammar}
 use Rattle.pg_base.specs.Identifiers.{FormIdentifier, ReadsIdentifier, wire_identifier}

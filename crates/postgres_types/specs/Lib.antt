@@ -16,15 +16,15 @@ pub mod WrittenArrays
 pub use Rattle.pg_base.specs.Appending
 pub use Rattle.pg_base.specs.Arrays
 pub use Rattle.pg_base.specs.Bits
-pub use Rattle.pg_base.specs.BuiltInRows
+pub use Rattle.pg_types.specs.BuiltInRows
 pub use Rattle.pg_base.specs.Bytes
 pub use Rattle.pg_base.specs.Cells
 pub use Rattle.pg_base.specs.Civil
-pub use Rattle.pg_base.specs.Content
+pub use Rattle.pg_types.specs.Content
 pub use Rattle.pg_base.specs.Counts
-pub use Rattle.pg_base.specs.Digest
-pub use Rattle.pg_base.specs.Faults
-pub use Rattle.pg_base.specs.FaultTexts
+pub use Rattle.pg_types.specs.Digest
+pub use Rattle.pg_types.specs.Faults
+pub use Rattle.pg_types.specs.FaultTexts
 pub use Rattle.pg_base.specs.Formats
 pub use Rattle.pg_base.specs.Hstore
 pub use Rattle.pg_base.specs.Identifiers
@@ -36,7 +36,7 @@ pub use Rattle.pg_base.specs.Network
 pub use Rattle.pg_base.specs.Numbers
 pub use Rattle.pg_base.specs.Options
 pub use Rattle.pg_base.specs.Sameness
-pub use Rattle.pg_base.specs.Seen
+pub use Rattle.pg_types.specs.Seen
 pub use Rattle.pg_base.specs.Special
 pub use Rattle.pg_base.specs.Texts
 pub use Rattle.pg_read.specs.BoxReading
@@ -49,5 +49,5 @@ pub use Rattle.pg_read.specs.ReadingLaws
 pub use Rattle.pg_read.specs.RunReading
 pub use Rattle.pg_write.specs.ListWriting
 pub use Rattle.pg_write.specs.OptionWriting
-pub use Rattle.pg_write.specs.ParamWriting
+pub use Rattle.pg_params.specs.ParamWriting
 pub use Rattle.pg_write.specs.Writing

@@ -8,8 +8,8 @@ use Rattle.pg_base.specs.Appending.{Wire}
 use Rattle.pg_base.proofs.ArrayLaws.{body_single, head_passes}
 use Rattle.pg_base.specs.Arrays.{ArrayBody, head_checks}
 use Rattle.pg_base.specs.Cells.{Cell}
-use Rattle.pg_base.specs.Content.{Content, oid_of}
-use Rattle.pg_base.specs.Faults.{Outcome, Refusal, transmit}
+use Rattle.pg_types.specs.Content.{Content, oid_of}
+use Rattle.pg_types.specs.Faults.{Outcome, Refusal, transmit}
 use Rattle.pg_base.specs.Formats.{Checks, first_fault_of}
 use Rattle.pg_base.specs.Lists.{accepted_list, accepted_member, member_of}
 use Rattle.pg_base.specs.Sameness.{SameList}

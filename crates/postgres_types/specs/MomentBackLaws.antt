@@ -9,7 +9,7 @@ use Rattle.pg_base.specs.Appending.{Wire}
 use Rattle.pg_base.specs.Cells.{Cell, be}
 use Rattle.pg_base.specs.Civil.{FormCount, ReadsCount, first_fault_count, first_day, last_day, base_day, IsDayOf, last_micros, IsAfterMidnight, first_civil, last_civil, first_instant, last_instant, instant_nanos, ReadsDate, ReadsTime, ReadsDateTime, ReadsInstant, wire_date, wire_time, wire_datetime, wire_instant}
 use Rattle.pg_base.proofs.CivilLaws.{IsWrittenCount, date_written, time_written, datetime_written, instant_written, date_back, time_back, datetime_back, instant_back}
-use Rattle.pg_base.specs.Faults.{Refusal, Outcome}
+use Rattle.pg_types.specs.Faults.{Refusal, Outcome}
 use Rattle.pg_base.proofs.FormatLaws.{int8_grammar}
 use Rattle.pg_base.specs.Moments.{base_nanos, cut_micros, IsAfterBase, FormTimestamp, ReadsTimestamp, wire_timestamp}
 use Rattle.pg_base.specs.Numbers.{ReadsSigned, first_fault_number, wire_signed}

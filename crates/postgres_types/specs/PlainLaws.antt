@@ -3,7 +3,7 @@ use Rattle.std.specs.Prelude.{◌≡◌, ℕ, List, Option, Some, None, Ok, Err,
 use Rattle.std.proofs.Common.{sym, ◌∙◌, ap, subst}
 use Rattle.pg_base.specs.Appending.{Wire}
 use Rattle.pg_base.specs.Cells.{Cell}
-use Rattle.pg_base.specs.Faults.{Refusal, Outcome}
+use Rattle.pg_types.specs.Faults.{Refusal, Outcome}
 use Rattle.pg_base.specs.Formats.{IsGrammar, ReadsPlain}
 use Rattle.pg_read.specs.ReadingLaws.{no_fault}
 use Rattle.postgres_types.specs.ReadingBack.{BackKept, IsLawful, WrittenAsBytes}

@@ -1,12 +1,12 @@
 -- Reading back: what a type's reading and its writing have to do with each other.
 use Rattle.std.specs.Prelude.{◌≡◌, ◌++◌, ℕ, List, Option, Some, None, Result, Ok, Err}
 use Rattle.std.specs.Int.{Width}
-use Rattle.pg_base.specs.declared.fault.Fault.{Fault}
-use Rattle.pg_base.specs.declared.format.IsNull.{IsNull}
-use Rattle.pg_base.specs.declared.format.IsNull.TheVariants.{Yes, No}
+use Rattle.pg_types.specs.declared.fault.Fault.{Fault}
+use Rattle.pg_types.specs.declared.format.IsNull.{IsNull}
+use Rattle.pg_types.specs.declared.format.IsNull.TheVariants.{Yes, No}
 use Rattle.pg_base.specs.Appending.{Wire}
 use Rattle.pg_base.specs.Cells.{Cell}
-use Rattle.pg_base.specs.Faults.{Outcome}
+use Rattle.pg_types.specs.Faults.{Outcome}
 use Rattle.pg_base.specs.Formats.{IsWasNull}
 use Rattle.pg_base.specs.Special.{IsFiniteCell, ReadsSpecial, Special, pos_infinity, neg_infinity, value}
 use Rattle.pg_read.specs.BoxReading.{InBox}

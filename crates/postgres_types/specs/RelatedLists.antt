@@ -1,7 +1,7 @@
 -- Lists whose items are related, one after another.
 use Rattle.std.specs.Prelude.{◌≡◌, suc, List, [], ◌∷◌, length, Ok, Err, refl}
 use Rattle.std.proofs.Common.{ap, inl, inr}
-use Rattle.pg_base.specs.Faults.{Outcome}
+use Rattle.pg_types.specs.Faults.{Outcome}
 use Rattle.pg_base.specs.Sameness.{SameList}
 use Rattle.pg_read.specs.ListReading.{ReadsAll}
 

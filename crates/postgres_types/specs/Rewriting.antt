@@ -1,9 +1,9 @@
 -- What rewriting a cell answers.
 use Rattle.std.specs.Prelude.{◌≡◌, ℕ, List, Result, Ok, Err, IfSome, ◌⊎◌}
-use Rattle.pg_base.specs.declared.fault.Fault.{Fault}
-use Rattle.pg_base.specs.declared.format.IsNull.{IsNull}
+use Rattle.pg_types.specs.declared.fault.Fault.{Fault}
+use Rattle.pg_types.specs.declared.format.IsNull.{IsNull}
 use Rattle.pg_base.specs.Cells.{Cell}
-use Rattle.pg_base.specs.Faults.{Outcome, refusal_of}
+use Rattle.pg_types.specs.Faults.{Outcome, refusal_of}
 use Rattle.pg_base.specs.Appending.{Wire}
 use Rattle.pg_write.specs.Writing.{Writes}
 

@@ -3,15 +3,15 @@ use Rattle.std.specs.Prelude.{◌≡◌, ℕ, List, Some, None, Ok, Err, IsTrue,
 use Rattle.std.proofs.Common.{sym, subst, inl, inr, true≢false}
 use Rattle.std.proofs.lemmas.Bool.{and_parts}
 use Rattle.std.specs.Int.{Width}
-use Rattle.pg_base.specs.declared.types.built_in.BuiltIn.TheVariants.{Date as DateRow}
+use Rattle.pg_types.specs.declared.types.built_in.BuiltIn.TheVariants.{Date as DateRow}
 use Rattle.pg_base.specs.Appending.{Wire}
 use Rattle.pg_base.specs.Cells.{Cell}
-use Rattle.pg_base.specs.Content.{Content, BuiltInType, is_row}
-use Rattle.pg_base.specs.Faults.{Outcome}
+use Rattle.pg_types.specs.Content.{Content, BuiltInType, is_row}
+use Rattle.pg_types.specs.Faults.{Outcome}
 use Rattle.pg_base.specs.Moments.{accepted_moment}
 use Rattle.pg_base.specs.Special.{Special, pos_infinity, neg_infinity, value, infinity, minus_infinity, IsFiniteCell, FormSpecial, ReadsSpecial, SameSpecial, wire_special}
 use Rattle.pg_base.proofs.SpecialLaws.{infinities_apart, infinity_width, minus_infinity_width}
-use Rattle.pg_base.proofs.Contents.{type-same}
+use Rattle.pg_types.proofs.Contents.{type-same}
 use Rattle.postgres_types.specs.ReadingBack.{IsLawful, KeepsFinite, WrittenFinite, WrittenAsBytes, OfValue, BackValue, BackSpecial}
 
 -- no type is that of a date and of a moment

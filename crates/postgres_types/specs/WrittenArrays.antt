@@ -8,7 +8,7 @@ use Rattle.pg_base.specs.Cells.{Cell, be, frame, frames}
 use Rattle.pg_base.proofs.CellLaws.{frames_alone}
 use Rattle.pg_base.proofs.CountLaws.{count_is}
 use Rattle.pg_base.specs.Counts.{IsCount, count_bytes}
-use Rattle.pg_base.specs.Faults.{Outcome, transmit}
+use Rattle.pg_types.specs.Faults.{Outcome, transmit}
 use Rattle.pg_base.proofs.FrameLaws.{parts_of}
 use Rattle.pg_base.specs.Sameness.{SameList}
 use Rattle.pg_write.specs.ListWriting.{element_cells, framed, in_front, with_frame, wire_array}

@@ -1,9 +1,9 @@
 //! Types that are read back as they are written.
 ghost use Rattle.std.specs.Prelude.{◌≡◌, IsTrue};
 ghost use Rattle.std.specs.Int.{w32, w64};
-ghost use Rattle.pg_base.specs.declared.types.built_in.BuiltIn.TheVariants.{Date as DateRow};
-ghost use Rattle.pg_base.specs.Content.{Content, is_row};
-ghost use Rattle.pg_base.specs.Faults.{Outcome};
+ghost use Rattle.pg_types.specs.declared.types.built_in.BuiltIn.TheVariants.{Date as DateRow};
+ghost use Rattle.pg_types.specs.Content.{Content, is_row};
+ghost use Rattle.pg_types.specs.Faults.{Outcome};
 ghost use Rattle.pg_base.specs.Moments.{accepted_moment};
 ghost use Rattle.postgres_types.specs.ReadingBack.{IsLawful, KeepsFinite};
 

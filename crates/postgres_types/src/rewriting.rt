@@ -2,8 +2,8 @@
 ghost use Rattle.std.specs.Prelude.{◌≡◌, Ok, Err, IsTrue, false, codes};
 ghost use Rattle.postgres_types.specs.ReadingBack.{MadeCell};
 ghost use Rattle.postgres_types.specs.Rewriting.{IsCellOf, IsRewrittenAsItself, Rewrites};
-ghost use Rattle.pg_base.specs.Content.{content, IsBuiltIn};
-ghost use Rattle.pg_base.specs.Faults.{NeverMemory, wrong_type};
+ghost use Rattle.pg_types.specs.Content.{content, IsBuiltIn};
+ghost use Rattle.pg_types.specs.Faults.{NeverMemory, wrong_type};
 ghost use Rattle.pg_write.specs.Writing.{Writes};
 ghost use Rattle.pg_base.specs.Cells.{cell_of};
 

@@ -13,7 +13,7 @@ pub struct Days(pub i32);
 impl<'a> FromSql<'a> for Days {
     ghost use Rattle.std.specs.Prelude.{◌≡◌};
     ghost use Rattle.std.specs.Int.{w32};
-    ghost use Rattle.pg_base.specs.declared.types.built_in.BuiltIn.TheVariants.{Date};
+    ghost use Rattle.pg_types.specs.declared.types.built_in.BuiltIn.TheVariants.{Date};
     ghost use Rattle.postgres_types.specs.Content.{is_row};
     ghost use Rattle.pg_base.proofs.FormatLaws.{int4_grammar};
     ghost use Rattle.postgres_types.specs.Formats.{ReadsPlain};
@@ -51,8 +51,8 @@ impl<'a> FromSql<'a> for Days {
 impl ToSql for Days {
     ghost use Rattle.std.specs.Prelude.{codes, refl};
     ghost use Rattle.std.specs.Int.{w32};
-    ghost use Rattle.pg_base.specs.declared.format.Format.TheVariants.{Text};
-    ghost use Rattle.pg_base.specs.declared.types.built_in.BuiltIn.TheVariants.{Date};
+    ghost use Rattle.pg_types.specs.declared.format.Format.TheVariants.{Text};
+    ghost use Rattle.pg_types.specs.declared.types.built_in.BuiltIn.TheVariants.{Date};
     ghost use Rattle.postgres_types.specs.Content.{is_row};
     ghost use Rattle.postgres_types.specs.Numbers.{wire_signed};
     ghost use Rattle.postgres_types.specs.Writing.{checked_by};
@@ -129,7 +129,7 @@ pub struct NoDay;
 
 impl<'a> FromSql<'a> for NoDay {
     ghost use Rattle.std.specs.Prelude.{◌≡◌, Some};
-    ghost use Rattle.pg_base.specs.declared.types.built_in.BuiltIn.TheVariants.{Date};
+    ghost use Rattle.pg_types.specs.declared.types.built_in.BuiltIn.TheVariants.{Date};
     ghost use Rattle.postgres_types.specs.Content.{is_row};
     ghost use Rattle.postgres_types.specs.Faults.{decode};
     ghost use Rattle.postgres_types.specs.Formats.{ReadsPlain};

@@ -2,7 +2,7 @@
 ghost use Rattle.std.specs.Prelude.{suc, zero, ◌≡◌, ◌≤◌, ◌*◌, length, map, IfOk};
 ghost use Rattle.pg_base.specs.Arrays.{SpellsDimensions, SpellsHead, TakesElement, dimension_checks, head_checks, array_bytes, array_head, flags_of, owned_cell};
 ghost use Rattle.pg_base.specs.Counts.{ToRead};
-ghost use Rattle.pg_base.specs.Faults.{Answers, NeverMemory};
+ghost use Rattle.pg_types.specs.Faults.{Answers, NeverMemory};
 ghost use Rattle.pg_base.specs.Formats.{Decodes, first_fault_of};
 ghost use Rattle.pg_base.specs.Appending.{Appends, Extends, HasRoomFor, Measures};
 ghost use Rattle.pg_base.specs.Cells.{cell_of, frames};

@@ -4,7 +4,7 @@ ghost use Rattle.std.specs.Prelude.{◌∷◌, []};
 ghost use Rattle.std.specs.Int.{w32};
 ghost use Rattle.pg_base.specs.Cells.{IsBe, Spells, cell_of};
 ghost use Rattle.pg_base.specs.Counts.{InFront, IsCount, cell_checks, count_checks, has_number};
-ghost use Rattle.pg_base.specs.Faults.{Answers, NeverMemory, size};
+ghost use Rattle.pg_types.specs.Faults.{Answers, NeverMemory, size};
 ghost use Rattle.pg_base.specs.Formats.{Decodes, first_fault_of};
 
 use super::numbers::int4_from_sql;

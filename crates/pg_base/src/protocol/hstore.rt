@@ -3,7 +3,7 @@ ghost use Rattle.std.specs.Prelude.{◌≤◌, map, IfOk};
 ghost use Rattle.pg_base.specs.Appending.{Appends, Measures};
 ghost use Rattle.pg_base.specs.Cells.{cell_of, frame};
 ghost use Rattle.pg_base.specs.Counts.{InFront, ToRead, count_checks};
-ghost use Rattle.pg_base.specs.Faults.{Answers, NeverMemory};
+ghost use Rattle.pg_types.specs.Faults.{Answers, NeverMemory};
 ghost use Rattle.pg_base.specs.Formats.{Decodes, first_fault_of};
 ghost use Rattle.pg_base.specs.Hstore.{SpellsCount, SpellsEntry, SpellsText, TakesEntry, entry_checks, hstore_bytes, lent_entry, value_checks};
 

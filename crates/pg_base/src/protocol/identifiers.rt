@@ -1,7 +1,7 @@
 //! Identifiers: hardware addresses and UUIDs.
 ghost use Rattle.std.specs.Prelude.{Some};
 ghost use Rattle.pg_base.specs.Appending.{Appends};
-ghost use Rattle.pg_base.specs.Faults.{Answers, NeverMemory};
+ghost use Rattle.pg_types.specs.Faults.{Answers, NeverMemory};
 ghost use Rattle.pg_base.specs.Formats.{Decodes};
 ghost use Rattle.pg_base.specs.Identifiers.{FormIdentifier};
 ghost use Rattle.pg_base.specs.Numbers.{first_fault_number};

@@ -2,7 +2,7 @@
 ghost use Rattle.std.specs.Prelude.{Some};
 ghost use Rattle.std.specs.Int.{w64, to_be_bytes};
 ghost use Rattle.pg_base.specs.Appending.{Appends};
-ghost use Rattle.pg_base.specs.Faults.{Answers, NeverMemory};
+ghost use Rattle.pg_types.specs.Faults.{Answers, NeverMemory};
 ghost use Rattle.pg_base.specs.Formats.{Decodes};
 ghost use Rattle.pg_base.specs.Numbers.{FormUnsigned, first_fault_number};
 

@@ -3,7 +3,7 @@ ghost use Rattle.std.specs.Prelude.{Some};
 ghost use Rattle.std.specs.Int.{w64};
 ghost use Rattle.pg_base.specs.Appending.{Appends};
 ghost use Rattle.pg_base.specs.Cells.{be};
-ghost use Rattle.pg_base.specs.Faults.{Answers, NeverMemory};
+ghost use Rattle.pg_types.specs.Faults.{Answers, NeverMemory};
 ghost use Rattle.pg_base.specs.Formats.{Decodes};
 ghost use Rattle.pg_base.specs.Numbers.{FormSigned, first_fault_number};
 

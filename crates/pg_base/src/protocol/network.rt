@@ -1,10 +1,10 @@
 //! Internet addresses with their netmasks.
 ghost use Rattle.std.specs.Prelude.{◌≡◌, ◌≢◌, ◌<◌, ◌⊎◌, ◌∷◌, Some, IfOk, IfErr, length};
 ghost use Rattle.pg_base.specs.Appending.{Appends};
-ghost use Rattle.pg_base.specs.Faults.{Answers, NeverMemory};
+ghost use Rattle.pg_types.specs.Faults.{Answers, NeverMemory};
 ghost use Rattle.pg_base.specs.Formats.{Decodes};
 ghost use Rattle.pg_base.specs.Network.{FormInet, NetmaskFits, Network, address_len, address_octets, family_len, family_of, first_fault_inet, network_bytes, with_netmask};
-ghost use Rattle.pg_base.specs.declared.fault.Fault.TheVariants.{Size};
+ghost use Rattle.pg_types.specs.declared.fault.Fault.TheVariants.{Size};
 
 use crate::fault::Fault;
 use bytes::BytesMut;

@@ -2,7 +2,7 @@
 ghost use Rattle.std.specs.Prelude.{Some, ◌∷◌, [], if◌then◌else◌};
 ghost use Rattle.std.specs.Int.{w8, w16, w32, w64, to_be_bytes};
 ghost use Rattle.pg_base.specs.Cells.{be};
-ghost use Rattle.pg_base.specs.Faults.{Answers, NeverMemory};
+ghost use Rattle.pg_types.specs.Faults.{Answers, NeverMemory};
 ghost use Rattle.pg_base.specs.Formats.{Decodes};
 ghost use Rattle.pg_base.specs.Numbers.{FormBool, FormSigned, FormUnsigned, first_fault_number};
 ghost use Rattle.pg_base.specs.Appending.{Appends};

@@ -1,6 +1,6 @@
 //! Texts, in UTF-8.
 ghost use Rattle.std.specs.Prelude.{◌∷◌, Some, true, false};
-ghost use Rattle.pg_base.specs.Faults.{Answers, NeverMemory};
+ghost use Rattle.pg_types.specs.Faults.{Answers, NeverMemory};
 ghost use Rattle.pg_base.specs.Formats.{Decodes};
 ghost use Rattle.pg_base.specs.Texts.{FormText, first_fault_text};
 ghost use Rattle.pg_base.specs.Appending.{Appends};

@@ -1,7 +1,7 @@
 //! Writing dates with infinities.
 ghost use Rattle.std.specs.Prelude.{true, codes, refl};
 ghost use Rattle.std.specs.Int.{w32};
-ghost use Rattle.pg_base.specs.declared.format.Format.TheVariants.{Binary};
+ghost use Rattle.pg_types.specs.declared.format.Format.TheVariants.{Binary};
 ghost use Rattle.pg_base.specs.Special.{InfinityOr, accepted_date, date_seen, wire_special};
 ghost use Rattle.pg_write.specs.Writing.{checked_by};
 

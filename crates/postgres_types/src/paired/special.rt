@@ -2,8 +2,8 @@
 ghost use Rattle.std.specs.Prelude.{◌&&◌};
 ghost use Rattle.std.proofs.Common.{ap};
 ghost use Rattle.std.specs.Int.{w32, w64};
-ghost use Rattle.pg_base.specs.declared.types.built_in.BuiltIn.TheVariants.{Date as DateRow};
-ghost use Rattle.pg_base.specs.Content.{is_row};
+ghost use Rattle.pg_types.specs.declared.types.built_in.BuiltIn.TheVariants.{Date as DateRow};
+ghost use Rattle.pg_types.specs.Content.{is_row};
 ghost use Rattle.pg_base.specs.Moments.{accepted_moment};
 ghost use Rattle.pg_base.specs.Special.{date_seen, timestamp_seen};
 ghost use Rattle.pg_base.proofs.SpecialLaws.{inside_accepted};

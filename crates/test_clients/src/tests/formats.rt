@@ -13,8 +13,8 @@ pub struct Word(pub &'static str);
 
 impl ToSql for Word {
     ghost use Rattle.std.specs.Prelude.{Ok, Some, codes, refl};
-    ghost use Rattle.pg_base.specs.declared.format.Format.TheVariants.{Text as TextFormat};
-    ghost use Rattle.pg_base.specs.declared.types.built_in.BuiltIn.TheVariants.{Text};
+    ghost use Rattle.pg_types.specs.declared.format.Format.TheVariants.{Text as TextFormat};
+    ghost use Rattle.pg_types.specs.declared.types.built_in.BuiltIn.TheVariants.{Text};
     ghost use Rattle.postgres_types.specs.Content.{is_row};
     ghost use Rattle.postgres_types.specs.Writing.{checked_by};
 
@@ -33,7 +33,7 @@ impl ToSql for Word {
         Ok(IsNull::No)
     }
 
-    #[tactic(auto, using(pg_base::proofs::DerivedTypes::eq_content))]
+    #[tactic(auto, using(pg_types::proofs::DerivedTypes::eq_content))]
     fn accepts(ty: &Type) -> bool {
         *ty == Type::TEXT
     }

@@ -14,7 +14,7 @@ struct Micros(i64);
 impl<'a> FromSql<'a> for Micros {
     ghost use Rattle.std.specs.Prelude.{◌≡◌};
     ghost use Rattle.std.specs.Int.{w64};
-    ghost use Rattle.pg_base.specs.declared.types.built_in.BuiltIn.TheVariants.{Timestamp as TimestampRow};
+    ghost use Rattle.pg_types.specs.declared.types.built_in.BuiltIn.TheVariants.{Timestamp as TimestampRow};
     ghost use Rattle.postgres_types.specs.Content.{is_row};
     ghost use Rattle.pg_base.proofs.FormatLaws.{int8_grammar};
     ghost use Rattle.postgres_types.specs.Formats.{ReadsPlain};
@@ -44,7 +44,7 @@ impl<'a> FromSql<'a> for Micros {
         Err(Fault::WasNull)
     }
 
-    #[tactic(auto, using(pg_base::proofs::DerivedTypes::eq_content))]
+    #[tactic(auto, using(pg_types::proofs::DerivedTypes::eq_content))]
     fn accepts(ty: &Type) -> bool {
         *ty == Type::TIMESTAMP
     }
@@ -53,8 +53,8 @@ impl<'a> FromSql<'a> for Micros {
 impl ToSql for Micros {
     ghost use Rattle.std.specs.Prelude.{codes, refl};
     ghost use Rattle.std.specs.Int.{w64};
-    ghost use Rattle.pg_base.specs.declared.format.Format.TheVariants.{Binary};
-    ghost use Rattle.pg_base.specs.declared.types.built_in.BuiltIn.TheVariants.{Timestamp as TimestampRow};
+    ghost use Rattle.pg_types.specs.declared.format.Format.TheVariants.{Binary};
+    ghost use Rattle.pg_types.specs.declared.types.built_in.BuiltIn.TheVariants.{Timestamp as TimestampRow};
     ghost use Rattle.postgres_types.specs.Content.{is_row};
     ghost use Rattle.postgres_types.specs.Numbers.{wire_signed};
     ghost use Rattle.postgres_types.specs.Writing.{checked_by};
@@ -74,7 +74,7 @@ impl ToSql for Micros {
         Ok(IsNull::No)
     }
 
-    #[tactic(auto, using(pg_base::proofs::DerivedTypes::eq_content))]
+    #[tactic(auto, using(pg_types::proofs::DerivedTypes::eq_content))]
     fn accepts(ty: &Type) -> bool {
         *ty == Type::TIMESTAMP
     }

@@ -16,7 +16,7 @@ impl<'a> FromSql<'a> for Degrees {
     ghost use Rattle.pg_base.proofs.FormatLaws.{int4_grammar};
     ghost use Rattle.postgres_types.specs.Formats.{ReadsPlain};
     ghost use Rattle.std.specs.Int.{w32};
-    ghost use Rattle.pg_base.specs.declared.types.built_in.BuiltIn.TheVariants.{Int4};
+    ghost use Rattle.pg_types.specs.declared.types.built_in.BuiltIn.TheVariants.{Int4};
     ghost use Rattle.postgres_types.specs.Content.{is_row};
     ghost use Rattle.postgres_types.specs.Numbers.{FormSigned, first_fault_number};
     ghost use Rattle.pg_base.proofs.SamenessLaws.{content_equivalence};
@@ -51,9 +51,9 @@ impl<'a> FromSql<'a> for Degrees {
 
 impl ToSql for Degrees {
     ghost use Rattle.std.specs.Prelude.{codes, refl};
-    ghost use Rattle.pg_base.specs.declared.format.Format.TheVariants.{Text};
+    ghost use Rattle.pg_types.specs.declared.format.Format.TheVariants.{Text};
     ghost use Rattle.std.specs.Int.{w32};
-    ghost use Rattle.pg_base.specs.declared.types.built_in.BuiltIn.TheVariants.{Int4};
+    ghost use Rattle.pg_types.specs.declared.types.built_in.BuiltIn.TheVariants.{Int4};
     ghost use Rattle.postgres_types.specs.Content.{is_row};
     ghost use Rattle.postgres_types.specs.Numbers.{wire_signed};
     ghost use Rattle.postgres_types.specs.Writing.{checked_by};

@@ -3,8 +3,8 @@ use Rattle.std.specs.Vec.{vec_len}
 use Rattle.std.proofs.lemmas.List.{length-append}
 use Rattle.std.proofs.lemmas.Result.{err_from_is_err_and}
 use Rattle.pg_base.specs.Cells.{Cell, cell_of}
-use Rattle.pg_base.specs.Content.{content}
-use Rattle.pg_base.specs.Faults.{refusal_of}
+use Rattle.pg_types.specs.Content.{content}
+use Rattle.pg_types.specs.Faults.{refusal_of}
 use Rattle.pg_read.proofs.ArraySteps.{array_cut, array_ends, array_long, array_refused, array_short}
 use Rattle.pg_read.proofs.ListSteps.{taken_next, value_next}
 use Rattle.pg_read.proofs.arrays.read_array.Goals as goal

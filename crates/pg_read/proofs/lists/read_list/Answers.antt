@@ -1,8 +1,8 @@
 use Rattle.std.proofs.Common.{◌++◌, ◌∷◌, [], List, Vec, Global}
 use Rattle.std.proofs.lemmas.Result.{err_from_is_err_and}
 use Rattle.pg_base.specs.Cells.{Cell, cell_of}
-use Rattle.pg_base.specs.Content.{content}
-use Rattle.pg_base.specs.Faults.{refusal_of}
+use Rattle.pg_types.specs.Content.{content}
+use Rattle.pg_types.specs.Faults.{refusal_of}
 use Rattle.pg_read.proofs.ListSteps.{list_cut, list_refused, taken_next, value_next}
 use Rattle.pg_read.proofs.lists.read_list.Goals as goal
 

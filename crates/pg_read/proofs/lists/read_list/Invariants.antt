@@ -1,6 +1,6 @@
 use Rattle.std.proofs.Common.{List, Ok}
 use Rattle.pg_base.specs.Cells.{Cell}
-use Rattle.pg_base.specs.Content.{content}
+use Rattle.pg_types.specs.Content.{content}
 use Rattle.pg_read.specs.ListReading.{ReadsAll}
 use Rattle.pg_read.proofs.ListSteps.{HaveBeenTaken}
 use Rattle.pg_read.proofs.lists.read_list.Given as goal

@@ -1,7 +1,7 @@
 use Rattle.std.proofs.Common.{arith, ◌∷◌, ◌++◌, [], Vec, Global, Ok, ap, length-append}
 use Rattle.std.proofs.lemmas.Result.{err_from_is_err_and}
-use Rattle.pg_base.specs.Content.{content}
-use Rattle.pg_base.specs.Faults.{refusal_of}
+use Rattle.pg_types.specs.Content.{content}
+use Rattle.pg_types.specs.Faults.{refusal_of}
 use Rattle.pg_read.proofs.RunFrames.{run_frames}
 use Rattle.pg_read.proofs.RunSteps.{run_ends, run_next, run_stops, run_unkept}
 use Rattle.pg_read.proofs.private.read_values.Goals as goal

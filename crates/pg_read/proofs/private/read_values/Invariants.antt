@@ -1,6 +1,6 @@
 use Rattle.std.proofs.Common.{◌≡◌, List, length}
 use Rattle.pg_base.specs.Cells.{Cell}
-use Rattle.pg_base.specs.Content.{content}
+use Rattle.pg_types.specs.Content.{content}
 use Rattle.pg_read.proofs.RunSteps.{HaveBeenRead}
 use Rattle.pg_read.proofs.private.read_values.Given as goal
 

@@ -2,8 +2,8 @@ use Rattle.std.proofs.Common.{◌≡◌, ◌++◌, [], ◌∷◌, map, Ok, sym, 
 use Rattle.std.proofs.lemmas.List.{map-append}
 use Rattle.std.proofs.lemmas.Result.{err_from_is_err_and}
 use Rattle.pg_base.specs.Arrays.{owned_cell}
-use Rattle.pg_base.specs.Content.{content}
-use Rattle.pg_base.specs.Faults.{refusal_of}
+use Rattle.pg_types.specs.Content.{content}
+use Rattle.pg_types.specs.Faults.{refusal_of}
 use Rattle.pg_write.proofs.ElementCells.{next_cell, next_refusal}
 use Rattle.pg_write.proofs.lists.element_cells.Goals as goal
 

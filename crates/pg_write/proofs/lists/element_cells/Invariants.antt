@@ -1,6 +1,6 @@
 use Rattle.std.proofs.Common.{◌≡◌, map, take, Ok}
 use Rattle.pg_base.specs.Arrays.{owned_cell}
-use Rattle.pg_base.specs.Content.{content}
+use Rattle.pg_types.specs.Content.{content}
 use Rattle.pg_write.specs.ListWriting.{element_cells}
 use Rattle.pg_write.proofs.lists.element_cells.Given as goal
 

@@ -4,7 +4,7 @@ use Rattle.std.specs.Cow.{cow_value}
 use Rattle.std.specs.Int.{w32}
 use Rattle.std.specs.Prelude.{option_map}
 use Rattle.pg_base.specs.Arrays.{owned_cell}
-use Rattle.pg_base.specs.Content.{content, oid_of}
+use Rattle.pg_types.specs.Content.{content, oid_of}
 use Rattle.pg_write.specs.ListWriting.{element_cells, lower_bound_of}
 use Rattle.pg_write.proofs.ElementCells.{had_bytes, list_written, same_array}
 use Rattle.pg_write.proofs.lists.list_to_sql.Goals as goal

@@ -1,5 +1,5 @@
 use Rattle.pg_base.specs.Cells.{cell_of}
-use Rattle.pg_base.specs.Content.{content}
+use Rattle.pg_types.specs.Content.{content}
 use Rattle.postgres_types.proofs.RewritingLemmas.{again, made}
 use Rattle.postgres_types.proofs.rewriting.rewrite.Goals as goal
 

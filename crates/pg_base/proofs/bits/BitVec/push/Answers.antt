@@ -1,9 +1,9 @@
 use Rattle.std.proofs.Common.{length, ◌≡◌, ◌+◌, ◌∙◌, ◌%◌, ◌/◌, ◌<◌, ◌∷◌, [], ◌++◌, false, ap, sym, refl, arith}
 use Rattle.std.specs.Prelude.{nat_lt, List, Bool, true, Result, Ok, Err, ⊤, IsErr}
 use Rattle.std.specs.Result.{IsErrAnd}
-use Rattle.pg_base.specs.declared.fault.Fault.{Fault}
-use Rattle.pg_base.specs.declared.fault.Fault.TheVariants.{Memory}
-use Rattle.pg_base.specs.Faults.{refusal_of}
+use Rattle.pg_types.specs.declared.fault.Fault.{Fault}
+use Rattle.pg_types.specs.declared.fault.Fault.TheVariants.{Memory}
+use Rattle.pg_types.specs.Faults.{refusal_of}
 use Rattle.std.proofs.lemmas.Bool.Decides.{nat_tests}
 use Rattle.pg_base.specs.Bits.{Pushes, first_bits, most_bits}
 use Rattle.pg_base.proofs.BitLemmas.{byte_read, byte_behind, first_bits_len, is_put, room_in_last, pushed_view, pushed_tidy, next_view, next_tidy}

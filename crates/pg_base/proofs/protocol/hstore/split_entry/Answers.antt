@@ -1,7 +1,7 @@
 use Rattle.std.proofs.Common.{◌≡◌, ◌∙◌, ◌++◌, ap, append_assoc, refl, sym}
 use Rattle.std.proofs.lemmas.Option.{IfSome_then}
 use Rattle.std.proofs.lemmas.Result.{err_from_is_err_and}
-use Rattle.pg_base.specs.Faults.{refusal_of}
+use Rattle.pg_types.specs.Faults.{refusal_of}
 use Rattle.pg_base.proofs.HstoreLaws.{key_fault, value_fault}
 use Rattle.pg_base.proofs.protocol.hstore.split_entry.Goals as goal
 

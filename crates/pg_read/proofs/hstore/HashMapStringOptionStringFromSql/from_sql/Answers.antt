@@ -2,7 +2,7 @@ use Rattle.std.proofs.Common.{◌++◌, ◌∷◌, [], string_bytes}
 use Rattle.std.proofs.lemmas.Map.Text.{hash_map_updates_text}
 use Rattle.std.proofs.lemmas.Option.{IfSome_then}
 use Rattle.std.proofs.lemmas.Result.{err_from_is_err_and}
-use Rattle.pg_base.specs.Faults.{refusal_of}
+use Rattle.pg_types.specs.Faults.{refusal_of}
 use Rattle.pg_base.specs.Hstore.{Entry, lent_entry}
 use Rattle.pg_base.proofs.HstoreLaws.{entry_fault, read_next}
 use Rattle.pg_read.proofs.LastEntries.{put_in}

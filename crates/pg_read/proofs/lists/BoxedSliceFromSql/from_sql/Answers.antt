@@ -1,7 +1,7 @@
 use Rattle.std.proofs.Common.{Some, Vec, Global}
 use Rattle.std.specs.Box.{boxed_slice_items}
 use Rattle.pg_base.specs.Lists.{member_of}
-use Rattle.pg_base.specs.Content.{content}
+use Rattle.pg_types.specs.Content.{content}
 use Rattle.pg_read.proofs.ListSteps.{same_items}
 use Rattle.pg_read.proofs.lists.BoxedSliceFromSql.from_sql.Goals as goal
 

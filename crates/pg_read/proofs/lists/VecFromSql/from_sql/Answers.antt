@@ -1,6 +1,6 @@
 use Rattle.std.proofs.Common.{◌≡◌, ◌∙◌, Some, ap, sym}
 use Rattle.pg_base.specs.Lists.{member_of}
-use Rattle.pg_base.specs.Content.{content}
+use Rattle.pg_types.specs.Content.{content}
 use Rattle.pg_read.proofs.lists.VecFromSql.from_sql.Goals as goal
 
 pub returns-clause-outcome : goal.returns-clause-outcome

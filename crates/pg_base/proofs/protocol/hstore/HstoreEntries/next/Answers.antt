@@ -1,6 +1,6 @@
 use Rattle.std.proofs.Common.{refl}
 use Rattle.std.proofs.lemmas.Option.{IfSome_then}
-use Rattle.pg_base.specs.Faults.{refusal_of}
+use Rattle.pg_types.specs.Faults.{refusal_of}
 use Rattle.pg_base.proofs.HstoreSteps.{entry_fault_next}
 use Rattle.pg_base.proofs.protocol.hstore.HstoreEntries.next.Goals as goal
 

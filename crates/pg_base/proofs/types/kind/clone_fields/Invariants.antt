@@ -1,6 +1,0 @@
-use Rattle.std.proofs.Common.{◌≡◌, take}
-use Rattle.pg_base.specs.Content.{fields_content}
-use Rattle.pg_base.proofs.types.kind.clone_fields.Given as goal
-
-abbrev pub invariant-loop-field : goal.invariant-loop-field
-invariant-loop-field l = fields_content l.copies.items ≡ fields_content (take l.field-index l.fields)

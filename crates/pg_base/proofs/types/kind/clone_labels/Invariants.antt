@@ -1,5 +1,0 @@
-use Rattle.std.proofs.Common.{◌≡◌, string_bytes, map, take}
-use Rattle.pg_base.proofs.types.kind.clone_labels.Given as goal
-
-abbrev pub invariant-loop-label : goal.invariant-loop-label
-invariant-loop-label l = map string_bytes l.copies.items ≡ map string_bytes (take l.label-index l.labels)

@@ -1,0 +1,2 @@
+mod ParamFrames
+mod ParamLists

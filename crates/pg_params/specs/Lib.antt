@@ -1,0 +1,2 @@
+-- Writing parameters.
+pub mod ParamWriting

@@ -1,0 +1,99 @@
+//! Writing parameters of any types: the frames of a Bind message.
+#![tactic(auto)]
+
+ghost use Rattle.std.specs.Prelude.{◌≡◌, ◌≤◌, ◌+◌, ◌++◌, drop, length, take, zip};
+ghost use Rattle.std.specs.Int.{to_be_bytes, w32};
+ghost use Rattle.pg_types.specs.Content.{content};
+ghost use Rattle.pg_params.specs.ParamWriting.{AppendsFrame, Binds, FramesFrom};
+ghost use Rattle.pg_write.specs.Writing.{Writes};
+
+use bytes::{BufMut, BytesMut};
+use pg_base::fault::Fault;
+use pg_base::format::IsNull;
+use pg_base::protocol::MAX_LEN;
+use pg_base::types::PgType;
+use pg_write::to_sql::ToSql;
+use std::alloc::Global;
+
+/// How many bytes the length of a cell takes.
+const LEN: usize = 4;
+
+/// Appends the frames of the parameters in their order, each for the type that stands at its place:
+/// the length of its cell in 4 bytes, highest first, and the cell's bytes; for NULL the length -1.
+///
+/// The lists are of one length. A refusal names the place, counted from 0, of the first parameter
+/// that is refused: with the fault of its checked writing, or `Transmit` where its cell passes
+/// 2,147,483,647 bytes. It leaves the buffer's bytes as they were, `Memory` too.
+pub fn params_to_sql(
+    alloc: Global,
+    params: &[Box<dyn ToSql>],
+    types: &[PgType],
+    out: &mut BytesMut,
+) -> Result<(), (usize, Fault)>
+    requires { length params.now ≡ length types.now }
+    ensures { Binds (λ p. (ToSql-box p.0).ToSql.checked (content p.1) p.0.value)
+        (zip params.now types.now) out.old.items out.new.items result }
+{
+    let start = out.len();
+    for place in 0..params.len() {
+        if let Err(fault) = param_to_sql(alloc, &params[place], &types[place], out) {
+            out.truncate(start);
+            return Err((place, fault));
+        }
+    }
+    Ok(())
+}
+
+/// Appends the frame of the parameter. A refusal leaves what was appended so far.
+fn param_to_sql(
+    alloc: Global,
+    param: &Box<dyn ToSql>,
+    ty: &PgType,
+    out: &mut BytesMut,
+) -> Result<(), Fault>
+    ensures { AppendsFrame ((ToSql-box param.now).ToSql.checked (content ty.now) param.now.value)
+        out.old.items out.new.items result }
+{
+    let start = out.len();
+    // The frame of NULL, whose length is put right once a cell stands behind it.
+    out.put_i32(-1)?;
+    match write_boxed(alloc, param, ty, out)? {
+        IsNull::Yes => Ok(()),
+        IsNull::No => frame_from(start, out),
+    }
+}
+
+/// Makes what stands from `start` on a frame: its first 4 bytes become the number of the others.
+fn frame_from(start: usize, out: &mut BytesMut) -> Result<(), Fault>
+    requires { start + LEN ≤ length out.old.items }
+    ensures { FramesFrom start out.old.items out.new.items result }
+{
+    let len = out.len() - start - LEN;
+    if len > MAX_LEN {
+        return Err(Fault::Transmit);
+    }
+    set_len(start, len as u32, out);
+    Ok(())
+}
+
+/// Writes the length at `start` over the 4 bytes there.
+fn set_len(start: usize, len: u32, out: &mut BytesMut)
+    requires { start + LEN ≤ length out.old.items }
+    ensures { out.new.items
+        ≡ take start out.old.items ++ (to_be_bytes w32 len ++ drop (start + LEN) out.old.items) }
+{
+    out.as_mut_slice()[start..start + LEN].copy_from_slice(&len.to_be_bytes());
+}
+
+/// Checked writing of the boxed value.
+fn write_boxed(
+    alloc: Global,
+    param: &Box<dyn ToSql>,
+    ty: &PgType,
+    out: &mut BytesMut,
+) -> Result<IsNull, Fault>
+    ensures { Writes ((ToSql-box param.now).ToSql.checked (content ty.now) param.now.value)
+        out.old.items out.new.items result }
+{
+    param.to_sql_checked(alloc, ty, out)
+}

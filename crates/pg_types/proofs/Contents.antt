@@ -1,0 +1,129 @@
+-- Two contents are the same just where the test says so.
+use Rattle.std.proofs.Common.{rules, ◌≡◌, ◌∙◌, sym, refl, ap, ◌==◌, ◌&&◌, Bool as Truth, true, false, if◌then◌else◌, ℕ, List, [], ◌∷◌}
+use Rattle.std.specs.Cmp.Lexicographic.{pointwise}
+use Rattle.std.proofs.lemmas.Bool.{and_parts, eqb-true, eq-eqb}
+use denote.Enum.Bare.{same_true, true_same}
+use Rattle.pg_types.specs.contracts.types.built_in.BuiltIn.{the_type}
+use Rattle.pg_types.specs.contracts.types.built_in.BuiltInPartialEq.TheImpl.{ghosts as rows}
+use Rattle.pg_types.specs.declared.types.built_in.BuiltIn.{BuiltIn as Row}
+use Rattle.pg_types.specs.declared.types.built_in.BuiltIn.TheVariants.{Bool}
+use Rattle.pg_types.specs.BuiltInRows.{row_oid}
+use Rattle.pg_types.specs.Constants.{all_rows}
+use Rattle.pg_types.specs.Content.{Content, BuiltInType, MadeType, KindContent, SimpleKind, EnumKind, PseudoKind, ArrayKind, RangeKind, MultirangeKind, DomainKind, CompositeKind, FieldsContent, NoFields, FieldAnd, same_type, same_kind_content, same_fields}
+
+-- texts that the test finds the same are the same
+pub bytes-same : (m n : List ℕ) → pointwise ◌==◌ m n ≡ true → m ≡ n
+bytes-same [] [] h = refl
+bytes-same [] (y ∷ ys) h = cc
+bytes-same (x ∷ xs) [] h = cc
+bytes-same (x ∷ xs) (y ∷ ys) h =
+    let p = and_parts (x == y) (pointwise ◌==◌ xs ys) h in
+    let e = eqb-true x y p.0 in
+    let f = bytes-same xs ys p.1 in cc
+
+-- the same of lists of texts
+texts-same : (m n : List (List ℕ)) → pointwise (pointwise ◌==◌) m n ≡ true → m ≡ n
+texts-same [] [] h = refl
+texts-same [] (y ∷ ys) h = cc
+texts-same (x ∷ xs) [] h = cc
+texts-same (x ∷ xs) (y ∷ ys) h =
+    let p = and_parts (pointwise ◌==◌ x y) (pointwise (pointwise ◌==◌) xs ys) h in
+    let e = bytes-same x y p.0 in
+    let f = texts-same xs ys p.1 in cc
+
+-- the first of these rows that has the OID, or else the last argument
+row-of : List Row → ℕ → Row → Row
+row-of [] oid else_row = else_row
+row-of (r ∷ rs) oid else_row = if row_oid r == oid then r else row-of rs oid else_row
+
+-- each row is found by its OID
+row-found : (a : Row) → row-of all_rows (row_oid a) Bool ≡ a
+unfolding row-of
+row-found Bool = refl
+row-found a = refl
+
+-- the same of rows
+row-same : (a b : Row) → (row_oid a == row_oid b) ≡ true → a ≡ b
+row-same a b h = sym (row-found a) ∙ ap (λ oid. row-of all_rows oid Bool) (eqb-true (row_oid a) (row_oid b) h) ∙ row-found b
+
+-- two tests that hold together are one
+one-test : (p q : Truth) → (p ≡ true → q ≡ true) → (q ≡ true → p ≡ true) → p ≡ q
+one-test true q f g = sym (f refl)
+one-test false true f g = g refl
+one-test false false f g = refl
+
+-- the derived == of rows compares their OIDs
+pub eq-rows : (a b : Row) → rows.eq a b ≡ (row_oid a == row_oid b)
+eq-rows a b =
+    one-test _ _ (λ h. eq-eqb _ _ (ap row_oid (same_true the_type (search rules) a b h))) (λ h. true_same the_type a b (row-same a b h))
+
+mutual
+  -- types that the test finds the same are the same
+  pub type-same : (a b : Content) → same_type a b ≡ true → a ≡ b
+  type-same (BuiltInType a) (BuiltInType b) h = ap BuiltInType (row-same a b h)
+  type-same (MadeType m i k s) (MadeType n j l t) h =
+      let p = and_parts (pointwise ◌==◌ m n) (i == j && (same_kind_content k l && pointwise ◌==◌ s t)) h in
+      let q = and_parts (i == j) (same_kind_content k l && pointwise ◌==◌ s t) p.1 in
+      let r = and_parts (same_kind_content k l) (pointwise ◌==◌ s t) q.1 in
+      let e = bytes-same m n p.0 in
+      let f = eqb-true i j q.0 in
+      let g = kind-same k l r.0 in
+      let w = bytes-same s t r.1 in cc
+  type-same (BuiltInType a) (MadeType n j l t) h = cc
+  type-same (MadeType m i k s) (BuiltInType b) h = cc
+
+  -- the same of kinds
+  pub kind-same : (a b : KindContent) → same_kind_content a b ≡ true → a ≡ b
+  kind-same SimpleKind SimpleKind h = refl
+  kind-same (EnumKind a) (EnumKind b) h = ap EnumKind (texts-same a b h)
+  kind-same PseudoKind PseudoKind h = refl
+  kind-same (ArrayKind a) (ArrayKind b) h = ap ArrayKind (type-same a b h)
+  kind-same (RangeKind a) (RangeKind b) h = ap RangeKind (type-same a b h)
+  kind-same (MultirangeKind a) (MultirangeKind b) h = ap MultirangeKind (type-same a b h)
+  kind-same (DomainKind a) (DomainKind b) h = ap DomainKind (type-same a b h)
+  kind-same (CompositeKind a) (CompositeKind b) h = ap CompositeKind (fields-same a b h)
+  kind-same a b h = cc
+
+  -- the same of fields
+  pub fields-same : (a b : FieldsContent) → same_fields a b ≡ true → a ≡ b
+  fields-same NoFields NoFields h = refl
+  fields-same (FieldAnd m a p) (FieldAnd n b q) h =
+      let u = and_parts (pointwise ◌==◌ m n && same_type a b) (same_fields p q) h in
+      let v = and_parts (pointwise ◌==◌ m n) (same_type a b) u.0 in
+      let e = bytes-same m n v.0 in
+      let f = type-same a b v.1 in
+      let g = fields-same p q u.1 in cc
+  fields-same NoFields (FieldAnd n b q) h = cc
+  fields-same (FieldAnd m a p) NoFields h = cc
+
+-- the test finds a text the same as itself
+pub bytes-self : (m : List ℕ) → pointwise ◌==◌ m m ≡ true
+bytes-self [] = refl
+bytes-self (x ∷ xs) = rw (eq-eqb x x refl, bytes-self xs) refl
+
+-- the same of a list of texts
+texts-self : (m : List (List ℕ)) → pointwise (pointwise ◌==◌) m m ≡ true
+texts-self [] = refl
+texts-self (x ∷ xs) = rw (bytes-self x, texts-self xs) refl
+
+mutual
+  -- the test finds a type the same as itself
+  pub type-self : (a : Content) → same_type a a ≡ true
+  type-self (BuiltInType a) = eq-eqb (row_oid a) (row_oid a) refl
+  type-self (MadeType m i k s) = rw (bytes-self m, eq-eqb i i refl, kind-self k, bytes-self s) refl
+
+  -- the same of a kind
+  pub kind-self : (a : KindContent) → same_kind_content a a ≡ true
+  kind-self SimpleKind = refl
+  kind-self (EnumKind a) = texts-self a
+  kind-self PseudoKind = refl
+  kind-self (ArrayKind a) = type-self a
+  kind-self (RangeKind a) = type-self a
+  kind-self (MultirangeKind a) = type-self a
+  kind-self (DomainKind a) = type-self a
+  kind-self (CompositeKind a) = fields-self a
+
+  -- the same of fields
+  pub fields-self : (a : FieldsContent) → same_fields a a ≡ true
+  fields-self NoFields = refl
+  fields-self (FieldAnd m a p) = rw (bytes-self m, type-self a, fields-self p) refl

@@ -1,0 +1,211 @@
+//! Why a value is not read or not written.
+ghost use Rattle.std.specs.Prelude.{◌≡◌, ◌≤◌, length};
+ghost use Rattle.pg_types.specs.declared.fault.Fault.TheVariants.{Memory};
+
+use crate::types::PgType;
+use arrayvec::ArrayString;
+use std::alloc::{AllocError, AllocFailed};
+use std::error::Error;
+use std::fmt;
+
+/// The most bytes of a [`Reason`]: a name in a [`WrongType`], a text in a [`Fault::User`].
+pub const REASON_LEN: usize = 64;
+
+/// A short text that lies in the fault itself, so that a fault holds no reference.
+pub type Reason = ArrayString<REASON_LEN>;
+
+/// A NULL was read by a type that has no value for it.
+#[derive(Debug, Clone, Copy)]
+pub struct WasNull;
+
+impl fmt::Display for WasNull {
+    ghost use Rattle.std.specs.Prelude.{Some};
+    ghost use Rattle.pg_types.specs.FaultTexts.{was_null_text};
+
+    ghost output = { λ _. Some was_null_text };
+
+    fn fmt<W: fmt::Write>(&self, f: &mut fmt::Formatter<W>) -> fmt::Result {
+        f.write_str("a Postgres value was `NULL`")
+    }
+}
+
+impl Error for WasNull {}
+
+/// A Rust type that does not accept a Postgres type.
+#[derive(Debug, Drop)]
+pub struct WrongType {
+    postgres: PgType,
+    rust: Reason,
+}
+
+impl WrongType {
+    ghost use Rattle.pg_types.specs.FaultTexts.{postgres_type, rust_name};
+    ghost use Rattle.pg_types.specs.Content.{content};
+
+    /// The refusal of the Postgres type `ty` by the Rust type of that name, which is at most
+    /// [`REASON_LEN`] bytes long.
+    pub fn new(ty: PgType, rust: &'static str) -> WrongType
+        requires { length rust.now ≤ REASON_LEN }
+        ensures postgres { postgres_type result ≡ content ty }
+        ensures rust { rust_name result ≡ rust.now }
+    {
+        WrongType {
+            postgres: ty,
+            rust: reason(rust),
+        }
+    }
+}
+
+/// The text, in place.
+fn reason(text: &'static str) -> Reason
+    requires { length text.now ≤ REASON_LEN }
+    ensures { result.bytes ≡ text.now }
+{
+    let mut reason = Reason::new();
+    reason.push_str(text);
+    reason
+}
+
+impl fmt::Display for WrongType {
+    ghost use Rattle.std.specs.Prelude.{Some};
+    ghost use Rattle.pg_types.specs.FaultTexts.{wrong_type_text, postgres_type, rust_name};
+
+    ghost output = { λ w. Some (wrong_type_text (postgres_type w) (rust_name w)) };
+
+    fn fmt<W: fmt::Write>(&self, f: &mut fmt::Formatter<W>) -> fmt::Result {
+        let rust = self.rust.as_str();
+        let postgres = &self.postgres;
+        write!(
+            f,
+            "cannot convert between the Rust type `{rust}` and the Postgres type `{postgres}`"
+        )
+    }
+}
+
+impl Error for WrongType {}
+
+/// Why a value is not read or not written. Each has a number, [`code`](Fault::code).
+#[derive(Debug, Drop, thiserror::Error)]
+pub enum Fault {
+    /// Memory was refused. It may come at any point of a call that takes memory.
+    #[error("out of memory")]
+    Memory,
+    /// A NULL was read by a type that has no value for it.
+    #[error("a Postgres value was `NULL`")]
+    WasNull,
+    /// The Rust type does not accept the Postgres type.
+    #[error(transparent)]
+    WrongType(WrongType),
+    /// The cell, or a part of it, has another length than its format.
+    #[error("invalid buffer size")]
+    Size,
+    /// A text is not UTF-8.
+    #[error("invalid UTF-8")]
+    Utf8,
+    /// A count is negative.
+    #[error("invalid count")]
+    Count,
+    /// The length of an hstore's key is negative.
+    #[error("invalid key length")]
+    KeyLength,
+    /// An array has more than one dimension.
+    #[error("array contains too many dimensions")]
+    Dimensions,
+    /// An array has fewer elements than the Rust array.
+    #[error("too few elements in array (expected {expected}, got {got})")]
+    TooFew { expected: usize, got: usize },
+    /// An array has more elements than the Rust array.
+    #[error("excess elements in array (expected {expected}, got more than that)")]
+    Excess { expected: usize },
+    /// The cell's date, time or moment lies outside the Rust type's range.
+    #[error("value too large to decode")]
+    Decode,
+    /// The value is too large for its cell.
+    #[error("value too large to transmit")]
+    Transmit,
+    /// A JSONB cell is of another version than 1.
+    #[error("unsupported JSONB encoding version")]
+    JsonVersion,
+    /// An ltree, lquery or ltxtquery cell is of another version than 1.
+    #[error("unsupported text version")]
+    TextVersion,
+    /// A JSON cell is no document.
+    #[error("invalid JSON")]
+    JsonText,
+    /// A JSON document holds a number that is neither an `i64` nor a `u64`.
+    #[error("JSON number is not a whole number")]
+    JsonNumber,
+    /// An address is neither IPv4 nor IPv6.
+    #[error("invalid IP family")]
+    Family,
+    /// A netmask is longer than its address.
+    #[error("invalid netmask")]
+    Netmask,
+    /// An address has another length than its family.
+    #[error("invalid address length")]
+    AddressLength,
+    /// A network has bits set behind its netmask.
+    #[error("host bits are set")]
+    HostBits,
+    /// The refusal of a user's own conversion, by its text; see [`user`](Fault::user).
+    #[error("{0}")]
+    User(Reason),
+}
+
+impl Fault {
+    ghost use Rattle.std.specs.Prelude.{Some};
+    ghost use Rattle.pg_types.specs.Faults.{code_of, refusal_of, user};
+
+    /// The number of the fault, from 1 for `Memory` to 21 for `User`.
+    pub fn code(&self) -> u32
+        ensures { result ≡ code_of self.now }
+    {
+        match self {
+            Fault::Memory => 1,
+            Fault::WasNull => 2,
+            Fault::WrongType(_) => 3,
+            Fault::Size => 4,
+            Fault::Utf8 => 5,
+            Fault::Count => 6,
+            Fault::KeyLength => 7,
+            Fault::Dimensions => 8,
+            Fault::TooFew { .. } => 9,
+            Fault::Excess { .. } => 10,
+            Fault::Decode => 11,
+            Fault::Transmit => 12,
+            Fault::JsonVersion => 13,
+            Fault::TextVersion => 14,
+            Fault::JsonText => 15,
+            Fault::JsonNumber => 16,
+            Fault::Family => 17,
+            Fault::Netmask => 18,
+            Fault::AddressLength => 19,
+            Fault::HostBits => 20,
+            Fault::User(_) => 21,
+        }
+    }
+
+    /// The refusal of a user's own conversion, by a text of at most [`REASON_LEN`] bytes.
+    pub fn user(text: &'static str) -> Fault
+        requires { length text.now ≤ REASON_LEN }
+        ensures { refusal_of result ≡ Some (user text.now) }
+    {
+        Fault::User(reason(text))
+    }
+}
+
+impl From<AllocError> for Fault {
+    ghost from_gives = { λ _ fault. fault ≡ Memory };
+
+    fn from(_error: AllocError) -> Fault {
+        Fault::Memory
+    }
+}
+
+impl<T: Drop> From<AllocFailed<T>> for Fault {
+    ghost from_gives = { λ _ fault. fault ≡ Memory };
+
+    fn from(_error: AllocFailed<T>) -> Fault {
+        Fault::Memory
+    }
+}

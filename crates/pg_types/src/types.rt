@@ -1,0 +1,173 @@
+//! Postgres types: the built-in ones and those that a client makes.
+ghost use Rattle.std.specs.Prelude.{◌≡◌, ◌≢◌, Some, IfSome, IsNone, IsOk, IfOk, IfErr, string_bytes};
+ghost use Rattle.pg_types.specs.declared.fault.Fault.TheVariants.{Memory};
+ghost use Rattle.pg_types.specs.BuiltInRows.{row_oid};
+ghost use Rattle.pg_types.specs.Content.{BuiltInType, MadeType, IsBuiltIn, content, kind_content, oid_of, name_of, schema_of, kind_of, shown};
+ghost use Rattle.pg_types.specs.Seen.{seen};
+
+use super::fault::Fault;
+use built_in::BuiltIn;
+use std::alloc::{AllocError, Global};
+use std::borrow::Cow;
+use std::fmt;
+use std::rc::Rc;
+
+mod built_in;
+mod constants;
+mod kind;
+pub mod laws;
+
+pub use kind::{Field, Kind, KindRef};
+
+/// The number by which a Postgres server names a type.
+pub type Oid = u32;
+
+/// A Postgres type.
+///
+/// Two built-in types are equal where they are the same one. Two made types are equal where their
+/// name, OID, kind and schema are. A made type never equals a built-in one.
+#[cycle(types)]
+#[derive(Debug, PartialEq, Eq, Hash, Drop)]
+pub struct PgType {
+    inner: Inner,
+}
+
+#[cycle(types)]
+#[derive(Debug, PartialEq, Eq, Hash, Drop)]
+enum Inner {
+    BuiltIn(BuiltIn),
+    Made(Rc<Made>),
+}
+
+#[cycle(types)]
+#[derive(Debug, PartialEq, Eq, Hash, Drop)]
+struct Made {
+    name: String,
+    oid: Oid,
+    kind: Kind,
+    schema: String,
+}
+
+impl PgType {
+    /// A made type of these four parts, which is refused with [`Fault::Memory`] only.
+    pub fn new(
+        alloc: Global,
+        name: String,
+        oid: Oid,
+        kind: Kind,
+        schema: String,
+    ) -> Result<PgType, Fault>
+        ensures made { IfOk result
+            (λ t. content t ≡ MadeType (string_bytes name) oid (kind_content kind) (string_bytes schema)) }
+        ensures refused { IfErr result (λ e. e ≡ Memory) }
+    {
+        let made = Rc::new(
+            alloc,
+            Made {
+                name,
+                oid,
+                kind,
+                schema,
+            },
+        )?;
+        Ok(PgType {
+            inner: Inner::Made(made),
+        })
+    }
+
+    /// The built-in type of this OID, or `None` where no built-in type has it.
+    pub fn from_oid(oid: Oid) -> Option<PgType>
+        ensures some { IfSome result (λ t. (row : _) × (content t ≡ BuiltInType row) × (row_oid row ≡ oid)) }
+        ensures none { IsNone result → (row : _) → row_oid row ≢ oid }
+    {
+        let row = BuiltIn::from_oid(oid)?;
+        Some(PgType {
+            inner: Inner::BuiltIn(row),
+        })
+    }
+
+    /// The OID of this type.
+    pub fn oid(&self) -> Oid
+        ensures { result ≡ oid_of (content self.now) }
+    {
+        match &self.inner {
+            Inner::BuiltIn(row) => row.oid(),
+            Inner::Made(made) => made.oid,
+        }
+    }
+
+    /// The name of this type, without its schema.
+    pub fn name(&self) -> &str
+        ensures { result.now ≡ name_of (content self.now) }
+    {
+        match &self.inner {
+            Inner::BuiltIn(row) => row.name(),
+            Inner::Made(made) => made.name.as_str(),
+        }
+    }
+
+    /// The schema of this type, which is `pg_catalog` for every built-in one.
+    pub fn schema(&self) -> &str
+        ensures { result.now ≡ schema_of (content self.now) }
+    {
+        match &self.inner {
+            Inner::BuiltIn(_) => "pg_catalog",
+            Inner::Made(made) => made.schema.as_str(),
+        }
+    }
+
+    /// The kind of this type. The member of a built-in array is owned; whatever a made type holds
+    /// is borrowed from it.
+    #[tactic(auto, using(crate::proofs::Fields::composite_content))]
+    pub fn kind(&self) -> KindRef<'_>
+        ensures { seen result ≡ kind_of (content self.now) }
+    {
+        match &self.inner {
+            Inner::BuiltIn(row) => match row.member() {
+                Some(member) => KindRef::Array(Cow::Owned(PgType {
+                    inner: Inner::BuiltIn(member),
+                })),
+                None => KindRef::Simple,
+            },
+            Inner::Made(made) => made.kind.as_kind_ref(),
+        }
+    }
+
+    /// An equal type. A built-in one is never refused, and a made one with [`Fault::Memory`] only.
+    pub fn try_clone(&self) -> Result<PgType, Fault>
+        ensures same { IfOk result (λ t. content t ≡ content self.now) }
+        ensures refused { IfErr result (λ e. e ≡ Memory) }
+        ensures built_in { IsBuiltIn (content self.now) → IsOk result }
+    {
+        Ok(self.clone()?)
+    }
+}
+
+impl Clone for PgType {
+    ghost is_clone = { λ t copy. content copy ≡ content t };
+
+    ghost is_infallible = { λ t. IsBuiltIn (content t) };
+
+    fn clone(&self) -> Result<PgType, AllocError> {
+        let inner = match &self.inner {
+            Inner::BuiltIn(row) => Inner::BuiltIn(*row),
+            Inner::Made(made) => Inner::Made(made.clone()?),
+        };
+        Ok(PgType { inner })
+    }
+}
+
+/// Writes the name, preceded by the schema and a dot unless the schema is `public` or `pg_catalog`.
+impl fmt::Display for PgType {
+    ghost output = { λ t. Some (shown (content t)) };
+
+    fn fmt<W: fmt::Write>(&self, f: &mut fmt::Formatter<W>) -> fmt::Result {
+        let schema = self.schema();
+        let name = self.name();
+        if schema == "public" || schema == "pg_catalog" {
+            write!(f, "{name}")
+        } else {
+            write!(f, "{schema}.{name}")
+        }
+    }
+}

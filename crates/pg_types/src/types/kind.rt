@@ -1,0 +1,156 @@
+//! The kinds of Postgres types, and the fields of a composite one.
+ghost use Rattle.std.specs.Prelude.{◌≡◌, IfOk, IfErr, map, string_bytes};
+ghost use Rattle.pg_types.specs.declared.fault.Fault.TheVariants.{Memory};
+ghost use Rattle.pg_types.specs.Content.{SameField, content, kind_content, fields_content, field_name, field_type};
+ghost use Rattle.pg_types.specs.Seen.{seen};
+
+use super::PgType;
+use crate::fault::Fault;
+use std::alloc::Global;
+use std::borrow::Cow;
+
+/// How a Postgres type is built.
+#[cycle(types)]
+#[derive(Debug, PartialEq, Eq, Hash, Drop)]
+pub enum Kind {
+    /// A type that is built from no other.
+    Simple,
+    /// An enumerated type, with its labels.
+    Enum(Vec<String>),
+    /// A type that no column has.
+    Pseudo,
+    /// An array, with the type of its elements.
+    Array(PgType),
+    /// A range, with the type of its bounds.
+    Range(PgType),
+    /// A set of ranges, with the type of their bounds.
+    Multirange(PgType),
+    /// A type with further conditions on its values, and the type below it.
+    Domain(PgType),
+    /// A composite type, with its fields.
+    Composite(Vec<Field>),
+}
+
+/// A field of a composite type.
+#[cycle(types)]
+#[derive(Debug, PartialEq, Eq, Hash, Drop)]
+pub struct Field {
+    name: String,
+    type_: PgType,
+}
+
+/// A view of how a Postgres type is built, with the variants of [`Kind`].
+#[derive(Debug, PartialEq, Eq, Hash, Drop)]
+pub enum KindRef<'a> {
+    /// A type that is built from no other.
+    Simple,
+    /// An enumerated type, with its labels.
+    Enum(&'a [String]),
+    /// A type that no column has.
+    Pseudo,
+    /// An array, with the type of its elements.
+    Array(Cow<'a, PgType>),
+    /// A range, with the type of its bounds.
+    Range(Cow<'a, PgType>),
+    /// A set of ranges, with the type of their bounds.
+    Multirange(Cow<'a, PgType>),
+    /// A type with further conditions on its values, and the type below it.
+    Domain(Cow<'a, PgType>),
+    /// A composite type, with its fields.
+    Composite(&'a [Field]),
+}
+
+impl Kind {
+    /// An equal kind, which is refused with [`Fault::Memory`] only.
+    #[tactic(auto, using(crate::proofs::Fields::composite_content))]
+    pub fn try_clone(&self, alloc: Global) -> Result<Kind, Fault>
+        ensures same { IfOk result (λ kind. kind_content kind ≡ kind_content self.now) }
+        ensures refused { IfErr result (λ e. e ≡ Memory) }
+    {
+        Ok(match self {
+            Kind::Simple => Kind::Simple,
+            Kind::Enum(labels) => Kind::Enum(clone_labels(alloc, labels.as_slice())?),
+            Kind::Pseudo => Kind::Pseudo,
+            Kind::Array(member) => Kind::Array(member.try_clone()?),
+            Kind::Range(member) => Kind::Range(member.try_clone()?),
+            Kind::Multirange(member) => Kind::Multirange(member.try_clone()?),
+            Kind::Domain(member) => Kind::Domain(member.try_clone()?),
+            Kind::Composite(fields) => Kind::Composite(clone_fields(alloc, fields.as_slice())?),
+        })
+    }
+
+    #[tactic(auto, using(crate::proofs::Fields::composite_content))]
+    pub(super) fn as_kind_ref(&self) -> KindRef<'_>
+        ensures { seen result ≡ kind_content self.now }
+    {
+        match self {
+            Kind::Simple => KindRef::Simple,
+            Kind::Enum(labels) => KindRef::Enum(labels.as_slice()),
+            Kind::Pseudo => KindRef::Pseudo,
+            Kind::Array(member) => KindRef::Array(Cow::Borrowed(member)),
+            Kind::Range(member) => KindRef::Range(Cow::Borrowed(member)),
+            Kind::Multirange(member) => KindRef::Multirange(Cow::Borrowed(member)),
+            Kind::Domain(member) => KindRef::Domain(Cow::Borrowed(member)),
+            Kind::Composite(fields) => KindRef::Composite(fields.as_slice()),
+        }
+    }
+}
+
+impl Field {
+    /// A field of this name and type.
+    pub fn new(name: String, type_: PgType) -> Field
+        ensures name { field_name result ≡ string_bytes name }
+        ensures type_ { content (field_type result) ≡ content type_ }
+    {
+        Field { name, type_ }
+    }
+
+    /// The name of this field.
+    pub fn name(&self) -> &str
+        ensures { result.now ≡ field_name self.now }
+    {
+        self.name.as_str()
+    }
+
+    /// The type of this field.
+    pub fn type_(&self) -> &PgType
+        ensures { result.now ≡ field_type self.now }
+    {
+        &self.type_
+    }
+
+    /// An equal field, which is refused with [`Fault::Memory`] only.
+    pub fn try_clone(&self, alloc: Global) -> Result<Field, Fault>
+        ensures same { IfOk result (λ field. SameField self.now field) }
+        ensures refused { IfErr result (λ e. e ≡ Memory) }
+    {
+        Ok(Field {
+            name: String::from_str(alloc, self.name())?,
+            type_: self.type_.try_clone()?,
+        })
+    }
+}
+
+fn clone_labels(alloc: Global, labels: &[String]) -> Result<Vec<String>, Fault>
+    ensures same { IfOk result (λ copies. map string_bytes copies.items ≡ map string_bytes labels.now) }
+    ensures refused { IfErr result (λ e. e ≡ Memory) }
+{
+    let mut copies = Vec::new(alloc);
+    for label in labels {
+        copies.push(String::from_str(alloc, label.as_str())?)?;
+    }
+    Ok(copies)
+}
+
+#[tactic(auto, using(crate::proofs::Fields::fields_more))]
+fn clone_fields(alloc: Global, fields: &[Field]) -> Result<Vec<Field>, Fault>
+    ensures same { IfOk result
+        (λ copies. fields_content copies.items ≡ fields_content fields.now) }
+    ensures refused { IfErr result (λ e. e ≡ Memory) }
+{
+    let mut copies = Vec::new(alloc);
+    for field in fields {
+        copies.push(field.try_clone(alloc)?)?;
+    }
+    Ok(copies)
+}

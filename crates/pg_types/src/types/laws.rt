@@ -1,0 +1,156 @@
+//! What equality, hashing and the constants mean, each as a call whose contract says it.
+ghost use Rattle.std.specs.Prelude.{◌≡◌, ◌↔◌, IsTrue, map};
+ghost use Rattle.pg_types.specs.Constants.{array_rows, base_rows};
+ghost use Rattle.pg_types.specs.Content.{BuiltInType, SameField, content, kind_content};
+ghost use Rattle.pg_types.specs.Digest.{digest};
+ghost use Rattle.pg_types.specs.Seen.{seen};
+
+use super::{Field, Kind, KindRef, PgType};
+use std::hash::{DefaultHasher, Hash, Hasher};
+
+/// Whether two types are equal: the same built-in type, or made of equal parts.
+#[tactic(auto, using(crate::proofs::DerivedTypes::same_from_eq, crate::proofs::DerivedTypes::eq_from_same))]
+pub fn same_type(a: &PgType, b: &PgType) -> bool
+    ensures { IsTrue result ↔ (content a.now ≡ content b.now) }
+{
+    *a == *b
+}
+
+/// Whether two kinds are equal: the same variant of equal parts.
+#[tactic(auto, using(crate::proofs::DerivedTypes::same_kind_from_eq, crate::proofs::DerivedTypes::eq_from_same_kind))]
+pub fn same_kind(k: &Kind, l: &Kind) -> bool
+    ensures { IsTrue result ↔ (kind_content k.now ≡ kind_content l.now) }
+{
+    *k == *l
+}
+
+/// Whether two views of kinds are equal: the same variant of equal parts, borrowed or owned.
+#[tactic(auto, using(crate::proofs::DerivedTypes::same_seen_from_eq, crate::proofs::DerivedTypes::eq_from_same_seen))]
+pub fn same_kind_ref(v: &KindRef<'_>, w: &KindRef<'_>) -> bool
+    ensures { IsTrue result ↔ (seen v.now ≡ seen w.now) }
+{
+    *v == *w
+}
+
+/// Whether two fields are equal: of one name and of equal types.
+#[tactic(auto, using(crate::proofs::DerivedTypes::same_field_from_eq, crate::proofs::DerivedTypes::eq_from_same_field))]
+pub fn same_field(f: &Field, g: &Field) -> bool
+    ensures { IsTrue result ↔ SameField f.now g.now }
+{
+    *f == *g
+}
+
+/// Whether two types are hashed alike, as equal ones always are.
+#[tactic(auto, using(crate::proofs::DerivedTypes::hash_from_same))]
+pub fn hash_alike(a: &PgType, b: &PgType) -> bool
+    ensures alike { (content a.now ≡ content b.now) → IsTrue result }
+    ensures hashed { IsTrue result ↔
+        (digest (⟦<PgType as Hash>⟧.hash_input a.now) ≡ digest (⟦<PgType as Hash>⟧.hash_input b.now)) }
+{
+    hash_of(a) == hash_of(b)
+}
+
+/// Whether two kinds are hashed alike, as equal ones always are.
+#[tactic(auto, using(crate::proofs::DerivedTypes::hash_from_same_kind))]
+pub fn kinds_hash_alike(k: &Kind, l: &Kind) -> bool
+    ensures alike { (kind_content k.now ≡ kind_content l.now) → IsTrue result }
+    ensures hashed { IsTrue result ↔
+        (digest (⟦<Kind as Hash>⟧.hash_input k.now) ≡ digest (⟦<Kind as Hash>⟧.hash_input l.now)) }
+{
+    hash_of(k) == hash_of(l)
+}
+
+/// Whether two fields are hashed alike, as equal ones always are.
+#[tactic(auto, using(crate::proofs::DerivedTypes::hash_from_same_field))]
+pub fn fields_hash_alike(f: &Field, g: &Field) -> bool
+    ensures alike { SameField f.now g.now → IsTrue result }
+    ensures hashed { IsTrue result ↔
+        (digest (⟦<Field as Hash>⟧.hash_input f.now) ≡ digest (⟦<Field as Hash>⟧.hash_input g.now)) }
+{
+    hash_of(f) == hash_of(g)
+}
+
+/// Whether two views of kinds are hashed alike, as equal ones always are.
+pub fn kind_refs_hash_alike(v: &KindRef<'_>, w: &KindRef<'_>) -> bool
+    ensures alike { (seen v.now ≡ seen w.now) → IsTrue result }
+    ensures hashed { IsTrue result ↔
+        (digest (⟦<KindRef<'static> as Hash>⟧.hash_input v.now) ≡ digest (⟦<KindRef<'static> as Hash>⟧.hash_input w.now)) }
+{
+    hash_of(v) == hash_of(w)
+}
+
+/// The constants of the types that are no arrays, in the order of their OIDs: each is the row of its
+/// name.
+pub fn base_types() -> [PgType; 25]
+    ensures { map content result ≡ map BuiltInType base_rows }
+{
+    [
+        PgType::BOOL,
+        PgType::BYTEA,
+        PgType::CHAR,
+        PgType::NAME,
+        PgType::INT8,
+        PgType::INT2,
+        PgType::INT4,
+        PgType::TEXT,
+        PgType::OID,
+        PgType::JSON,
+        PgType::CIDR,
+        PgType::UNKNOWN,
+        PgType::MACADDR,
+        PgType::INET,
+        PgType::BPCHAR,
+        PgType::VARCHAR,
+        PgType::DATE,
+        PgType::TIME,
+        PgType::TIMESTAMP,
+        PgType::TIMESTAMPTZ,
+        PgType::BIT,
+        PgType::VARBIT,
+        PgType::UUID,
+        PgType::PG_LSN,
+        PgType::JSONB,
+    ]
+}
+
+/// The constants of the array types, in the order of their OIDs: each is the row of its name.
+pub fn array_types() -> [PgType; 26]
+    ensures { map content result ≡ map BuiltInType array_rows }
+{
+    [
+        PgType::INT2_VECTOR,
+        PgType::OID_VECTOR,
+        PgType::JSON_ARRAY,
+        PgType::CIDR_ARRAY,
+        PgType::BOOL_ARRAY,
+        PgType::BYTEA_ARRAY,
+        PgType::CHAR_ARRAY,
+        PgType::NAME_ARRAY,
+        PgType::INT2_ARRAY,
+        PgType::INT4_ARRAY,
+        PgType::TEXT_ARRAY,
+        PgType::BPCHAR_ARRAY,
+        PgType::VARCHAR_ARRAY,
+        PgType::INT8_ARRAY,
+        PgType::OID_ARRAY,
+        PgType::MACADDR_ARRAY,
+        PgType::INET_ARRAY,
+        PgType::TIMESTAMP_ARRAY,
+        PgType::DATE_ARRAY,
+        PgType::TIME_ARRAY,
+        PgType::TIMESTAMPTZ_ARRAY,
+        PgType::BIT_ARRAY,
+        PgType::VARBIT_ARRAY,
+        PgType::UUID_ARRAY,
+        PgType::PG_LSN_ARRAY,
+        PgType::JSONB_ARRAY,
+    ]
+}
+
+fn hash_of<T: Hash>(value: &T) -> u64
+    ensures { result ≡ digest (T.hash_input value.now) }
+{
+    let mut state = DefaultHasher::new();
+    value.hash(&mut state);
+    state.finish()
+}
