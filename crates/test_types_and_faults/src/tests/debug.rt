@@ -52,8 +52,8 @@ fn types_have_debug_texts(rt: HostRuntime) -> Result<(), Fail> {
     let alloc = rt.alloc();
     debugs(alloc, &Type::BOOL, "PgType { inner: BuiltIn(Bool) }")?;
     let mood = simple_type(alloc, "mood", 99_000, "app")?;
-    let text =
-        "PgType { inner: Made(Made { name: \"mood\", oid: 99000, kind: Simple, schema: \"app\" }) }";
+    let text = "PgType { inner: Made(Made { \
+        name: \"mood\", oid: 99000, kind: Simple, schema: \"app\" }) }";
     debugs(alloc, &mood, text)?;
     let array = Kind::Array(Type::TEXT);
     debugs(alloc, &array, "Array(PgType { inner: BuiltIn(Text) })")
