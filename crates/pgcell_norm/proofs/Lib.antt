@@ -1,4 +1,3 @@
-mod Forms
 pub mod Outcomes
 mod Printing
 mod Words
