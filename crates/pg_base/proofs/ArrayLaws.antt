@@ -14,12 +14,12 @@ use Rattle.pg_base.proofs.FormatLaws.{be-length}
 use Rattle.pg_types.specs.Faults.{Refusal}
 use Rattle.pg_base.specs.Formats.{first_fault_of}
 
--- what is to be read behind so many dimensions
+-- what is to be read after so many dimensions
 abbrev behind_dimensions : ℕ → List ℕ → ToRead
 behind_dimensions zero s = record { left = 0; bytes = s }
 behind_dimensions (suc d) s = record { left = stated (number_in s); bytes = drop 4 (drop 4 s) }
 
--- and behind the head
+-- and after the head
 abbrev behind_head : List ℕ → ToRead
 behind_head b = behind_dimensions (stated (number_in b)) (drop 8 (drop 4 b))
 
@@ -68,7 +68,7 @@ head_then b r p =
       behind = rw (number.number, number.rest, part) first.behind;
     }
 
--- behind sound flags the first fault is that of the dimensions
+-- after sound flags the first fault is that of the dimensions
 pub dimension_fault : (b h x s : List ℕ) (d : ℕ) (r : Refusal) → b ≡ h ++ (x ++ s) → IsCount h d → length x ≡ 8
     → first_fault_of (dimension_checks d s) ≡ Some r → first_fault_of (head_checks b) ≡ Some r
 dimension_fault b h x s d r e is flags f =

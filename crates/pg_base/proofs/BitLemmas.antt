@@ -242,7 +242,7 @@ zero_at : (m : ℕ) → get_or {A = ℕ} (0 ∷ []) m 0 ≡ 0
 zero_at zero = refl
 zero_at (suc m) = refl
 
--- a byte 0 behind bytes
+-- a byte 0 after bytes
 pub more_at : (b : List ℕ) (m : ℕ) → get_or (b ++ 0 ∷ []) m 0 ≡ get_or b m 0
 more_at b m =
     ⊎_elim (λ h. get_or_append_left b (0 ∷ []) 0 m h)
@@ -283,7 +283,7 @@ same_packed n m b c e f =
     (Decides-and (eqb n m) (pointwise eqb b c) (Decides-eqb n m) (bytes_eq-Decides b c)))
 
 -- ---- a bit more, and a bit fewer
--- bytes with room for one bit behind n bits
+-- bytes with room for one bit after n bits
 pub record HasRoom (n : ℕ) (b c : List ℕ) : Type 0 where
   pub count : length c ≡ bytes_for (n + 1)
   pub below : (k : ℕ) → get_or c k 0 < 256
@@ -383,6 +383,6 @@ byte_read v k x h e = get_or_read_under v.items k v.len x 0 e h v.ok.0
 pub byte_within : (n i : ℕ) (v : Vec ℕ Global) → v.items ≡ packed (first_bits n v.items) → i < n → i / 8 < vec_len v
 byte_within n i v e h = omega (arith, tidy_len n v.items e, v.ok.0)
 
--- the byte behind the last bit is one of the bytes, where the last byte is not full
+-- the byte after the last bit is one of the bytes, where the last byte is not full
 pub byte_behind : (n : ℕ) (v : Vec ℕ Global) → v.items ≡ packed (first_bits n v.items) → (n % 8 ≡ 0 → ⊥) → n / 8 < vec_len v
 byte_behind n v e h = omega (arith, tidy_len n v.items e, v.ok.0)

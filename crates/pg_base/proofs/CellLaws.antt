@@ -95,7 +95,7 @@ cells_single s (suc n) (c ∷ cs) (d ∷ ds) u w p q =
     let later = cells_single p.0.1 n cs ds u w h (subst (λ x. CellsInRow x n ds w) (sym first.1) k) in
     (ap₂ (λ (x : Cell) (xs : List Cell). x ∷ xs) first.0 later.0, later.1)
 
--- frames spell their cells, whatever comes behind
+-- frames spell their cells, whatever comes after
 pub frames_spell : (cs : List Cell) (b s : List ℕ) → frames cs ≡ Some b → SpellsAll (b ++ s) cs s
 frames_spell [] b s e = let none : b ≡ [] = cc in ap (λ x. x ++ s) none
 frames_spell (c ∷ cs) b s e =
@@ -116,7 +116,7 @@ frames_single cs ds b e f =
     let none : SpellsNone [] = no_cell [] size refl in
     (cells_single b (length cs + length ds) cs ds [] [] (frames_alone cs b e, omega arith, inr none) (frames_alone ds b f, omega arith, inr none)).0
 
--- nor, whatever comes behind them, of other cells that are as many
+-- nor, whatever comes after them, of other cells that are as many
 pub frames_in_front_single : FramesInFrontSingle
 frames_in_front_single cs ds a b s t many e f is =
     let other : CellsInRow (a ++ s) (length cs) ds t = (subst (λ x. SpellsAll x ds t) (sym is) (frames_spell ds b t f), omega (arith, many), inl (sym many)) in

@@ -37,7 +37,7 @@ cut_length s h =
     let cut : has_number s ≡ false = grind (arith, nat_tests) in
     no_cell s size (rw cut refl)
 
--- nor with fewer than stated behind its length
+-- nor with fewer than stated after its length
 cut_cell : (s h m : List ℕ) (n : ℕ) → s ≡ h ++ m → IsBe w32 h (pos n) → length m < n → SpellsNone s
 cut_cell s h m n e p l =
     let number = number_then s h m (pos n) e p in
@@ -81,7 +81,7 @@ cells_exist s (suc n) b = elim (next s b) [
   | inr h ↦ ([], s, (refl, omega arith, inr h))
 ]
 
--- what stands behind a head is bytes
+-- what stands after a head is bytes
 dimension_bytes : (d : ℕ) (s : List ℕ) (r : ToRead) → SpellsDimensions d s r → AreBytes s → AreBytes r.bytes
 dimension_bytes zero s r p b = subst AreBytes p.1 b
 dimension_bytes (suc zero) s r p b = bytes_behind (p.1 ++ r.bytes) p.1 r.bytes refl (bytes_behind s p.0 (p.1 ++ r.bytes) p.2 b)
@@ -90,7 +90,7 @@ dimension_bytes (suc (suc d)) s r p b = absurd p
 pub head_bytes : (b : List ℕ) (r : ToRead) → SpellsHead b r → AreBytes b → AreBytes r.bytes
 head_bytes b r p h = dimension_bytes p.0 p.3 r p.7 (bytes_behind (p.2 ++ p.3) p.2 p.3 refl (bytes_behind b p.1 (p.2 ++ p.3) p.4 h))
 
--- and so is what stands behind cells
+-- and so is what stands after cells
 pub row_bytes : (s u : List ℕ) (cs : List Cell) → SpellsAll s cs u → AreBytes s → AreBytes u
 row_bytes s u [] e b = subst AreBytes e b
 row_bytes s u (c ∷ cs) p b = row_bytes p.1 u cs p.4 (bytes_behind s p.0 p.1 p.2 b)

@@ -142,11 +142,11 @@ back_time v (Err r) h = h
 pub date_back : (v : Date) (b : List ℕ) → wire_date v ≡ Ok (Some b) → (o : Outcome Date) → ReadsDate (Some b) o → IsOkAnd o (λ u. epoch_day u ≡ epoch_day v)
 date_back v b e o d = back_date v o (written_back w32 from_be_bytes-to_be_bytes_4 first_day last_day IsDayOf _ (wire_date v) (date_written v) b e o d)
 
--- a time is read back as itself, cut to microseconds
+-- a time is read back as itself, truncated to microseconds
 pub time_back : (v : Time) (b : List ℕ) → wire_time v ≡ Ok (Some b) → (o : Outcome Time) → ReadsTime (Some b) o → IsOkAnd o (λ u. time_nanos u ≡ time_nanos v / 1000 * 1000)
 time_back v b e o d = back_time v o (written_back w64 from_be_bytes-to_be_bytes_8 (pos 0) last_micros IsAfterMidnight _ (wire_time v) (time_written v) b e o d)
 
--- a civil datetime, and an instant, is read back as itself, cut to microseconds toward 2000-01-01 00:00:00
+-- a civil datetime, and an instant, is read back as itself, truncated to microseconds toward 2000-01-01 00:00:00
 pub datetime_back : (v : DateTime) (b : List ℕ) → wire_datetime v ≡ Ok (Some b) → (o : Outcome DateTime) → ReadsDateTime (Some b) o → IsOkAnd o (IsAfterBase civil_nanos (cut_micros (civil_nanos v)))
 datetime_back v b e o d = written_back w64 from_be_bytes-to_be_bytes_8 first_civil last_civil (IsAfterBase civil_nanos) _ (wire_datetime v) (datetime_written v) b e o d
 

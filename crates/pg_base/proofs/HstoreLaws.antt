@@ -46,7 +46,7 @@ key_fault_by true (negsuc n) d r e = let none : None ≡ Some r = sym (rw (leb-z
 pub key_fault : (s : List ℕ) (r : Refusal) → first_fault_of (value_checks s) ≡ Some r → first_fault_of (entry_checks s) ≡ Some r
 key_fault s r e = check_failed (key_checks s) (value_checks (behind_cell s)) r (key_fault_by (has_number s) (number_in s) (drop 4 s) r e)
 
--- behind a sound key the first fault is the value's
+-- after a sound key the first fault is the value's
 pub value_fault : (t u x : List ℕ) (r : Refusal) → SpellsText t (Some x) → first_fault_of (value_checks u) ≡ Some r → first_fault_of (entry_checks (t ++ u)) ≡ Some r
 value_fault t u x r p e =
     let after = cell_then t u (Some x) p.0 in
@@ -90,7 +90,7 @@ passed s rest (e ∷ es) n p =
     rw p.2 (checks_met (entry_checks (p.0 ++ p.1)) (entries_checks (and_more es n) (behind_cell (behind_cell (p.0 ++ p.1)))) first.passes
     ∙ ap (λ x. first_fault_of (entries_checks (and_more es n) x)) first.rest ∙ passed p.1 rest es n p.4)
 
--- what is checked behind sound entries is what is checked of the rest
+-- what is checked after sound entries is what is checked of the rest
 entries_pass : (s rest : List ℕ) (es : List Entry) (n m : ℕ) → SpellsEntries s es rest → length es + n ≡ m → first_fault_of (entries_checks m s) ≡ first_fault_of (entries_checks n rest)
 entries_pass s rest es n m p e =
     ap (λ k. first_fault_of (entries_checks k s)) (sym e ∙ sym (and_more-is es n)) ∙ passed s rest es n p
@@ -116,7 +116,7 @@ entries_single b s u es fs c p d q =
     let same : length es ≡ length fs = ap stated (sym one.number ∙ two.number) in
     sym (entries_are s [] es p) ∙ ap₂ entries_in same (sym one.rest ∙ two.rest) ∙ entries_are u [] fs q
 
--- behind a sound count, the first fault is that of the entries
+-- after a sound count, the first fault is that of the entries
 counted : (b : List ℕ) (r : ToRead) → SpellsCount b r → first_fault_hstore b ≡ first_fault_of (entries_checks r.left r.bytes)
 counted b r c =
     let one = number_then b c.0 r.bytes (pos r.left) c.1 c.2 in

@@ -25,7 +25,7 @@ entries-push xs e bs f g xs_are key value =
     entries-append xs (e ∷ []) ∙ ap (joined (entries_bytes xs)) (joined-nil (joined (frame (Some e.0)) (frame e.1)))
     ∙ rw (xs_are, key, value) refl
 
--- the entry at a place, what comes in front of it, and what comes behind it
+-- the entry at a place, what comes in front of it, and what comes after it
 entry_at : (es : List Lent) (i : ℕ) (d : Lent) → i < length es
     → map lent_entry es ≡ map lent_entry (take i es) ++ lent_entry (get_or es i d) ∷ map lent_entry (drop (i + 1) es)
 entry_at es i d h =

@@ -47,7 +47,7 @@ no_second : (hi : Option ℕ) → option_and_then (λ h. option_map (position_of
 no_second None = refl
 no_second (Some h) = refl
 
--- a text without a slash names no position, since nothing stands behind one
+-- a text without a slash names no position, since nothing stands after one
 pub no_slash : (s : List ℕ) → position_or_len is_slash s ≡ length s → lsn_of s ≡ None
 no_slash s e =
     let behind : after_first is_slash s ≡ [] = drop_all _ s (omega arith) in

@@ -52,7 +52,7 @@ module _ (n m x : ℕ) (p : List ℕ) (count : length p ≡ bytes_for n) (last :
   pub cut_tidy : set p m x ≡ packed (first_bits n (set p m x))
   cut_tidy = tidy n (set p m x) (length-set p m x ∙ count) (put_below p m x (omega arith) cut_below below) cut_pad
 
--- packed bytes are the bytes with the pad cut off the last one
+-- packed bytes are the bytes with the last one cleared of its padding
 pub packed_parts : (n : ℕ) (p whole : List ℕ) (last : ℕ) → length p ≡ bytes_for n → ((k : ℕ) → get_or p k 0 < 256) → p ≡ whole ++ last ∷ [] → packed (first_bits n p) ≡ whole ++ without_low (pad_of n) last ∷ []
 packed_parts n p whole last count below e =
     let m = length whole in

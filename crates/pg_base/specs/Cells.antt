@@ -11,7 +11,7 @@ use Rattle.std.specs.Int.{Width, w32, to_be_bytes, from_be_bytes, cast_signed, c
 abbrev pub Cell : Type 0
 Cell = Option (List ℕ)
 
--- the bytes of a text's cell: the text, behind the version 1 where cells of the type have one
+-- the bytes of a text's cell: the text, after the version 1 where cells of the type have one
 abbrev pub versioned_cell : Bool → List ℕ → List ℕ
 versioned_cell false text = text
 versioned_cell true text = 1 ∷ text
@@ -21,7 +21,7 @@ abbrev pub cell_of : Option (Bor (List ℕ)) → Cell
 cell_of None = None
 cell_of (Some bytes) = Some bytes.now
 
--- the bytes of a signed number in a width, highest first, in two's complement (pq_sendint32 and its like); outside the
+-- the bytes of a signed number in a width, big-endian, in two's complement (pq_sendint32 and its like); outside the
 -- width's range they are another number's, so rules speak of IsBe
 abbrev pub be : Width → ℤ → List ℕ
 be w z = to_be_bytes w (cast_unsigned w z)
@@ -76,7 +76,7 @@ frames (c ∷ cs) = joined (frame c) (frames cs)
 abbrev pub FramesSingle : Type 0
 FramesSingle = (cs ds : List Cell) (b : List ℕ) → frames cs ≡ Some b → frames ds ≡ Some b → cs ≡ ds
 
--- and, whatever comes behind them, of no other cells that are as many
+-- and, whatever comes after them, of no other cells that are as many
 abbrev pub FramesInFrontSingle : Type 0
 FramesInFrontSingle =
     (cs ds : List Cell) (a b s t : List ℕ) → length cs ≡ length ds → frames cs ≡ Some a → frames ds ≡ Some b → a ++ s ≡ b ++ t → (cs ≡ ds) × (s ≡ t)

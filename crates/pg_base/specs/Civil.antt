@@ -1,5 +1,5 @@
--- Dates and times: DATE (date_send, date_recv), TIME (time_send, time_recv), and moments that have a least and a greatest
--- count. Which date a day number is, and which moment stands at a nanosecond, are the words of `jiff`.
+-- Dates and times: DATE (date_send, date_recv), TIME (time_send, time_recv), and timestamps that have a least and a greatest
+-- count. Which date a day number is, and which timestamp stands at a nanosecond, are the words of `jiff`.
 use Rattle.std.specs.Prelude.{◌≡◌, ℕ, ◌/◌, ◌==◌, ℤ, pos, neg_ℤ, ◌+ℤ◌, ◌-ℤ◌, ◌*ℤ◌, int_le, List, [], ◌∷◌, length, Option, Bool, ◌&&◌, Ok, Err}
 use Rattle.std.specs.Int.{Width, w32, w64, byte_len}
 use Rattle.jiff.specs.Types.{Date, Time, DateTime, Timestamp}
@@ -69,7 +69,7 @@ IsAfterMidnight u v = pos (time_nanos v) ≡ u *ℤ pos 1000
 abbrev pub ReadsTime : Cell → Outcome Time → Type 0
 ReadsTime = ReadsCount w64 (pos 0) last_micros IsAfterMidnight
 
--- the cell of a time: its microseconds from midnight, cut, in 8 bytes
+-- the cell of a time: its microseconds from midnight, truncated, in 8 bytes
 abbrev pub wire_time : Time → Wire
 wire_time v = wire_signed w64 (pos (time_nanos v / 1000))
 
@@ -85,7 +85,7 @@ last_civil = pos 252_455_615_999_999_999
 abbrev pub ReadsDateTime : Cell → Outcome DateTime → Type 0
 ReadsDateTime = ReadsCount w64 first_civil last_civil (IsAfterBase civil_nanos)
 
--- the cell of a civil datetime: its microseconds from 2000-01-01 00:00:00, cut toward it, in 8 bytes
+-- the cell of a civil datetime: its microseconds from 2000-01-01 00:00:00, truncated toward it, in 8 bytes
 abbrev pub wire_datetime : DateTime → Wire
 wire_datetime v = wire_timestamp (civil_nanos v)
 
@@ -105,6 +105,6 @@ last_instant = pos 252_455_522_400_999_999
 abbrev pub ReadsInstant : Cell → Outcome Timestamp → Type 0
 ReadsInstant = ReadsCount w64 first_instant last_instant (IsAfterBase instant_nanos)
 
--- the cell of an instant: its microseconds from 2000-01-01 00:00:00 UTC, cut toward it, in 8 bytes
+-- the cell of an instant: its microseconds from 2000-01-01 00:00:00 UTC, truncated toward it, in 8 bytes
 abbrev pub wire_instant : Timestamp → Wire
 wire_instant v = wire_timestamp (instant_nanos v)

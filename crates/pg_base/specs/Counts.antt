@@ -29,7 +29,7 @@ not_negative (negsuc n) = false
 abbrev pub IsCount : List ℕ → ℕ → Type 0
 IsCount s n = IsBe w32 s (pos n)
 
--- the checks of a count in front: one that is cut is Size, and a negative one Count
+-- the checks of a count in front: one that is truncated is Size, and a negative one Count
 abbrev pub count_checks : List ℕ → Checks
 count_checks s = (has_number s, size) ∷ (not_negative (number_in s), count) ∷ []
 
@@ -76,7 +76,7 @@ bytes_in s = take (stated (number_in s)) (drop 4 s)
 abbrev pub behind_cell : List ℕ → List ℕ
 behind_cell s = drop (stated (number_in s)) (drop 4 s)
 
--- the checks of a cell in front: where its length or a part of its bytes is cut, it is Size
+-- the checks of a cell in front: where its length or a part of its bytes is truncated, it is Size
 abbrev pub cell_checks : List ℕ → Checks
 cell_checks s = (has_number s, size) ∷ (has_cell s, size) ∷ []
 

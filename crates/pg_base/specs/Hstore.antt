@@ -53,7 +53,7 @@ abbrev pub FormHstore : {A : Type 0} → (A → List ℕ → Option Cell) → Li
 FormHstore value_at b m =
     (es : List Entry) × (s : List ℕ) × SpellsCount b (record { left = length es; bytes = s }) × SpellsEntries s es [] × ((q : List ℕ) → value_at m q ≡ last_value q es)
 
--- the checks of a key in front: bytes that are cut are Size, a negative length KeyLength, and what is no UTF-8 Utf8
+-- the checks of a key in front: bytes that are truncated are Size, a negative length KeyLength, and what is no UTF-8 Utf8
 abbrev pub key_checks : List ℕ → Checks
 key_checks s =
     (has_number s, size) ∷ (not_negative (number_in s), key_length) ∷ (has_cell s, size) ∷ (is_utf8 (bytes_in s), utf8) ∷ []
@@ -75,7 +75,7 @@ entries_checks (suc n) s = entry_checks s ++ entries_checks n (behind_cell (behi
 abbrev pub first_fault_hstore : List ℕ → Option Refusal
 first_fault_hstore b = first_fault_of (count_checks b ++ entries_checks (stated (number_in b)) (drop 4 b))
 
--- an entry of lent texts
+-- an entry of borrowed texts
 abbrev pub lent_entry : Bor (List ℕ) × Option (Bor (List ℕ)) → Entry
 lent_entry e = (e.0.now, cell_of e.1)
 
@@ -108,7 +108,7 @@ entries_bytes (e ∷ es) = joined (joined (frame (Some e.0)) (frame e.1)) (entri
 abbrev pub hstore_bytes : List Entry → Option (List ℕ)
 hstore_bytes es = joined (count_bytes (length es)) (entries_bytes es)
 
--- e, in front of f, in its place, or behind it
+-- e, in front of f, in its place, or after it
 abbrev pub placed_by : Ordering → Entry → Entry → List Entry → List Entry → List Entry
 placed_by Less e f fs rest = e ∷ f ∷ fs
 placed_by Equal e f fs rest = e ∷ fs

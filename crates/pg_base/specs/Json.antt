@@ -16,7 +16,7 @@ use Rattle.pg_base.specs.Formats.{Checks, first_fault_of, ReadsPlain}
 abbrev pub accepted_json : Content → Bool
 accepted_json ty = is_row Json ty || is_row Jsonb ty
 
--- the bytes are the cell of a text, behind a version in JSONB, that reads as v, whose numbers are all kept as i64 or u64
+-- the bytes are the cell of a text, after a version in JSONB, that reads as v, whose numbers are all kept as i64 or u64
 abbrev pub FormJson : {A : Type 0} → (A → Data) → Bool → List ℕ → A → Type 0
 FormJson view_of versioned b v = (text : List ℕ) × (b ≡ versioned_cell versioned text) × IsUtf8 text × (read text ≡ Some (view_of v)) × (has_float (view_of v) ≡ false)
 

@@ -25,8 +25,8 @@ half_of s = let number = without_leading_plus s in if is_hex_number number then 
 abbrev pub position_of : ℕ → ℕ → ℕ
 position_of hi lo = bit_or (hi * 2 ^ 32 % 2 ^ 64) lo
 
--- the position that a text names, if any: its halves stand before and behind the first `/`. Where there is none, nothing
--- stands behind, and that is no half
+-- the position that a text names, if any: its halves stand before and after the first `/`. Where there is none, nothing
+-- stands after, and that is no half
 abbrev pub lsn_of : List ℕ → Option ℕ
 lsn_of s =
     let hi = half_of (before_first (λ c. c == slash) s) in

@@ -1,5 +1,5 @@
--- Moments: TIMESTAMP (timestamp_send, timestamp_recv) and TIMESTAMPTZ (timestamptz_send, timestamptz_recv), which have one
--- format. A moment is told by its nanoseconds from 1970-01-01 00:00:00 UTC.
+-- Timestamps: TIMESTAMP (timestamp_send, timestamp_recv) and TIMESTAMPTZ (timestamptz_send, timestamptz_recv), which have one
+-- format. A timestamp is told by its nanoseconds from 1970-01-01 00:00:00 UTC.
 use Rattle.std.specs.Prelude.{◌≡◌, ℤ, pos, ◌+ℤ◌, ◌-ℤ◌, ◌*ℤ◌, int_div, ℕ, List, Bool, ◌||◌}
 use Rattle.std.specs.Int.{w64}
 use Rattle.pg_types.specs.declared.types.built_in.BuiltIn.TheVariants.{Timestamp, Timestamptz}
@@ -15,11 +15,11 @@ use Rattle.pg_base.specs.Appending.{Wire}
 abbrev pub base_nanos : ℤ
 base_nanos = pos 946_684_800_000_000_000
 
--- the nanoseconds of a moment in seconds
+-- the nanoseconds of a timestamp in seconds
 abbrev pub nanos_of : UnixTime → ℤ
 nanos_of v = v.secs *ℤ pos 1_000_000_000 +ℤ pos v.nanos
 
--- moments accept TIMESTAMP and TIMESTAMPTZ
+-- timestamps accept TIMESTAMP and TIMESTAMPTZ
 abbrev pub accepted_moment : Content → Bool
 accepted_moment ty = is_row Timestamp ty || is_row Timestamptz ty
 
@@ -35,10 +35,10 @@ FormTimestamp nanos b v = (micros : ℤ) × IsBe w64 b micros × IsAfterBase nan
 abbrev pub ReadsTimestamp : {A : Type 0} → (A → ℤ) → Cell → Outcome A → Type 0
 ReadsTimestamp nanos = ReadsPlain (FormTimestamp nanos) (first_fault_number 8)
 
--- the microseconds from 2000-01-01 00:00:00 UTC to a moment, cut toward it on both sides
+-- the microseconds from 2000-01-01 00:00:00 UTC to a timestamp, truncated toward it on both sides
 abbrev pub cut_micros : ℤ → ℤ
 cut_micros nanos = int_div (nanos -ℤ base_nanos) (pos 1000)
 
--- the cell of a moment: these microseconds, or Transmit where they leave 8 bytes
+-- the cell of a timestamp: these microseconds, or Transmit where they leave 8 bytes
 abbrev pub wire_timestamp : ℤ → Wire
 wire_timestamp nanos = wire_signed w64 (cut_micros nanos)

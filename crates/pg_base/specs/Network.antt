@@ -9,7 +9,7 @@ use Rattle.pg_types.specs.Faults.{Refusal, Outcome, size, family, netmask, addre
 use Rattle.pg_base.specs.Formats.{Checks, first_fault_of, ReadsPlain}
 use Rattle.pg_base.specs.Appending.{Wire}
 
--- the octets of an address, the highest first
+-- the octets of an address, big-endian
 abbrev pub address_octets : IpAddr → List ℕ
 address_octets (V4 a) = ipv4_octets a
 address_octets (V6 a) = ipv6_octets a

@@ -1,4 +1,4 @@
--- Whole numbers: CHAR (charsend), INT2, INT4, INT8 (int2send, int4send, int8send), OID (oidsend), PG_LSN (pg_lsn_send) and
+-- Integers: CHAR (charsend), INT2, INT4, INT8 (int2send, int4send, int8send), OID (oidsend), PG_LSN (pg_lsn_send) and
 -- BOOL (boolsend).
 use Rattle.std.specs.Prelude.{◌≡◌, ℕ, ◌-◌, ◌^◌, ◌==◌, ℤ, pos, negsuc, List, [], ◌∷◌, length, Option, Some, Bool, true, false, not, nat_lt, if◌then◌else◌, Ok, Err}
 use Rattle.std.specs.Int.{Width, byte_len, to_be_bytes}
@@ -12,7 +12,7 @@ use Rattle.pg_base.specs.Appending.{Wire}
 abbrev pub first_fault_number : ℕ → List ℕ → Option Refusal
 first_fault_number width b = first_fault_of ((length b == width, size) ∷ [])
 
--- CHAR, INT2, INT4, INT8: the bytes spell this number in the width, highest first, in two's complement
+-- CHAR, INT2, INT4, INT8: the bytes spell this number in the width, big-endian, in two's complement
 abbrev pub FormSigned : Width → List ℕ → ℤ → Type 0
 FormSigned = IsBe
 
@@ -29,7 +29,7 @@ fits_signed w (negsuc n) = nat_lt n (2 ^ (bits w - 1))
 abbrev pub wire_signed : Width → ℤ → Wire
 wire_signed w z = if fits_signed w z then Ok (Some (be w z)) else Err transmit
 
--- OID, PG_LSN: the bytes spell this number in the width, highest first, without a sign
+-- OID, PG_LSN: the bytes spell this number in the width, big-endian, without a sign
 abbrev pub FormUnsigned : Width → List ℕ → ℕ → Type 0
 FormUnsigned = IsBeUnsigned
 
@@ -49,7 +49,7 @@ FormBool b v = (byte : ℕ) × (b ≡ byte ∷ []) × (v ≡ not (byte == 0))
 abbrev pub ReadsBool : Cell → Outcome Bool → Type 0
 ReadsBool = ReadsPlain FormBool (first_fault_number 1)
 
--- the cell of a truth value: 0 or 1
+-- the cell of a boolean: 0 or 1
 abbrev pub wire_bool : Bool → Wire
 wire_bool false = Ok (Some (0 ∷ []))
 wire_bool true = Ok (Some (1 ∷ []))

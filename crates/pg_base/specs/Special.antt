@@ -27,7 +27,7 @@ date_seen AfterDates = pos_infinity
 date_seen BeforeDates = neg_infinity
 date_seen (OneDate v) = value v
 
--- what a moment with infinities is
+-- what a timestamp with infinities is
 abbrev pub timestamp_seen : {A : Type 0} → Timestamp A → Special A
 timestamp_seen AfterMoments = pos_infinity
 timestamp_seen BeforeMoments = neg_infinity
@@ -37,7 +37,7 @@ timestamp_seen (OneMoment v) = value v
 abbrev pub accepted_date : (Content → Bool) → Content → Bool
 accepted_date inside ty = is_row DateRow ty && inside ty
 
--- moments with infinities accept TIMESTAMP and TIMESTAMPTZ where their values do
+-- timestamps with infinities accept TIMESTAMP and TIMESTAMPTZ where their values do
 abbrev pub accepted_timestamp : (Content → Bool) → Content → Bool
 accepted_timestamp inside ty = accepted_moment ty && inside ty
 

@@ -52,7 +52,8 @@ pub fn is_bits(ty: &PgType) -> bool
     *ty == PgType::BIT || *ty == PgType::VARBIT
 }
 
-/// Whether moments are read from cells of that type and written to them: TIMESTAMP and TIMESTAMPTZ.
+/// Whether timestamps are read from cells of that type and written to them: TIMESTAMP and
+/// TIMESTAMPTZ.
 #[tactic(auto, using(pg_types::proofs::DerivedTypes::eq_content))]
 pub fn is_moment(ty: &PgType) -> bool
     ensures { result ≡ accepted_moment (content ty.now) }

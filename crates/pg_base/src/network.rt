@@ -1,4 +1,4 @@
-//! Internet addresses with their netmasks, and hardware addresses.
+//! Internet addresses with their netmasks, and MAC addresses.
 ghost use Rattle.std.specs.Prelude.{◌≡◌, ℕ, ◌==◌, List, not};
 ghost use Rattle.pg_types.specs.Faults.{Answers, NeverMemory};
 ghost use Rattle.pg_base.specs.Network.{Made, Network, NetmaskFits, NoHostBits, address_bits, address_octets, first_fault_netmask, first_fault_network, host_part, with_netmask};
@@ -127,7 +127,7 @@ fn has_host_bits(addr: IpAddr, len: u8) -> bool
     }
 }
 
-/// The hardware address of a network card: 6 bytes.
+/// A MAC address: 6 bytes.
 #[derive(Debug, Clone, Copy, PartialEq, Eq)]
 pub struct MacAddress([u8; 6]);
 
@@ -140,14 +140,14 @@ impl Model for MacAddress {
 }
 
 impl MacAddress {
-    /// The hardware address of these bytes.
+    /// The MAC address of these bytes.
     pub fn new(bytes: [u8; 6]) -> MacAddress
         ensures { result ≡ bytes }
     {
         MacAddress(bytes)
     }
 
-    /// The bytes of the hardware address.
+    /// The bytes of the MAC address.
     pub fn to_array(&self) -> [u8; 6]
         ensures { result ≡ self.now }
     {

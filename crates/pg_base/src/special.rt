@@ -1,4 +1,4 @@
-//! Dates and moments with PostgreSQL's infinities.
+//! Dates and timestamps with PostgreSQL's infinities.
 
 pub mod laws;
 
@@ -14,15 +14,15 @@ pub enum Date<T> {
     Value(T),
 }
 
-/// A moment, or PostgreSQL's `infinity` or `-infinity`, which are the greatest and the least number
-/// of the 8 bytes of TIMESTAMP and TIMESTAMPTZ (`timestamp_recv`, `timestamptz_recv` and their
-/// sends).
+/// A timestamp, or PostgreSQL's `infinity` or `-infinity`, which are the greatest and the least
+/// number of the 8 bytes of TIMESTAMP and TIMESTAMPTZ (`timestamp_recv`, `timestamptz_recv` and
+/// their sends).
 #[derive(Debug, Clone, Copy, PartialEq, Eq, Drop)]
 pub enum Timestamp<T> {
-    /// `infinity`, which is later than every other moment.
+    /// `infinity`, which is later than every other timestamp.
     PosInfinity,
-    /// `-infinity`, which is earlier than every other moment.
+    /// `-infinity`, which is earlier than every other timestamp.
     NegInfinity,
-    /// A moment that is not infinite.
+    /// A timestamp that is not infinite.
     Value(T),
 }

@@ -1,4 +1,4 @@
-//! Moments in seconds.
+//! Timestamps in seconds.
 ghost use Rattle.std.specs.Prelude.{◌≡◌, ◌≤◌, ◌<◌, false, MatchOption};
 ghost use Rattle.std.specs.Int.{w64};
 
@@ -6,10 +6,10 @@ pub mod laws;
 
 use crate::epoch::POSTGRES_EPOCH_SECS;
 
-/// A moment: seconds from 1970-01-01 00:00:00 UTC, negative before it, and the nanoseconds after
+/// A timestamp: seconds from 1970-01-01 00:00:00 UTC, negative before it, and the nanoseconds after
 /// that second.
 ///
-/// Its order is that by seconds and then by nanoseconds, which is that of moments.
+/// Its order is that of its nanoseconds since the epoch.
 #[derive(Debug, Clone, Copy, PartialEq, Eq, PartialOrd, Ord)]
 pub struct UnixTime {
     secs: i64,
@@ -21,8 +21,8 @@ impl UnixTime {
     ghost use Rattle.pg_base.specs.Moments.{IsAfterBase, nanos_of, cut_micros};
     ghost use Rattle.pg_base.specs.Numbers.{fits_signed};
 
-    /// The moment `nanos` nanoseconds after second `secs`; `None` where `nanos` is 1,000,000,000 or
-    /// more.
+    /// The timestamp `nanos` nanoseconds after second `secs`; `None` where `nanos` is 1,000,000,000
+    /// or more.
     pub fn new(secs: i64, nanos: u32) -> Option<UnixTime>
         ensures { MatchOption result (1_000_000_000 ≤ nanos) (λ t. (t.secs ≡ secs) × (t.nanos ≡ nanos)) }
     {
@@ -47,7 +47,7 @@ impl UnixTime {
         self.nanos
     }
 
-    /// The moment that many microseconds after 2000-01-01 00:00:00 UTC.
+    /// The timestamp that many microseconds after 2000-01-01 00:00:00 UTC.
     pub fn from_postgres_micros(micros: i64) -> UnixTime
         ensures { IsAfterBase nanos_of micros result }
     {
@@ -57,8 +57,8 @@ impl UnixTime {
         }
     }
 
-    /// The microseconds from 2000-01-01 00:00:00 UTC to the moment, cut toward 2000 on both sides;
-    /// `None` where an `i64` does not hold them.
+    /// The microseconds from 2000-01-01 00:00:00 UTC to the timestamp, truncated toward 2000 on
+    /// both sides; `None` where an `i64` does not hold them.
     pub fn to_postgres_micros(&self) -> Option<i64>
         ensures { MatchOption result (fits_signed w64 (cut_micros (nanos_of self.now)) ≡ false)
             (λ micros. micros ≡ cut_micros (nanos_of self.now)) }

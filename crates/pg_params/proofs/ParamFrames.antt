@@ -1,4 +1,4 @@
--- The frame of a parameter, made behind what the buffer held.
+-- The frame of a parameter, made after what the buffer held.
 use Rattle.std.proofs.Common.{◌≡◌, ◌<◌, ◌≤◌, ◌+◌, ◌++◌, ℕ, pos, List, length, take, drop, Some, None, Bool, true, false, cond, nat_le, Result, Ok, Err, IfSome, refl, ap, sym, ◌∙◌, subst, arith, append_assoc, length-append}
 use Rattle.std.specs.Bool.{⊤}
 use Rattle.std.specs.Int.{to_be_bytes, w32}
@@ -38,13 +38,13 @@ module _ (old head b written : List ℕ) (four : length head ≡ 4) (is : writte
   front : take (length old) written ≡ old
   front = ap (take (length old)) (is ∙ append_assoc old head b) ∙ take-append_seam old (head ++ b)
 
-  -- and behind it, past the length, the cell
+  -- and after it, past the length, the cell
   behind : drop (length old + 4) written ≡ b
   behind =
       let n : length (old ++ head) ≡ length old + 4 = omega (arith, four, length-append old head) in
       ap (drop (length old + 4)) is ∙ drop_at (old ++ head) b (length old + 4) n
 
--- a cell that was written behind four bytes, and framed there
+-- a cell that was written after four bytes, and framed there
 pub framed_cell : (w : Wire) (old head mid written new : List ℕ) (n : ℕ) (r : Result ⊤ Fault) → n ≡ length old → length head ≡ 4 → mid ≡ old ++ head → Writes w mid written (Ok No)
     → FramesFrom n written new r → AppendsFrame w old new r
 framed_cell w old head mid written new n (Ok done) at four m cell made =

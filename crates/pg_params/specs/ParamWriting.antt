@@ -12,7 +12,7 @@ abbrev pub AppendsFrame : Wire → List ℕ → List ℕ → Result ⊤ Fault �
 AppendsFrame w old new (Ok done) = (c : Cell) × (b : List ℕ) × (w ≡ Ok c) × (frame c ≡ Some b) × (new ≡ old ++ b)
 AppendsFrame w old new (Err f) = (take (length old) new ≡ old) × IfSome (refusal_of f) (λ r. framed w ≡ Err r)
 
--- what stands four bytes behind the place n was framed from there on; or it has no frame
+-- what stands four bytes after the place n was framed from there on; or it has no frame
 abbrev pub FramesFrom : ℕ → List ℕ → List ℕ → Result ⊤ Fault → Type 0
 FramesFrom n old new (Ok done) = (b : List ℕ) × (frame (Some (drop (n + 4) old)) ≡ Some b) × (new ≡ take n old ++ b)
 FramesFrom n old new (Err f) = (new ≡ old) × (f ≡ Transmit) × (frame (Some (drop (n + 4) old)) ≡ None)

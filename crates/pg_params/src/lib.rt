@@ -19,7 +19,7 @@ use std::alloc::Global;
 const LEN: usize = 4;
 
 /// Appends the frames of the parameters in their order, each for the type that stands at its place:
-/// the length of its cell in 4 bytes, highest first, and the cell's bytes; for NULL the length -1.
+/// the length of its cell in 4 bytes, big-endian, and the cell's bytes; for NULL the length -1.
 ///
 /// The lists are of one length. A refusal names the place, counted from 0, of the first parameter
 /// that is refused: with the fault of its checked writing, or `Transmit` where its cell passes
@@ -55,7 +55,7 @@ fn param_to_sql(
         out.old.items out.new.items result }
 {
     let start = out.len();
-    // The frame of NULL, whose length is put right once a cell stands behind it.
+    // The frame of NULL, whose length is put right once a cell stands after it.
     out.put_i32(-1)?;
     match write_boxed(alloc, param, ty, out)? {
         IsNull::Yes => Ok(()),

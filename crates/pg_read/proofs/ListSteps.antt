@@ -51,7 +51,7 @@ module _ {A : Type 0} (reads : Cell → Outcome A → Type 0) where
   fault_stays [] ds r h = absurd h
   fault_stays (c ∷ cs) ds r h = elim h [ inl e ↦ inl e | inr p ↦ inr (p.0, p.1, fault_stays cs ds r p.2) ]
 
--- where a check of what comes next fails, it is Size: bytes are left behind the last cell, or no cell is in front
+-- where a check of what comes next fails, it is Size: bytes are left after the last cell, or no cell is in front
 size_of_two : (t u : Bool) (r : Refusal) → first_fault_of ((t, size) ∷ (u, size) ∷ []) ≡ Some r → r ≡ size
 size_of_two true true r e = let no : ⊥ = cc in absurd no
 size_of_two true false r e = cc
@@ -76,7 +76,7 @@ all_taken start now cs h end =
     let many : length cs ≡ start.left = omega (arith, h.so_many, ap (λ (r : ToRead). r.left) end) in
     (many, (subst (λ x. SpellsAll start.bytes cs x) (ap (λ (r : ToRead). r.bytes) end) h.spelled, omega (arith, many), inl many))
 
--- where the next step fails, these are all cells that are there, and a check behind them fails
+-- where the next step fails, these are all cells that are there, and a check after them fails
 cells_missing : (n : ℕ) (cs : List Cell) (rest : List ℕ) → length cs < n → first_fault_of (end_checks n cs rest) ≡ Some size
 cells_missing n cs rest h =
     let fewer : nat_le n (length cs) ≡ false = grind (arith, nat_tests) in
@@ -109,7 +109,7 @@ all_there start now cs r h e =
       ] ∙ ap Some (sym p.0),
     )
 
--- there are more cells behind those that were taken, or none
+-- there are more cells after those that were taken, or none
 pub cells_behind : (s u : List ℕ) (cs : List Cell) (n : ℕ) → SpellsAll s cs u → length cs ≤ n → AreBytes u
     → (ds : List Cell) × (rest : List ℕ) × CellsInRow s n (cs ++ ds) rest
 cells_behind s u cs n spelled few bytes =
@@ -123,7 +123,7 @@ cells_behind s u cs n spelled few bytes =
       ),
     )
 
--- and so there are behind those of an array
+-- and so there are after those of an array
 pub all_behind : (b : List ℕ) (start now : ToRead) (cs : List Cell) → SpellsHead b start → AreBytes b → HaveBeenTaken start cs now
     → (ds : List Cell) × (rest : List ℕ) × CellsInRow start.bytes start.left (cs ++ ds) rest
 all_behind b start now cs p bytes h =

@@ -6,7 +6,7 @@ use Rattle.pg_base.specs.Formats.{Decodes, first_fault_of}
 use Rattle.pg_base.specs.Network.{FormCidr, FormInet, Network, first_fault_inet, first_fault_cidr, host_part, inet_checks}
 use Rattle.pg_types.specs.declared.fault.Fault.{Fault}
 
--- the first check that fails is the first with more checks behind it too
+-- the first check that fails is the first with more checks after it too
 first_fault-more : (checks more : List (Bool × Refusal)) (r : Refusal) → first_fault_of checks ≡ Some r → first_fault_of (checks ++ more) ≡ Some r
 first_fault-more [] more r h = cc
 first_fault-more ((true, f) ∷ checks) more r h = first_fault-more checks more r h

@@ -44,7 +44,7 @@ run_ends items reads start n x cs now many h = (cs, now, (h.spelled, omega (arit
 
 module _ {A X : Type 0} (items : X → List A) (reads : Cell → Outcome A → Type 0) (start : List ℕ) (cs : List Cell) (vs : List A) (now : List ℕ)
     (so_far : HaveBeenRead reads start cs vs now) (n : ℕ) (f : Fault) where
-  -- a run stops behind values that were read where memory runs out
+  -- a run stops after values that were read where memory runs out
   pub run_unkept : length cs ≤ n → AreBytes start → refusal_of f ≡ None → ReadsRun items reads start n (Err f) now
   run_unkept few bytes is =
       let more = cells_behind start now cs n so_far.spelled few (row_bytes start now cs so_far.spelled bytes) in

@@ -16,16 +16,16 @@ abbrev pub TakesNumber : List ℕ → Result ℤ Fault → List ℕ → Type 0
 TakesNumber old (Ok n) new = (s : List ℕ) × (old ≡ s ++ new) × IsBe w32 s n
 TakesNumber old (Err f) new = (length old < 4) × (refusal_of f ≡ Some size) × (new ≡ old)
 
--- where a slice stands whose first cell is cut: at its start where the length is cut, and otherwise after the length
+-- where a slice stands whose first cell is truncated: at its start where the length is truncated, and otherwise after the length
 abbrev pub after_cut : List ℕ → List ℕ
 after_cut s = if nat_lt (length s) 4 then s else drop 4 s
 
--- the first cell was taken; where it is cut, Size
+-- the first cell was taken; where it is truncated, Size
 abbrev pub TakesCell : List ℕ → Result (Option (Bor (List ℕ))) Fault → List ℕ → Type 0
 TakesCell old (Ok raw) new = (s : List ℕ) × (old ≡ s ++ new) × Spells s (cell_of raw)
 TakesCell old (Err f) new = SpellsNone old × (refusal_of f ≡ Some size) × (new ≡ after_cut old)
 
--- where no cell is whole, the answer is Size; otherwise it is an outcome of the first cell, and no want of memory where
+-- where no cell is whole, the answer is Size; otherwise it is an outcome of the first cell, and never Memory where
 -- that is read without, and the slice stands after the cell whatever the answer
 abbrev pub ReadsFirst : {A : Type 0} → (Cell → Outcome A → Type 0) → (Cell → Type 0) → List ℕ → List Cell → List ℕ → Result A Fault → List ℕ → Type 0
 ReadsFirst reads memory_free old [] rest result new = AnswersSize result × (new ≡ after_cut old)

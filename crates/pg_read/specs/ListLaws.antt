@@ -32,7 +32,7 @@ module _ {A : Type 0} (same : A → A → Type 0) (reads : Cell → Outcome A �
     | inr z ↦ elim k [ inl y ↦ absurd (single c (Ok z.0) (Err f) z.1 y) | inr y ↦ all_single cs (Err r) (Err f) z.2 y.2 ]
   ]
 
-  -- and so they do with checks behind them
+  -- and so they do with checks after them
   pub checked_single : (checks : Checks) (cs : List Cell) (r s : Outcome (List A)) → ReadsChecked reads checks cs r → ReadsChecked reads checks cs s → SameOutcome (SameList same) r s
   checked_single checks cs (Ok vs) (Ok ws) h k = all_single cs (Ok vs) (Ok ws) h.0 k.0
   checked_single checks cs (Ok vs) (Err f) h k = elim k [ inl y ↦ all_single cs (Ok vs) (Err f) h.0 y | inr y ↦ absurd (no_fault (first_fault_of checks) f h.1 y.2) ]

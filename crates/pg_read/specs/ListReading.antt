@@ -15,13 +15,13 @@ ReadsAll reads (c ∷ cs) (Ok []) = ⊥
 ReadsAll reads (c ∷ cs) (Ok (v ∷ vs)) = reads c (Ok v) × ReadsAll reads cs (Ok vs)
 ReadsAll {A} reads (c ∷ cs) (Err r) = reads c (Err r) ⊎ ((v : A) × reads c (Ok v) × ReadsAll reads cs (Err r))
 
--- the same with checks behind the cells: where no cell is refused, the first check that fails gives its fault
+-- the same with checks after the cells: where no cell is refused, the first check that fails gives its fault
 abbrev pub ReadsChecked : {A : Type 0} → (Cell → Outcome A → Type 0) → Checks → List Cell → Outcome (List A) → Type 0
 ReadsChecked reads checks cs (Ok vs) = ReadsAll reads cs (Ok vs) × (first_fault_of checks ≡ None)
 ReadsChecked {A} reads checks cs (Err r) =
     ReadsAll reads cs (Err r) ⊎ ((vs : List A) × ReadsAll reads cs (Ok vs) × (first_fault_of checks ≡ Some r))
 
--- the checks behind the cells of an array that states n elements: all of them are there, and no bytes are left
+-- the checks after the cells of an array that states n elements: all of them are there, and no bytes are left
 abbrev pub end_checks : ℕ → List Cell → List ℕ → Checks
 end_checks n cs rest = (nat_le n (length cs), size) ∷ (length rest == 0, size) ∷ []
 
@@ -29,12 +29,12 @@ end_checks n cs rest = (nat_le n (length cs), size) ∷ (length rest == 0, size)
 abbrev pub ReadsElements : {A : Type 0} → (Cell → Outcome A → Type 0) → ℕ → List Cell → List ℕ → Outcome (List A) → Type 0
 ReadsElements reads n cs rest = ReadsChecked reads (end_checks n cs rest) cs
 
--- the checks behind the cells of an array that states n elements, of which `expected` are wanted: no more are there, all
+-- the checks after the cells of an array that states n elements, of which `expected` are wanted: no more are there, all
 -- of them are there, no bytes are left, and no fewer are stated
 abbrev pub fixed_checks : ℕ → ℕ → List Cell → List ℕ → Checks
 fixed_checks expected n cs rest = (nat_le (length cs) expected, excess expected) ∷ end_checks n cs rest ++ (nat_le expected n, too_few expected n) ∷ []
 
--- what the elements of so many values give: those behind them are not read
+-- what the elements of so many values give: those after them are not read
 abbrev pub ReadsFixed : {A : Type 0} → ℕ → (Cell → Outcome A → Type 0) → ℕ → List Cell → List ℕ → Outcome (List A) → Type 0
 ReadsFixed expected reads n cs rest = ReadsChecked reads (fixed_checks expected n cs rest) (take expected cs)
 

@@ -16,7 +16,7 @@ abbrev pub StopsRefused : {A : Type 0} → (Cell → Outcome A → Type 0) → L
 StopsRefused {A} reads old cs r new =
     (ds : List Cell) × (c : Cell) × (vs : List A) × ReadsAll reads ds (Ok vs) × reads c (Err r) × StandsAfter old cs (ds ++ c ∷ []) new
 
--- every cell that is there gives a value, and they are fewer than n: it is Size, and the slice stands where the cut cell behind them leaves it
+-- every cell that is there gives a value, and they are fewer than n: it is Size, and the slice stands where the truncated cell after them leaves it
 abbrev pub StopsCut : {A : Type 0} → (Cell → Outcome A → Type 0) → ℕ → List Cell → List ℕ → Refusal → List ℕ → Type 0
 StopsCut {A} reads n cs rest r new = (vs : List A) × ReadsAll reads cs (Ok vs) × (length cs < n) × (r ≡ size) × (new ≡ after_cut rest)
 
@@ -30,7 +30,7 @@ abbrev pub RunStops : {A : Type 0} → (Cell → Outcome A → Type 0) → List 
 RunStops reads old n cs rest None new = StopsUnkept reads old cs new
 RunStops reads old n cs rest (Some r) new = StopsRefused reads old cs r new ⊎ StopsCut reads n cs rest r new
 
--- what n cells in a row are read as: the values of all of them, and the slice stands behind them, or they stop
+-- what n cells in a row are read as: the values of all of them, and the slice stands after them, or they stop
 abbrev pub RunEnds : {A X : Type 0} → (X → List A) → (Cell → Outcome A → Type 0) → List ℕ → ℕ → List Cell → List ℕ → Result X Fault → List ℕ → Type 0
 RunEnds items reads old n cs rest (Ok x) new = (length cs ≡ n) × ReadsAll reads cs (Ok (items x)) × (new ≡ rest)
 RunEnds items reads old n cs rest (Err f) new = RunStops reads old n cs rest (refusal_of f) new
@@ -45,7 +45,7 @@ abbrev pub AnswersValues : {A X : Type 0} → (X → List A) → (A → A → Ty
 AnswersValues items same vs s (Ok x) new = SameList same (items x) vs × (new ≡ s)
 AnswersValues items same vs s (Err f) new = refusal_of f ≡ None
 
--- the frames of n cells that each give a value were read as these values, with what comes behind them left
+-- the frames of n cells that each give a value were read as these values, with what comes after them left
 abbrev pub ReadsFrames : {A X : Type 0} → (X → List A) → (A → A → Type 0) → (Cell → Outcome A → Type 0) → List ℕ → ℕ → Result X Fault → List ℕ → Type 0
 ReadsFrames {A} items same reads old n result new =
     (cs : List Cell) (b s : List ℕ) (vs : List A) → frames cs ≡ Some b → old ≡ b ++ s → length cs ≡ n → ReadsAll reads cs (Ok vs)

@@ -17,10 +17,10 @@ use pg_base::protocol::array_from_sql;
 use pg_base::types::PgType;
 use std::alloc::Global;
 
-/// An array of a type that `T` accepts, of `N` elements, read as for `Vec<T>`; elements behind the
-/// first `N` are not read. Where `N` were read, a further element that is cut is `Size`, and one
-/// that is whole `Excess` with `N`. Where fewer are stated, bytes behind the last are `Size`, and
-/// otherwise it is `TooFew` with `N` and the number that was stated. NULL is `WasNull`.
+/// An array of a type that `T` accepts, of `N` elements, read as for `Vec<T>`; elements after the
+/// first `N` are not read. Where `N` were read, a further element that is truncated is `Size`, and
+/// one that is whole `Excess` with `N`. Where fewer are stated, bytes after the last are `Size`,
+/// and otherwise it is `TooFew` with `N` and the number that was stated. NULL is `WasNull`.
 impl<'a, T: FromSql<'a>, const N: usize> FromSql<'a> for [T; N] {
     ghost same = { SameList T.same };
 

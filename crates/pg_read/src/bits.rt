@@ -14,8 +14,8 @@ use pg_base::protocol::varbit_from_sql;
 use pg_base::types::PgType;
 use std::alloc::Global;
 
-/// BIT and VARBIT: the number of bits in 4 bytes, highest first, and as many bytes as they take,
-/// the first bit on top of the first byte (`bit_recv`, `varbit_recv`). A number that is cut is
+/// BIT and VARBIT: the number of bits in 4 bytes, big-endian, and as many bytes as they take, the
+/// first bit on top of the first byte (`bit_recv`, `varbit_recv`). A number that is truncated is
 /// `Size`, a negative one `Count`, any other number of bytes `Size`, and NULL is `WasNull`.
 impl<'a> FromSql<'a> for BitVec {
     ghost same = { λ v w. v ≡ w };

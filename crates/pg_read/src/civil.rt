@@ -1,4 +1,4 @@
-//! Reading dates, times of day, and moments of `jiff`.
+//! Reading dates, times of day, and timestamps of `jiff`.
 ghost use Rattle.std.specs.Prelude.{◌≡◌, pos};
 ghost use Rattle.std.specs.Int.{w32, w64};
 ghost use Rattle.jiff.specs.Words.{civil_nanos, epoch_day, time_nanos};
@@ -71,7 +71,7 @@ fn instant_of(micros: i64) -> Result<Timestamp, Fault>
     }
 }
 
-/// DATE: 4 bytes, highest first, in two's complement, the days from 2000-01-01 (`date_recv`). Any
+/// DATE: 4 bytes, big-endian, in two's complement, the days from 2000-01-01 (`date_recv`). Any
 /// other length is `Size`, a date before -9999-01-01 or after 9999-12-31 is `Decode`, the two
 /// counts that PostgreSQL takes for infinities included, and NULL is `WasNull`.
 impl<'a> FromSql<'a> for Date {
@@ -102,7 +102,7 @@ impl<'a> FromSql<'a> for Date {
     }
 }
 
-/// TIME: 8 bytes, highest first, in two's complement, the microseconds from midnight (`time_recv`).
+/// TIME: 8 bytes, big-endian, in two's complement, the microseconds from midnight (`time_recv`).
 /// Any other length is `Size`, what lies outside 0 to 86,399,999,999 is `Decode`, 24:00:00
 /// included, and NULL is `WasNull`.
 impl<'a> FromSql<'a> for Time {
@@ -133,10 +133,10 @@ impl<'a> FromSql<'a> for Time {
     }
 }
 
-/// TIMESTAMP: 8 bytes, highest first, in two's complement, the microseconds from 2000-01-01
-/// 00:00:00 (`timestamp_recv`). Any other length is `Size`, a moment before -9999-01-01 00:00:00 or
-/// after 9999-12-31 23:59:59.999999 is `Decode`, the two counts that PostgreSQL takes for
-/// infinities included, and NULL is `WasNull`.
+/// TIMESTAMP: 8 bytes, big-endian, in two's complement, the microseconds from 2000-01-01 00:00:00
+/// (`timestamp_recv`). Any other length is `Size`, a timestamp before -9999-01-01 00:00:00 or after
+/// 9999-12-31 23:59:59.999999 is `Decode`, the two counts that PostgreSQL takes for infinities
+/// included, and NULL is `WasNull`.
 impl<'a> FromSql<'a> for DateTime {
     ghost same = { λ v w. civil_nanos v ≡ civil_nanos w };
 
@@ -165,7 +165,7 @@ impl<'a> FromSql<'a> for DateTime {
     }
 }
 
-/// TIMESTAMPTZ: 8 bytes, highest first, in two's complement, the microseconds from 2000-01-01
+/// TIMESTAMPTZ: 8 bytes, big-endian, in two's complement, the microseconds from 2000-01-01
 /// 00:00:00 UTC (`timestamptz_recv`). Any other length is `Size`, an instant before
 /// [`Timestamp::MIN`] or after [`Timestamp::MAX`] is `Decode`, the two counts that PostgreSQL takes
 /// for infinities included, and NULL is `WasNull`.

@@ -17,9 +17,9 @@ use std::alloc::Global;
 use std::collections::HashMap;
 use std::hash::BuildHasher;
 
-/// Any type that is named hstore (`hstore_recv`): the number of entries in 4 bytes, highest first,
+/// Any type that is named hstore (`hstore_recv`): the number of entries in 4 bytes, big-endian,
 /// and the frames of each key and its value, of which `None` is NULL. Of equal keys the last stays.
-/// Where the count, a length or a text is cut, or bytes are left after the last entry, it is
+/// Where the count, a length or a text is truncated, or bytes are left after the last entry, it is
 /// `Size`; a negative count is `Count`, a negative length of a key `KeyLength`, and a text that is
 /// not UTF-8 `Utf8`. NULL is `WasNull`.
 impl<'a, S: Default + BuildHasher + Drop> FromSql<'a> for HashMap<String, Option<String>, S> {

@@ -22,7 +22,7 @@ use std::alloc::Global;
 /// bytes are `Size`, and another first byte is `JsonVersion`. A text from which `serde_json` reads
 /// no document is `JsonText`: it is not JSON or not UTF-8, it nests more than 127 deep, or a number
 /// passes the greatest `f64`. A document that holds, at any depth, a number that is kept as neither
-/// `i64` nor `u64` is `JsonNumber`: a fraction, an exponent, `-0`, or a whole number outside both.
+/// `i64` nor `u64` is `JsonNumber`: a fraction, an exponent, `-0`, or an integer outside both.
 /// NULL is `WasNull`.
 impl<'a> FromSql<'a> for Value {
     ghost same = { λ v w. view v ≡ view w };
@@ -54,7 +54,7 @@ impl<'a> FromSql<'a> for Value {
     }
 }
 
-/// The document behind the version.
+/// The document after the version.
 fn jsonb_document(alloc: Global, raw: &[u8]) -> Result<Value, Fault>
     ensures { Answers (ReadsJson view true (Some raw.now)) result }
 {

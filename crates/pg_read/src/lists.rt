@@ -22,10 +22,10 @@ use std::boxed::BoxedSlice;
 /// order, of which every negative length is NULL. The flags, the OID of the elements' type and the
 /// lower bound are not looked at.
 ///
-/// The head's checks come first: where it is cut it is `Size`, a negative number of dimensions or
-/// elements is `Count`, and more than 1 dimension `Dimensions`. Then the first element that is cut
-/// is `Size`, or the first that `T` refuses gives `T`'s fault, whichever stands first. Bytes behind
-/// the last element are `Size`. NULL is `WasNull`.
+/// The head's checks come first: where it is truncated it is `Size`, a negative number of
+/// dimensions or elements is `Count`, and more than 1 dimension `Dimensions`. Then the first
+/// element that is truncated is `Size`, or the first that `T` refuses gives `T`'s fault, whichever
+/// stands first. Bytes after the last element are `Size`. NULL is `WasNull`.
 impl<'a, T: FromSql<'a>> FromSql<'a> for Vec<T> {
     ghost same = { λ v w. SameList T.same v.items w.items };
 

@@ -16,7 +16,7 @@ use pg_base::protocol::lsn_from_sql;
 use pg_base::types::PgType;
 use std::alloc::Global;
 
-/// PG_LSN: 8 bytes, unsigned, highest first (`pg_lsn_recv`). Any other length is `Size`, and NULL
+/// PG_LSN: 8 bytes, unsigned, big-endian (`pg_lsn_recv`). Any other length is `Size`, and NULL
 /// is `WasNull`.
 impl<'a> FromSql<'a> for PgLsn {
     ghost same = { λ v w. v ≡ w };

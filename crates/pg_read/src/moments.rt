@@ -1,4 +1,4 @@
-//! Reading moments.
+//! Reading timestamps.
 ghost use Rattle.std.specs.Prelude.{◌≡◌};
 ghost use Rattle.pg_base.specs.Moments.{FormTimestamp, ReadsTimestamp, accepted_moment, nanos_of};
 ghost use Rattle.pg_base.proofs.MomentsLaws.{timestamp_grammar};
@@ -15,8 +15,8 @@ use pg_base::types::PgType;
 use pg_base::unix_time::UnixTime;
 use std::alloc::Global;
 
-/// TIMESTAMP, TIMESTAMPTZ: 8 bytes, highest first, in two's complement, the microseconds from
-/// 2000-01-01 00:00:00 UTC (`timestamp_recv`, `timestamptz_recv`). Every count is a moment. Any
+/// TIMESTAMP, TIMESTAMPTZ: 8 bytes, big-endian, in two's complement, the microseconds from
+/// 2000-01-01 00:00:00 UTC (`timestamp_recv`, `timestamptz_recv`). Every count is a timestamp. Any
 /// other length is `Size`, and NULL is `WasNull`.
 impl<'a> FromSql<'a> for UnixTime {
     ghost same = { λ v w. nanos_of v ≡ nanos_of w };

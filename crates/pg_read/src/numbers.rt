@@ -1,4 +1,4 @@
-//! Reading whole numbers and truth values.
+//! Reading integers and booleans.
 ghost use Rattle.std.specs.Prelude.{◌≡◌};
 ghost use Rattle.std.specs.Int.{w8, w16, w32, w64};
 ghost use Rattle.pg_types.specs.declared.types.built_in.BuiltIn.TheVariants.{Bool, Char, Int2, Int4, Int8, Oid};
@@ -75,7 +75,7 @@ impl<'a> FromSql<'a> for i8 {
     }
 }
 
-/// INT2: 2 bytes, highest first, in two's complement (`int2recv`). Any other length is `Size`, and
+/// INT2: 2 bytes, big-endian, in two's complement (`int2recv`). Any other length is `Size`, and
 /// NULL is `WasNull`.
 impl<'a> FromSql<'a> for i16 {
     ghost same = { λ v w. v ≡ w };
@@ -104,7 +104,7 @@ impl<'a> FromSql<'a> for i16 {
     }
 }
 
-/// INT4: 4 bytes, highest first, in two's complement (`int4recv`). Any other length is `Size`, and
+/// INT4: 4 bytes, big-endian, in two's complement (`int4recv`). Any other length is `Size`, and
 /// NULL is `WasNull`.
 impl<'a> FromSql<'a> for i32 {
     ghost same = { λ v w. v ≡ w };
@@ -133,7 +133,7 @@ impl<'a> FromSql<'a> for i32 {
     }
 }
 
-/// INT8: 8 bytes, highest first, in two's complement (`int8recv`). Any other length is `Size`, and
+/// INT8: 8 bytes, big-endian, in two's complement (`int8recv`). Any other length is `Size`, and
 /// NULL is `WasNull`.
 impl<'a> FromSql<'a> for i64 {
     ghost same = { λ v w. v ≡ w };
@@ -162,7 +162,7 @@ impl<'a> FromSql<'a> for i64 {
     }
 }
 
-/// OID: 4 bytes, unsigned, highest first (`oidrecv`). Any other length is `Size`, and NULL is
+/// OID: 4 bytes, unsigned, big-endian (`oidrecv`). Any other length is `Size`, and NULL is
 /// `WasNull`.
 impl<'a> FromSql<'a> for u32 {
     ghost same = { λ v w. v ≡ w };

@@ -13,7 +13,7 @@ use pg_base::protocol::int4_from_sql;
 use pg_base::types::PgType;
 use std::alloc::Global;
 
-/// Reads a number of 4 bytes, highest first, and moves the slice after them. Where fewer are left
+/// Reads a number of 4 bytes, big-endian, and moves the slice after them. Where fewer are left
 /// it answers `Size`, and the slice stays.
 pub fn read_be_i32(buf: &mut &[u8]) -> Result<i32, Fault>
     ensures { TakesNumber buf.old.now result buf.new.now }
@@ -49,9 +49,9 @@ fn read_cell<'a>(buf: &mut &'a [u8]) -> Result<Option<&'a [u8]>, Fault>
 /// Reads the framed cell at the front of the slice: a length of 4 bytes, every negative one NULL,
 /// and that many bytes. The type must be accepted.
 ///
-/// Where the length is cut it answers `Size`, and the slice stays at its start. Where the cell is
-/// cut it answers `Size`, and the slice stands after the length. Otherwise the slice stands after
-/// the cell, whether the value is answered or the conversion's fault.
+/// Where the length is truncated it answers `Size`, and the slice stays at its start. Where the
+/// cell is truncated it answers `Size`, and the slice stands after the length. Otherwise the slice
+/// stands after the cell, whether the value is answered or the conversion's fault.
 pub fn read_value<'a, T: FromSql<'a>>(
     alloc: Global,
     type_: &PgType,
@@ -73,10 +73,10 @@ fn holds_bytes(bytes: &[u8])
 /// The type must be accepted. The list grows as values come, whatever `n` states.
 ///
 /// The first cell that is refused gives its fault, and the slice stands after that cell. Where no
-/// cell is refused, but the one behind them is cut before there are `n`, it answers `Size`, and the
-/// slice stands where [`read_value`] leaves it at a cut cell. Where memory runs out it stands after
-/// the values that were read so far, or after one more that was not kept. Otherwise it stands after
-/// the last cell.
+/// cell is refused, but the one after them is truncated before there are `n`, it answers `Size`,
+/// and the slice stands where [`read_value`] leaves it at a truncated cell. Where memory runs out
+/// it stands after the values that were read so far, or after one more that was not kept. Otherwise
+/// it stands after the last cell.
 ///
 /// Frames determine their cells, and in front of other bytes they do where the number of cells is
 /// known; from the frames of `n` cells that each give a value these values are read.

@@ -1,4 +1,4 @@
-//! Reading dates and moments with infinities.
+//! Reading dates and timestamps with infinities.
 
 mod date;
 mod timestamp;

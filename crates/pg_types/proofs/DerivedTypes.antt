@@ -19,7 +19,7 @@ use Rattle.pg_types.specs.contracts.types.kind.FieldPartialEq.TheImpl.{ghosts as
 use Rattle.pg_types.specs.contracts.types.kind.KindRefPartialEq.TheImpl.{ghosts as views}
 use Rattle.pg_types.specs.contracts.types.PgTypePartialEq.TheImpl.Laws as type_laws
 use Rattle.pg_types.specs.contracts.types.InnerPartialEq.TheImpl.Laws as inner_laws
-use Rattle.pg_types.specs.contracts.types.MadePartialEq.TheImpl.Laws as made_laws
+use Rattle.pg_types.specs.contracts.types.OtherPartialEq.TheImpl.Laws as made_laws
 use Rattle.pg_types.specs.contracts.types.kind.KindPartialEq.TheImpl.Laws as kind_laws
 use Rattle.pg_types.specs.contracts.types.kind.FieldPartialEq.TheImpl.Laws as field_laws
 use Rattle.pg_types.specs.contracts.types.PgTypeHash.TheImpl.{ghosts as type_hashes}

@@ -1,4 +1,4 @@
--- What a Postgres type is: a row of the table of built-in types, or a made type.
+-- What a Postgres type is: a row of the table of built-in types, or a user-defined type.
 use Rattle.std.specs.Prelude.{◌≡◌, ℕ, List, [], ◌∷◌, string_bytes, map, Bool, true, false, ◌==◌, ◌&&◌, ◌||◌, ◌++◌, codes, if◌then◌else◌}
 use Rattle.std.specs.Option.{option_map_or}
 use Rattle.std.specs.Cmp.Lexicographic.{pointwise}

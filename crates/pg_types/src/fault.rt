@@ -117,7 +117,7 @@ pub enum Fault {
     /// An array has more elements than the Rust array.
     #[error("excess elements in array (expected {expected}, got more than that)")]
     Excess { expected: usize },
-    /// The cell's date, time or moment lies outside the Rust type's range.
+    /// The cell's date, time or timestamp lies outside the Rust type's range.
     #[error("value too large to decode")]
     Decode,
     /// The value is too large for its cell.
@@ -144,7 +144,7 @@ pub enum Fault {
     /// An address has another length than its family.
     #[error("invalid address length")]
     AddressLength,
-    /// A network has bits set behind its netmask.
+    /// A network has bits set after its netmask.
     #[error("host bits are set")]
     HostBits,
     /// The refusal of a user's own conversion, by its text; see [`user`](Fault::user).

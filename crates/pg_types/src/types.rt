@@ -24,24 +24,24 @@ pub type Oid = u32;
 
 /// A Postgres type.
 ///
-/// Two built-in types are equal where they are the same one. Two made types are equal where their
-/// name, OID, kind and schema are. A made type never equals a built-in one.
+/// Two built-in types are equal where they are the same one. Two user-defined types are equal where
+/// their name, OID, kind and schema are. A user-defined type never equals a built-in one.
 #[cycle(types)]
-#[derive(Debug, PartialEq, Eq, Hash, Drop)]
+#[derive(PartialEq, Eq, Hash, Drop)]
 pub struct PgType {
     inner: Inner,
 }
 
 #[cycle(types)]
-#[derive(Debug, PartialEq, Eq, Hash, Drop)]
+#[derive(PartialEq, Eq, Hash, Drop)]
 enum Inner {
     BuiltIn(BuiltIn),
-    Made(Rc<Made>),
+    Made(Rc<Other>),
 }
 
 #[cycle(types)]
 #[derive(Debug, PartialEq, Eq, Hash, Drop)]
-struct Made {
+struct Other {
     name: String,
     oid: Oid,
     kind: Kind,
@@ -49,7 +49,7 @@ struct Made {
 }
 
 impl PgType {
-    /// A made type of these four parts, which is refused with [`Fault::Memory`] only.
+    /// A user-defined type of these four parts, which is refused with [`Fault::Memory`] only.
     pub fn new(
         alloc: Global,
         name: String,
@@ -63,7 +63,7 @@ impl PgType {
     {
         let made = Rc::new(
             alloc,
-            Made {
+            Other {
                 name,
                 oid,
                 kind,
@@ -116,8 +116,8 @@ impl PgType {
         }
     }
 
-    /// The kind of this type. The member of a built-in array is owned; whatever a made type holds
-    /// is borrowed from it.
+    /// The kind of this type. The element type of a built-in array is owned; whatever a
+    /// user-defined type holds is borrowed from it.
     #[tactic(auto, using(crate::proofs::Fields::composite_content))]
     pub fn kind(&self) -> KindRef<'_>
         ensures { seen result ≡ kind_of (content self.now) }
@@ -133,7 +133,8 @@ impl PgType {
         }
     }
 
-    /// An equal type. A built-in one is never refused, and a made one with [`Fault::Memory`] only.
+    /// An equal type. A built-in one is never refused, and a user-defined one with
+    /// [`Fault::Memory`] only.
     pub fn try_clone(&self) -> Result<PgType, Fault>
         ensures same { IfOk result (λ t. content t ≡ content self.now) }
         ensures refused { IfErr result (λ e. e ≡ Memory) }
@@ -154,6 +155,25 @@ impl Clone for PgType {
             Inner::Made(made) => Inner::Made(made.clone()?),
         };
         Ok(PgType { inner })
+    }
+}
+
+/// Writes the variant that upstream's `Type` is: `Int4` for `int4`, and `Other(Other { .. })`, with
+/// the four parts, for a user-defined type.
+impl fmt::Debug for PgType {
+    #[cycle(debug)]
+    fn fmt<W: fmt::Write>(&self, f: &mut fmt::Formatter<W>) -> fmt::Result {
+        fmt::Debug::fmt(&self.inner, f)
+    }
+}
+
+impl fmt::Debug for Inner {
+    #[cycle(debug)]
+    fn fmt<W: fmt::Write>(&self, f: &mut fmt::Formatter<W>) -> fmt::Result {
+        match self {
+            Inner::BuiltIn(row) => fmt::Debug::fmt(row, f),
+            Inner::Made(other) => f.debug_tuple("Other").field(other).finish(),
+        }
     }
 }
 

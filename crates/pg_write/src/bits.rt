@@ -14,7 +14,7 @@ use pg_base::protocol::varbit_to_sql;
 use pg_base::types::PgType;
 use std::alloc::Global;
 
-/// BIT and VARBIT: the number of bits in 4 bytes, highest first, and as many bytes as they take,
+/// BIT and VARBIT: the number of bits in 4 bytes, big-endian, and as many bytes as they take,
 /// the first bit on top of the first byte, with 0 for what pads the last one (`bit_send`,
 /// `varbit_send`). More than 2,147,483,647 bits are `Transmit`.
 impl ToSql for BitVec {

@@ -1,4 +1,4 @@
-//! Writing dates, times of day, and moments of `jiff`.
+//! Writing dates, times of day, and timestamps of `jiff`.
 ghost use Rattle.std.specs.Prelude.{◌≡◌, ◌/◌, ◌-ℤ◌, pos, true, codes, refl};
 ghost use Rattle.jiff.specs.Words.{civil_nanos, epoch_day, time_nanos};
 ghost use Rattle.pg_base.specs.Civil.{base_day, instant_nanos, wire_date, wire_datetime, wire_instant, wire_time};
@@ -26,28 +26,28 @@ fn days_of(date: Date) -> i32
     date.to_plain().to_unix_epoch_day() - POSTGRES_EPOCH_DAY
 }
 
-/// The microseconds from midnight to a time, cut.
+/// The microseconds from midnight to a time, truncated.
 fn micros_of_time(time: Time) -> i64
     ensures { result ≡ pos (time_nanos time / 1000) }
 {
     (time.to_plain().to_nanosecond() / 1_000) as i64
 }
 
-/// The microseconds from 2000-01-01 00:00:00 to a civil datetime, cut toward it.
+/// The microseconds from 2000-01-01 00:00:00 to a civil datetime, truncated toward it.
 fn micros_of_datetime(datetime: DateTime) -> i64
     ensures { result ≡ cut_micros (civil_nanos datetime) }
 {
     ((datetime.to_plain().to_nanosecond() - POSTGRES_EPOCH_NANOS) / 1_000) as i64
 }
 
-/// The microseconds from 2000-01-01 00:00:00 UTC to an instant, cut toward it.
+/// The microseconds from 2000-01-01 00:00:00 UTC to an instant, truncated toward it.
 fn micros_of_instant(instant: Timestamp) -> i64
     ensures { result ≡ cut_micros (instant_nanos instant) }
 {
     ((instant.as_nanosecond() - POSTGRES_EPOCH_NANOS) / 1_000) as i64
 }
 
-/// DATE: 4 bytes, highest first, in two's complement, the days from 2000-01-01 (`date_send`). No
+/// DATE: 4 bytes, big-endian, in two's complement, the days from 2000-01-01 (`date_send`). No
 /// date is refused, and none is written as one of the two counts that PostgreSQL takes for
 /// infinities.
 impl ToSql for Date {
@@ -95,7 +95,7 @@ impl ToSql for Date {
     ghost checks = { λ _ _. refl };
 }
 
-/// TIME: 8 bytes, highest first, in two's complement, the microseconds from midnight, cut
+/// TIME: 8 bytes, big-endian, in two's complement, the microseconds from midnight, truncated
 /// (`time_send`). No time is refused.
 impl ToSql for Time {
     ghost accepted = { is_row TimeRow };
@@ -142,8 +142,8 @@ impl ToSql for Time {
     ghost checks = { λ _ _. refl };
 }
 
-/// TIMESTAMP: 8 bytes, highest first, in two's complement, the microseconds from 2000-01-01
-/// 00:00:00, cut toward it on both sides (`timestamp_send`). No moment is refused, and none is
+/// TIMESTAMP: 8 bytes, big-endian, in two's complement, the microseconds from 2000-01-01 00:00:00,
+/// truncated toward it on both sides (`timestamp_send`). No timestamp is refused, and none is
 /// written as one of the two counts that PostgreSQL takes for infinities.
 impl ToSql for DateTime {
     ghost accepted = { is_row TimestampRow };
@@ -190,9 +190,9 @@ impl ToSql for DateTime {
     ghost checks = { λ _ _. refl };
 }
 
-/// TIMESTAMPTZ: 8 bytes, highest first, in two's complement, the microseconds from 2000-01-01
-/// 00:00:00 UTC, cut toward it on both sides (`timestamptz_send`). No instant is refused, and none
-/// is written as one of the two counts that PostgreSQL takes for infinities.
+/// TIMESTAMPTZ: 8 bytes, big-endian, in two's complement, the microseconds from 2000-01-01 00:00:00
+/// UTC, truncated toward it on both sides (`timestamptz_send`). No instant is refused, and none is
+/// written as one of the two counts that PostgreSQL takes for infinities.
 impl ToSql for Timestamp {
     ghost accepted = { is_row Timestamptz };
 

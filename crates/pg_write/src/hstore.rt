@@ -17,7 +17,7 @@ use std::alloc::Global;
 use std::collections::HashMap;
 use std::hash::BuildHasher;
 
-/// Any type that is named hstore (`hstore_send`): the number of entries in 4 bytes, highest first,
+/// Any type that is named hstore (`hstore_send`): the number of entries in 4 bytes, big-endian,
 /// and the frames of each key and its value, in the order of the keys' bytes. Where the number of
 /// entries, a key or a value passes 2,147,483,647 it is `Transmit`. The entries are sorted in
 /// memory of their own, which may be refused.
@@ -64,7 +64,7 @@ impl<S: BuildHasher + Drop> ToSql for HashMap<String, Option<String>, S> {
     ghost checks = { λ _ _. refl };
 }
 
-/// The map's entries, lent, in the order of their keys' bytes.
+/// The map's entries, borrowed, in the order of their keys' bytes.
 fn sorted_entries<'a, S: BuildHasher + Drop>(
     alloc: Global,
     store: &'a HashMap<String, Option<String>, S>,

@@ -19,7 +19,7 @@ use pg_base::types::PgType;
 use std::alloc::Global;
 use std::boxed::BoxedSlice;
 
-/// An array of a type that `T` writes (`array_send`): one dimension, the member type's OID, the
+/// An array of a type that `T` writes (`array_send`): one dimension, the element type's OID, the
 /// elements in their order, and the lower bound 1, or 0 for OID_VECTOR and INT2_VECTOR. More than
 /// 2,147,483,647 elements are `Transmit`; otherwise the first element that `T` refuses gives its
 /// fault, and the first whose cell passes 2,147,483,647 bytes `Transmit`, whichever stands first.
@@ -260,7 +260,7 @@ fn element_cell<T: ToSql>(
     Ok(Some(bytes.into_vec()?))
 }
 
-/// The number of the first member of an array of that type.
+/// The number of the first element of an array of that type.
 #[tactic(auto, using(pg_types::proofs::DerivedTypes::eq_content))]
 fn lower_bound(ty: &PgType) -> i32
     ensures { result ≡ lower_bound_of (content ty.now) }

@@ -16,7 +16,7 @@ use pg_base::protocol::lsn_to_sql;
 use pg_base::types::PgType;
 use std::alloc::Global;
 
-/// PG_LSN: 8 bytes, unsigned, highest first (`pg_lsn_send`).
+/// PG_LSN: 8 bytes, unsigned, big-endian (`pg_lsn_send`).
 impl ToSql for PgLsn {
     ghost accepted = { is_row PgLsnRow };
 

@@ -1,4 +1,4 @@
-//! Writing moments.
+//! Writing timestamps.
 ghost use Rattle.std.specs.Prelude.{true, codes, refl};
 ghost use Rattle.pg_types.specs.declared.format.Format.TheVariants.{Binary};
 ghost use Rattle.pg_base.specs.Moments.{accepted_moment, nanos_of, wire_timestamp};
@@ -14,9 +14,9 @@ use pg_base::types::PgType;
 use pg_base::unix_time::UnixTime;
 use std::alloc::Global;
 
-/// TIMESTAMP, TIMESTAMPTZ: 8 bytes, highest first, in two's complement, the microseconds from
-/// 2000-01-01 00:00:00 UTC, cut toward it (`timestamp_send`, `timestamptz_send`). Where they leave
-/// 8 bytes the moment is `Transmit`.
+/// TIMESTAMP, TIMESTAMPTZ: 8 bytes, big-endian, in two's complement, the microseconds from
+/// 2000-01-01 00:00:00 UTC, truncated toward it (`timestamp_send`, `timestamptz_send`). Where they
+/// leave 8 bytes the timestamp is `Transmit`.
 impl ToSql for UnixTime {
     ghost accepted = { accepted_moment };
 

@@ -1,4 +1,4 @@
-//! Writing whole numbers and truth values.
+//! Writing integers and booleans.
 ghost use Rattle.std.specs.Prelude.{true, codes, refl};
 ghost use Rattle.std.specs.Int.{w8, w16, w32, w64};
 ghost use Rattle.pg_types.specs.declared.format.Format.TheVariants.{Binary};
@@ -109,7 +109,7 @@ impl ToSql for i8 {
     ghost checks = { λ _ _. refl };
 }
 
-/// INT2: 2 bytes, highest first, in two's complement (`int2send`).
+/// INT2: 2 bytes, big-endian, in two's complement (`int2send`).
 impl ToSql for i16 {
     ghost accepted = { is_row Int2 };
 
@@ -155,7 +155,7 @@ impl ToSql for i16 {
     ghost checks = { λ _ _. refl };
 }
 
-/// INT4: 4 bytes, highest first, in two's complement (`int4send`).
+/// INT4: 4 bytes, big-endian, in two's complement (`int4send`).
 impl ToSql for i32 {
     ghost accepted = { is_row Int4 };
 
@@ -201,7 +201,7 @@ impl ToSql for i32 {
     ghost checks = { λ _ _. refl };
 }
 
-/// INT8: 8 bytes, highest first, in two's complement (`int8send`).
+/// INT8: 8 bytes, big-endian, in two's complement (`int8send`).
 impl ToSql for i64 {
     ghost accepted = { is_row Int8 };
 
@@ -247,7 +247,7 @@ impl ToSql for i64 {
     ghost checks = { λ _ _. refl };
 }
 
-/// OID: 4 bytes, unsigned, highest first (`oidsend`).
+/// OID: 4 bytes, unsigned, big-endian (`oidsend`).
 impl ToSql for u32 {
     ghost accepted = { is_row Oid };
 

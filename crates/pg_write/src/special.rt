@@ -1,4 +1,4 @@
-//! Writing dates and moments with infinities.
+//! Writing dates and timestamps with infinities.
 
 mod date;
 mod timestamp;

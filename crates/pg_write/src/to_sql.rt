@@ -103,7 +103,8 @@ pub fn to_sql_checked_as<T: ToSql>(
     }
 }
 
-/// The fault of a type that is not accepted; `Memory` where a made type's owners can't be counted.
+/// The fault of a type that is not accepted; `Memory` where a user-defined type's owners can't be
+/// counted.
 pub fn wrong_type(ty: &PgType, rust: &'static str) -> Fault
     requires { length rust.now ≤ REASON_LEN }
     ensures refuses { IsWrongType (content ty.now) rust.now result }

@@ -53,7 +53,7 @@ module _ {A : Type 0} (same : A → A → Type 0) (reads : Cell → Outcome A �
 -- ---- lists, of all lengths or of those wanted
 
 -- Elements are read as their cells: values come from cells, and where as many cells as are wanted are all there, and
--- nothing behind them, their outcome is that of the cells.
+-- nothing after them, their outcome is that of the cells.
 pub record ReadsItsCells {A : Type 0} (reads : Cell → Outcome A → Type 0) (wanted : ℕ → Bool) (elements : ℕ → List Cell → List ℕ → Outcome (List A) → Type 0) : Type 0 where
   pub from_cells : (n : ℕ) (cs : List Cell) (rest : List ℕ) (vs : List A) → elements n cs rest (Ok vs) → (ds : List Cell) × ReadsAll reads ds (Ok vs)
   pub taken : (cs : List Cell) (o : Outcome (List A)) → wanted (length cs) ≡ true → ReadsAll reads cs o → elements (length cs) cs [] o

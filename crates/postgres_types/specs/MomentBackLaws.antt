@@ -1,4 +1,4 @@
--- Laws of dates and moments: reading and writing belong together, and none becomes an infinity.
+-- Laws of dates and timestamps: reading and writing belong together, and none becomes an infinity.
 use Rattle.std.specs.Prelude.{◌≡◌, ◌*◌, ◌/◌, ℕ, ℤ, pos, negsuc, ◌+ℤ◌, ◌-ℤ◌, ◌*ℤ◌, int_div, List, Option, Some, None, Ok, Err, IsOkAnd, refl}
 use Rattle.std.proofs.Common.{sym, ◌∙◌, ap, subst, arith}
 use Rattle.std.specs.Int.{Width, w32, w64}
@@ -83,13 +83,13 @@ thousandth_of : (z : ℤ) → int_div (z *ℤ pos 1000) (pos 1000) ≡ z
 thousandth_of (pos n) = omega (arith, signed_arith)
 thousandth_of (negsuc n) = omega (arith, signed_arith)
 
--- a whole microsecond is not cut
+-- a whole microsecond is not truncated
 cut_whole : (nanos z : ℤ) → nanos ≡ base_nanos +ℤ z *ℤ pos 1000 → cut_micros nanos ≡ z
 cut_whole nanos z h =
     let rest : nanos -ℤ base_nanos ≡ z *ℤ pos 1000 = omega (arith, signed_arith, h) in
     ap (λ n. int_div n (pos 1000)) rest ∙ thousandth_of z
 
--- over moments that are told by their nanoseconds
+-- over timestamps that are told by their nanoseconds
 module _ {A : Type 0} (nanos : A → ℤ) where
   moment_named : (z : ℤ) (v : A) → IsAfterBase nanos z v → cut_micros (nanos v) ≡ z
   moment_named z v h = cut_whole (nanos v) z h
@@ -125,7 +125,7 @@ int8_lawful = signed_lawful w64 int8_grammar
 spelled_as : (z : ℤ) (c : Cell) → wire_signed w64 z ≡ Ok c → ReadsSigned w64 c (Ok z)
 spelled_as z c e = int8_lawful.back_reads z c (Ok z) e refl
 
--- over moments of every count
+-- over timestamps of every count
 module _ {A : Type 0} (nanos : A → ℤ) where
   timestamp_kept : (v : A) (x : Wire) → wire_timestamp (nanos v) ≡ x → WrittenAsKept (FormTimestamp nanos) (first_fault_number 8) (KeptMicros nanos) v x
   timestamp_kept v (Ok None) e = spelled_as (cut_micros (nanos v)) None e

@@ -49,7 +49,7 @@ KeepsFinite {A} w reads wire = (b : List ℕ) (v : A) → IsFiniteCell w b → r
 
 -- ---- what a written value is read back as, by the shape of the value
 
--- a plain value: one that holds what is kept of the written value, which is all of it but for moments, which are cut
+-- a plain value: one that holds what is kept of the written value, which is all of it but for timestamps, which are truncated
 abbrev pub BackKept : {A : Type 0} → (A → A → Type 0) → A → Outcome A → Type 0
 BackKept kept v (Ok w) = kept v w
 BackKept kept v (Err r) = ⊥

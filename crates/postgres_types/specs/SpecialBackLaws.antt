@@ -14,13 +14,13 @@ use Rattle.pg_base.proofs.SpecialLaws.{infinities_apart, infinity_width, minus_i
 use Rattle.pg_types.proofs.Contents.{type-same}
 use Rattle.postgres_types.specs.ReadingBack.{IsLawful, KeepsFinite, WrittenFinite, WrittenAsBytes, OfValue, BackValue, BackSpecial}
 
--- no type is that of a date and of a moment
+-- no type is that of a date and of a timestamp
 pub not_both : (ty : Content) → IsTrue (is_row DateRow ty) → IsTrue (accepted_moment ty) → ⊥
 not_both ty date moment =
     let is : ty ≡ BuiltInType DateRow = type-same ty (BuiltInType DateRow) date in
     true≢false (sym (subst (λ t. IsTrue (accepted_moment t)) is moment))
 
--- what is accepted is a type of dates, or of moments
+-- what is accepted is a type of dates, or of timestamps
 pub row_accepted : (x y : Bool) → IsTrue (x && y) → IsTrue x
 row_accepted x y h = (and_parts x y h).0
 

@@ -43,7 +43,8 @@ pub trait Paired<'a>: FromSql<'a> + ToSql {
         → IsLawful Self.same (Self.reads ty) (Self.wire ty) (back ty) };
 }
 
-/// A type whose values, where they come from a date or a moment, are never written as an infinity.
+/// A type whose values, where they come from a date or a timestamp, are never written as an
+/// infinity.
 ///
 /// It has no function of its own. `Date<T>` and `Timestamp<T>` are [`Paired`] over such a `T`.
 pub trait Finite<'a>: Paired<'a> {

@@ -1,4 +1,5 @@
-//! Types, kinds, fields and faults: their tables, texts and laws; and that a row that does not hold fails.
+//! Types, kinds, fields and faults: their tables, texts and laws; and that a row that does not hold
+//! fails.
 #![tactic(auto)]
 
 #[cfg(test)]

@@ -17,7 +17,7 @@ pub fn same_cidr(a: &IpCidr, b: &IpCidr) -> bool
     *a == *b
 }
 
-/// Whether two hardware addresses are equal: of the same bytes.
+/// Whether two MAC addresses are equal: of the same bytes.
 pub fn same_mac_address(a: &MacAddress, b: &MacAddress) -> bool
     ensures { IsTrue result ↔ (a.now ≡ b.now) }
 {

@@ -28,14 +28,14 @@ impl<'a> Model for ArrayCells<'a> {
     ghost view = { λ c. record { left = c.left; bytes = c.bytes.now } };
 }
 
-/// Reads the head of an array (`array_recv`): in 4 bytes each, highest first, the number of
+/// Reads the head of an array (`array_recv`): in 4 bytes each, big-endian, the number of
 /// dimensions, the flags, the OID of the elements' type, and for each dimension its length and its
-/// lower bound; the framed elements come behind it. Without a dimension there are no elements.
+/// lower bound; the framed elements come after it. Without a dimension there are no elements.
 ///
-/// The checks are made in this order: a cut number of dimensions is `Size`, a negative one `Count`,
-/// cut flags or a cut OID `Size`, more than 1 dimension `Dimensions`, a cut dimension `Size`, and a
-/// negative length `Count`. The flags, the OID and the lower bound are not looked at. It takes no
-/// memory.
+/// The checks are made in this order: a truncated number of dimensions is `Size`, a negative one
+/// `Count`, truncated flags or a truncated OID `Size`, more than 1 dimension `Dimensions`, a
+/// truncated dimension `Size`, and a negative length `Count`. The flags, the OID and the lower
+/// bound are not looked at. It takes no memory.
 pub fn array_from_sql(_alloc: Global, raw: &[u8]) -> Result<ArrayCells<'_>, Fault>
     ensures outcome { Answers (Decodes SpellsHead (λ b. first_fault_of (head_checks b)) raw.now) result }
     ensures never_memory { NeverMemory result }
@@ -54,7 +54,7 @@ pub fn array_from_sql(_alloc: Global, raw: &[u8]) -> Result<ArrayCells<'_>, Faul
     split_dimension(bytes)
 }
 
-/// The cells behind the one dimension in front.
+/// The cells after the one dimension in front.
 fn split_dimension(bytes: &[u8]) -> Result<ArrayCells<'_>, Fault>
     ensures outcome { Answers (Decodes (SpellsDimensions (suc zero)) (λ s. first_fault_of (dimension_checks (suc zero) s)) bytes.now) result }
     ensures never_memory { NeverMemory result }
@@ -68,10 +68,10 @@ fn split_dimension(bytes: &[u8]) -> Result<ArrayCells<'_>, Fault>
 }
 
 impl<'a> ArrayCells<'a> {
-    /// The next cell: its length in 4 bytes, highest first, every negative one NULL, and that many
-    /// bytes. Where the length or a part of the bytes is cut it answers `Size`, and so it does
-    /// where bytes are left after the last cell. After a fault, and after the last cell, it answers
-    /// `None`, for good. It takes no memory.
+    /// The next cell: its length in 4 bytes, big-endian, every negative one NULL, and that many
+    /// bytes. Where the length or a part of the bytes is truncated it answers `Size`, and so it
+    /// does where bytes are left after the last cell. After a fault, and after the last cell, it
+    /// answers `None`, for good. It takes no memory.
     pub fn next(&mut self) -> Option<Result<Option<&'a [u8]>, Fault>>
         ensures { TakesElement self.old result self.new }
     {
@@ -100,8 +100,8 @@ impl<'a> ArrayCells<'a> {
 /// The bytes in front of the cells' frames.
 const HEAD_LEN: usize = 20;
 
-/// Appends an array of one dimension (`array_send`): in 4 bytes each, highest first, the number 1
-/// of dimensions, the flags, which are 1 where a cell is NULL and else 0, the OID of the members'
+/// Appends an array of one dimension (`array_send`): in 4 bytes each, big-endian, the number 1
+/// of dimensions, the flags, which are 1 where a cell is NULL and else 0, the OID of the elements'
 /// type, the number of cells, and the lower bound; and then the frames of the cells, in the order
 /// of the list. Where the number of cells or the length of a cell passes 2,147,483,647 it answers
 /// `Transmit`. A refusal, `Memory` too, leaves the buffer's bytes as they were.
@@ -171,7 +171,7 @@ fn extend_by_frames(cells: &[Option<Vec<u8>>], out: &mut BytesMut)
     }
 }
 
-/// The bytes of the cell, lent.
+/// The bytes of the cell, borrowed.
 fn bytes_of(cell: &Option<Vec<u8>>) -> Option<&[u8]>
     ensures { cell_of result ≡ owned_cell cell.now }
 {

@@ -37,8 +37,8 @@ impl<'a> Varbit<'a> {
     }
 }
 
-/// Reads BIT and VARBIT: the number of bits in 4 bytes, highest first, and as many bytes as they
-/// take, the first bit on top of the first byte (`bit_recv`, `varbit_recv`). A number that is cut
+/// Reads BIT and VARBIT: the number of bits in 4 bytes, big-endian, and as many bytes as they take,
+/// the first bit on top of the first byte (`bit_recv`, `varbit_recv`). A number that is truncated
 /// is `Size`, a negative one `Count`, and any other number of bytes `Size`. What pads the last byte
 /// is ignored.
 pub fn varbit_from_sql(raw: &[u8]) -> Result<Varbit<'_>, Fault>
@@ -53,7 +53,7 @@ pub fn varbit_from_sql(raw: &[u8]) -> Result<Varbit<'_>, Fault>
     Ok(Varbit { len, bytes })
 }
 
-/// Appends BIT and VARBIT: the number of bits in 4 bytes, highest first, and the bytes, of which
+/// Appends BIT and VARBIT: the number of bits in 4 bytes, big-endian, and the bytes, of which
 /// there must be as many as the bits take (`bit_send`, `varbit_send`). What pads the last byte is
 /// written 0. More than 2,147,483,647 bits are `Transmit`.
 pub fn varbit_to_sql(

@@ -12,7 +12,7 @@ use crate::fault::Fault;
 use bytes::BytesMut;
 use std::alloc::Global;
 
-/// Reads DATE: the days from 2000-01-01, in 4 bytes, highest first, in two's complement
+/// Reads DATE: the days from 2000-01-01, in 4 bytes, big-endian, in two's complement
 /// (`date_recv`). Any other length is `Size`; every count is a value, the two that PostgreSQL takes
 /// for infinities included.
 pub fn date_from_sql(raw: &[u8]) -> Result<i32, Fault>
@@ -22,7 +22,7 @@ pub fn date_from_sql(raw: &[u8]) -> Result<i32, Fault>
     int4_from_sql(raw)
 }
 
-/// Appends DATE: the days from 2000-01-01, in 4 bytes, highest first, in two's complement
+/// Appends DATE: the days from 2000-01-01, in 4 bytes, big-endian, in two's complement
 /// (`date_send`).
 pub fn date_to_sql(alloc: Global, v: i32, out: &mut BytesMut) -> Result<(), Fault>
     ensures { Appends (Some (be w32 v)) out.old out.new result }
@@ -30,7 +30,7 @@ pub fn date_to_sql(alloc: Global, v: i32, out: &mut BytesMut) -> Result<(), Faul
     int4_to_sql(alloc, v, out)
 }
 
-/// Reads TIME: the microseconds from midnight, in 8 bytes, highest first, in two's complement
+/// Reads TIME: the microseconds from midnight, in 8 bytes, big-endian, in two's complement
 /// (`time_recv`). Any other length is `Size`; every count is a value, whether a day has it or not.
 pub fn time_from_sql(raw: &[u8]) -> Result<i64, Fault>
     ensures outcome { Answers (Decodes (FormSigned w64) (first_fault_number 8) raw.now) result }
@@ -39,7 +39,7 @@ pub fn time_from_sql(raw: &[u8]) -> Result<i64, Fault>
     int8_from_sql(raw)
 }
 
-/// Appends TIME: the microseconds from midnight, in 8 bytes, highest first, in two's complement
+/// Appends TIME: the microseconds from midnight, in 8 bytes, big-endian, in two's complement
 /// (`time_send`).
 pub fn time_to_sql(alloc: Global, v: i64, out: &mut BytesMut) -> Result<(), Fault>
     ensures { Appends (Some (be w64 v)) out.old out.new result }

@@ -1,4 +1,4 @@
-//! A number of 4 bytes in front of others, as counts and lengths stand, and the cells behind
+//! A number of 4 bytes in front of others, as counts and lengths stand, and the cells after
 //! lengths.
 ghost use Rattle.std.specs.Prelude.{◌∷◌, []};
 ghost use Rattle.std.specs.Int.{w32};

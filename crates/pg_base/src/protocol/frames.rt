@@ -10,7 +10,7 @@ use std::alloc::Global;
 /// The greatest length and the greatest count that a cell states: that of an `i32`.
 pub const MAX_LEN: usize = 2_147_483_647;
 
-/// Appends the frame of a cell, of which `None` is NULL: its length in 4 bytes, highest first, and
+/// Appends the frame of a cell, of which `None` is NULL: its length in 4 bytes, big-endian, and
 /// its bytes; for NULL the length -1. A cell of more than 2,147,483,647 bytes is `Transmit`.
 pub fn frame_to_sql(_alloc: Global, cell: Option<&[u8]>, out: &mut BytesMut) -> Result<(), Fault>
     ensures { Appends (frame (cell_of cell.entry)) out.old out.new result }

@@ -32,8 +32,8 @@ impl<'a> Model for HstoreEntries<'a> {
     ghost view = { λ e. record { left = e.left; bytes = e.bytes.now } };
 }
 
-/// Reads the count of an hstore (`hstore_recv`): 4 bytes, highest first, and the entries come
-/// behind it. Where it is cut it answers `Size`, and where it is negative `Count`. It takes no
+/// Reads the count of an hstore (`hstore_recv`): 4 bytes, big-endian, and the entries come
+/// after it. Where it is truncated it answers `Size`, and where it is negative `Count`. It takes no
 /// memory.
 pub fn hstore_from_sql(_alloc: Global, raw: &[u8]) -> Result<HstoreEntries<'_>, Fault>
     ensures outcome { Answers (Decodes SpellsCount (λ b. first_fault_of (count_checks b)) raw.now) result }
@@ -44,9 +44,9 @@ pub fn hstore_from_sql(_alloc: Global, raw: &[u8]) -> Result<HstoreEntries<'_>, 
 }
 
 impl<'a> HstoreEntries<'a> {
-    /// The next entry: the length of its key in 4 bytes, highest first, and the key, and likewise
-    /// its value, of which every negative length is NULL. Where the next entry is damaged it
-    /// answers a fault: `Size` where a part is cut, `KeyLength` where the key's length is negative,
+    /// The next entry: the length of its key in 4 bytes, big-endian, and the key, and likewise its
+    /// value, of which every negative length is NULL. Where the next entry is damaged it answers a
+    /// fault: `Size` where a part is truncated, `KeyLength` where the key's length is negative,
     /// `Utf8` where a text is not UTF-8. Where bytes are left after the last entry it answers
     /// `Size`. After a fault, and after the last entry, it answers `None`, for good. It takes no
     /// memory.
@@ -100,7 +100,7 @@ fn split_text(bytes: &[u8]) -> Result<(Option<&str>, &[u8]), Fault>
     Ok((Some(text_from_sql(text)?), bytes))
 }
 
-/// Appends an hstore (`hstore_send`): the number of its entries in 4 bytes, highest first, and for
+/// Appends an hstore (`hstore_send`): the number of its entries in 4 bytes, big-endian, and for
 /// each entry, in the order of the list, the frame of its key and the frame of its value, which for
 /// NULL is the length -1. Where the number of entries, a key or a value passes 2,147,483,647 it
 /// answers `Transmit`.

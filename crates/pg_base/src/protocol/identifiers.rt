@@ -1,4 +1,4 @@
-//! Identifiers: hardware addresses and UUIDs.
+//! Identifiers: MAC addresses and UUIDs.
 ghost use Rattle.std.specs.Prelude.{Some};
 ghost use Rattle.pg_base.specs.Appending.{Appends};
 ghost use Rattle.pg_types.specs.Faults.{Answers, NeverMemory};

@@ -10,7 +10,7 @@ use crate::fault::Fault;
 use bytes::{BufMut, BytesMut};
 use std::alloc::Global;
 
-/// Reads PG_LSN: 8 bytes, unsigned, highest first (`pg_lsn_recv`). Any other length is `Size`.
+/// Reads PG_LSN: 8 bytes, unsigned, big-endian (`pg_lsn_recv`). Any other length is `Size`.
 pub fn lsn_from_sql(raw: &[u8]) -> Result<u64, Fault>
     ensures outcome { Answers (Decodes (FormUnsigned w64) (first_fault_number 8) raw.now) result }
     ensures never_memory { NeverMemory result }
@@ -21,7 +21,7 @@ pub fn lsn_from_sql(raw: &[u8]) -> Result<u64, Fault>
     }
 }
 
-/// Appends PG_LSN: 8 bytes, unsigned, highest first (`pg_lsn_send`).
+/// Appends PG_LSN: 8 bytes, unsigned, big-endian (`pg_lsn_send`).
 pub fn lsn_to_sql(_alloc: Global, v: u64, out: &mut BytesMut) -> Result<(), Fault>
     ensures { Appends (Some (to_be_bytes w64 v)) out.old out.new result }
 {

@@ -1,4 +1,4 @@
-//! Moments, counted in microseconds from 2000-01-01 00:00:00.
+//! Timestamps, counted in microseconds from 2000-01-01 00:00:00.
 ghost use Rattle.std.specs.Prelude.{Some};
 ghost use Rattle.std.specs.Int.{w64};
 ghost use Rattle.pg_base.specs.Appending.{Appends};
@@ -13,7 +13,7 @@ use bytes::BytesMut;
 use std::alloc::Global;
 
 /// Reads TIMESTAMP and TIMESTAMPTZ: the microseconds from 2000-01-01 00:00:00, UTC for the latter,
-/// in 8 bytes, highest first, in two's complement (`timestamp_recv`, `timestamptz_recv`). Any other
+/// in 8 bytes, big-endian, in two's complement (`timestamp_recv`, `timestamptz_recv`). Any other
 /// length is `Size`; every count is a value, the two that PostgreSQL takes for infinities included.
 pub fn timestamp_from_sql(raw: &[u8]) -> Result<i64, Fault>
     ensures outcome { Answers (Decodes (FormSigned w64) (first_fault_number 8) raw.now) result }
@@ -23,7 +23,7 @@ pub fn timestamp_from_sql(raw: &[u8]) -> Result<i64, Fault>
 }
 
 /// Appends TIMESTAMP and TIMESTAMPTZ: the microseconds from 2000-01-01 00:00:00, UTC for the
-/// latter, in 8 bytes, highest first, in two's complement (`timestamp_send`, `timestamptz_send`).
+/// latter, in 8 bytes, big-endian, in two's complement (`timestamp_send`, `timestamptz_send`).
 pub fn timestamp_to_sql(alloc: Global, v: i64, out: &mut BytesMut) -> Result<(), Fault>
     ensures { Appends (Some (be w64 v)) out.old out.new result }
 {

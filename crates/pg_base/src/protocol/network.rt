@@ -56,7 +56,7 @@ impl Inet {
 /// flag of any value, the number of octets, and the octets, 4 or 16 (`inet_recv`, `cidr_recv`).
 /// Fewer than 4 bytes are `Size`; then another family is `Family`, a netmask of more than 32 or 128
 /// bits `Netmask`, another number of octets than the family's `AddressLength`, and octets of
-/// another length than that `Size`. Bits behind the netmask are not looked at.
+/// another length than that `Size`. Bits after the netmask are not looked at.
 pub fn inet_from_sql(raw: &[u8]) -> Result<Inet, Fault>
     ensures outcome { Answers (Decodes FormInet first_fault_inet raw.now) result }
     ensures never_memory { NeverMemory result }

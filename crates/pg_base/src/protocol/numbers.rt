@@ -1,4 +1,4 @@
-//! Whole numbers and truth values. Numbers lie highest byte first, signed ones in two's complement.
+//! Integers and booleans. Numbers lie big-endian, signed ones in two's complement.
 ghost use Rattle.std.specs.Prelude.{Some, ◌∷◌, [], if◌then◌else◌};
 ghost use Rattle.std.specs.Int.{w8, w16, w32, w64, to_be_bytes};
 ghost use Rattle.pg_base.specs.Cells.{be};
@@ -50,7 +50,7 @@ pub fn char_to_sql(_alloc: Global, v: i8, out: &mut BytesMut) -> Result<(), Faul
     Ok(())
 }
 
-/// Reads INT2: 2 bytes, highest first, in two's complement (`int2recv`). Any other length is
+/// Reads INT2: 2 bytes, big-endian, in two's complement (`int2recv`). Any other length is
 /// `Size`.
 pub fn int2_from_sql(raw: &[u8]) -> Result<i16, Fault>
     ensures outcome { Answers (Decodes (FormSigned w16) (first_fault_number 2) raw.now) result }
@@ -62,7 +62,7 @@ pub fn int2_from_sql(raw: &[u8]) -> Result<i16, Fault>
     }
 }
 
-/// Appends INT2: 2 bytes, highest first, in two's complement (`int2send`).
+/// Appends INT2: 2 bytes, big-endian, in two's complement (`int2send`).
 pub fn int2_to_sql(_alloc: Global, v: i16, out: &mut BytesMut) -> Result<(), Fault>
     ensures { Appends (Some (be w16 v)) out.old out.new result }
 {
@@ -70,7 +70,7 @@ pub fn int2_to_sql(_alloc: Global, v: i16, out: &mut BytesMut) -> Result<(), Fau
     Ok(())
 }
 
-/// Reads INT4: 4 bytes, highest first, in two's complement (`int4recv`). Any other length is
+/// Reads INT4: 4 bytes, big-endian, in two's complement (`int4recv`). Any other length is
 /// `Size`.
 pub fn int4_from_sql(raw: &[u8]) -> Result<i32, Fault>
     ensures outcome { Answers (Decodes (FormSigned w32) (first_fault_number 4) raw.now) result }
@@ -82,7 +82,7 @@ pub fn int4_from_sql(raw: &[u8]) -> Result<i32, Fault>
     }
 }
 
-/// Appends INT4: 4 bytes, highest first, in two's complement (`int4send`).
+/// Appends INT4: 4 bytes, big-endian, in two's complement (`int4send`).
 pub fn int4_to_sql(_alloc: Global, v: i32, out: &mut BytesMut) -> Result<(), Fault>
     ensures { Appends (Some (be w32 v)) out.old out.new result }
 {
@@ -90,7 +90,7 @@ pub fn int4_to_sql(_alloc: Global, v: i32, out: &mut BytesMut) -> Result<(), Fau
     Ok(())
 }
 
-/// Reads INT8: 8 bytes, highest first, in two's complement (`int8recv`). Any other length is
+/// Reads INT8: 8 bytes, big-endian, in two's complement (`int8recv`). Any other length is
 /// `Size`.
 pub fn int8_from_sql(raw: &[u8]) -> Result<i64, Fault>
     ensures outcome { Answers (Decodes (FormSigned w64) (first_fault_number 8) raw.now) result }
@@ -102,7 +102,7 @@ pub fn int8_from_sql(raw: &[u8]) -> Result<i64, Fault>
     }
 }
 
-/// Appends INT8: 8 bytes, highest first, in two's complement (`int8send`).
+/// Appends INT8: 8 bytes, big-endian, in two's complement (`int8send`).
 pub fn int8_to_sql(_alloc: Global, v: i64, out: &mut BytesMut) -> Result<(), Fault>
     ensures { Appends (Some (be w64 v)) out.old out.new result }
 {
@@ -110,7 +110,7 @@ pub fn int8_to_sql(_alloc: Global, v: i64, out: &mut BytesMut) -> Result<(), Fau
     Ok(())
 }
 
-/// Reads OID: 4 bytes, unsigned, highest first (`oidrecv`). Any other length is `Size`.
+/// Reads OID: 4 bytes, unsigned, big-endian (`oidrecv`). Any other length is `Size`.
 pub fn oid_from_sql(raw: &[u8]) -> Result<u32, Fault>
     ensures outcome { Answers (Decodes (FormUnsigned w32) (first_fault_number 4) raw.now) result }
     ensures never_memory { NeverMemory result }
@@ -121,7 +121,7 @@ pub fn oid_from_sql(raw: &[u8]) -> Result<u32, Fault>
     }
 }
 
-/// Appends OID: 4 bytes, unsigned, highest first (`oidsend`).
+/// Appends OID: 4 bytes, unsigned, big-endian (`oidsend`).
 pub fn oid_to_sql(_alloc: Global, v: u32, out: &mut BytesMut) -> Result<(), Fault>
     ensures { Appends (Some (to_be_bytes w32 v)) out.old out.new result }
 {

@@ -32,8 +32,8 @@ pub fn text_to_sql(_alloc: Global, v: &str, out: &mut BytesMut) -> Result<(), Fa
 /// The first byte of the cells that have a version.
 const VERSION: u8 = 1;
 
-/// Reads a text behind the version 1. Another first byte, or none, is `TextVersion`; what is not
-/// UTF-8 behind it is `Utf8`.
+/// Reads a text after the version 1. Another first byte, or none, is `TextVersion`; what is not
+/// UTF-8 after it is `Utf8`.
 fn versioned_from_sql(raw: &[u8]) -> Result<&str, Fault>
     ensures outcome { Answers (Decodes (FormText (λ text. text.now) true) (first_fault_text true) raw.now) result }
     ensures never_memory { NeverMemory result }
@@ -55,7 +55,7 @@ fn versioned_to_sql(v: &str, out: &mut BytesMut) -> Result<(), Fault>
 }
 
 /// Reads ltree: the version 1 and the text (`ltree_recv`). Another first byte, or none, is
-/// `TextVersion`; what is not UTF-8 behind it is `Utf8`.
+/// `TextVersion`; what is not UTF-8 after it is `Utf8`.
 pub fn ltree_from_sql(raw: &[u8]) -> Result<&str, Fault>
     ensures outcome { Answers (Decodes (FormText (λ text. text.now) true) (first_fault_text true) raw.now) result }
     ensures never_memory { NeverMemory result }
@@ -71,7 +71,7 @@ pub fn ltree_to_sql(_alloc: Global, v: &str, out: &mut BytesMut) -> Result<(), F
 }
 
 /// Reads lquery: the version 1 and the text (`lquery_recv`). Another first byte, or none, is
-/// `TextVersion`; what is not UTF-8 behind it is `Utf8`.
+/// `TextVersion`; what is not UTF-8 after it is `Utf8`.
 pub fn lquery_from_sql(raw: &[u8]) -> Result<&str, Fault>
     ensures outcome { Answers (Decodes (FormText (λ text. text.now) true) (first_fault_text true) raw.now) result }
     ensures never_memory { NeverMemory result }
@@ -86,8 +86,8 @@ pub fn lquery_to_sql(_alloc: Global, v: &str, out: &mut BytesMut) -> Result<(), 
     versioned_to_sql(v, out)
 }
 
-/// Reads ltxtquery: the version 1 and the text (`ltxtquery_recv`). Another first byte, or none, is
-/// `TextVersion`; what is not UTF-8 behind it is `Utf8`.
+/// Reads ltxtquery: the version 1 and the text (`ltxtq_recv`). Another first byte, or none, is
+/// `TextVersion`; what is not UTF-8 after it is `Utf8`.
 pub fn ltxtquery_from_sql(raw: &[u8]) -> Result<&str, Fault>
     ensures outcome { Answers (Decodes (FormText (λ text. text.now) true) (first_fault_text true) raw.now) result }
     ensures never_memory { NeverMemory result }
@@ -95,7 +95,7 @@ pub fn ltxtquery_from_sql(raw: &[u8]) -> Result<&str, Fault>
     versioned_from_sql(raw)
 }
 
-/// Appends ltxtquery: the version 1 and the text (`ltxtquery_send`).
+/// Appends ltxtquery: the version 1 and the text (`ltxtq_send`).
 pub fn ltxtquery_to_sql(_alloc: Global, v: &str, out: &mut BytesMut) -> Result<(), Fault>
     ensures { Appends (Some (1 ∷ v.now)) out.old out.new result }
 {

@@ -1,5 +1,5 @@
-//! What equality of dates and of moments with infinities means, each as a call whose contract says
-//! it.
+//! What equality of dates and of timestamps with infinities means, each as a call whose contract
+//! says it.
 ghost use Rattle.std.specs.Prelude.{◌↔◌, IsTrue};
 ghost use Rattle.pg_base.specs.Special.{SameSpecial, date_seen, timestamp_seen};
 
@@ -12,7 +12,7 @@ pub fn same_date<T: PartialEq>(a: &Date<T>, b: &Date<T>) -> bool
     *a == *b
 }
 
-/// Whether two moments are equal: the same infinity, or equal values.
+/// Whether two timestamps are equal: the same infinity, or equal values.
 pub fn same_timestamp<T: PartialEq>(a: &Timestamp<T>, b: &Timestamp<T>) -> bool
     ensures { IsTrue result ↔ SameSpecial (λ v w. IsTrue (T.eq v w)) (timestamp_seen a.now) (timestamp_seen b.now) }
 {

@@ -1,4 +1,4 @@
-//! Reading moments with infinities.
+//! Reading timestamps with infinities.
 ghost use Rattle.std.specs.Prelude.{Some};
 ghost use Rattle.std.specs.Int.{w64};
 ghost use Rattle.pg_base.specs.Special.{FreeSpecial, ReadsSpecial, SameSpecial, accepted_timestamp, timestamp_seen};

@@ -237,7 +237,7 @@ impl BuiltIn {
         }
     }
 
-    // The member of an array type.
+    // The element type of an array type.
     pub(super) fn member(self) -> Option<BuiltIn>
         ensures { result ≡ row_member self }
     {

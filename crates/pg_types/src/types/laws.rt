@@ -79,8 +79,8 @@ pub fn kind_refs_hash_alike(v: &KindRef<'_>, w: &KindRef<'_>) -> bool
     hash_of(v) == hash_of(w)
 }
 
-/// The constants of the types that are no arrays, in the order of their OIDs: each is the row of its
-/// name.
+/// The constants of the types that are no arrays, in the order of their OIDs: each is the row of
+/// its name.
 pub fn base_types() -> [PgType; 25]
     ensures { map content result ≡ map BuiltInType base_rows }
 {

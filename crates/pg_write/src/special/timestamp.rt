@@ -1,4 +1,4 @@
-//! Writing moments with infinities.
+//! Writing timestamps with infinities.
 ghost use Rattle.std.specs.Prelude.{true, codes, refl};
 ghost use Rattle.std.specs.Int.{w64};
 ghost use Rattle.pg_types.specs.declared.format.Format.TheVariants.{Binary};

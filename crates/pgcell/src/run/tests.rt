@@ -342,8 +342,8 @@ struct Refusals {
     between: u32,
 }
 
-/// Answers two lines while less and less memory is refused, until a run has what it needs. A run that
-/// is refused memory writes no answer, or the whole answer to the first line.
+/// Answers two lines while less and less memory is refused, until a run has what it needs. A run
+/// that is refused memory writes no answer, or the whole answer to the first line.
 fn run_while_refused(
     alloc: Global,
     text: &[u8],

@@ -1,4 +1,5 @@
-//! Dates are read back as themselves, and times and the moments of `jiff` cut to microseconds.
+//! Dates are read back as themselves, and times and the timestamps of `jiff` truncated to
+//! microseconds.
 ghost use Rattle.std.specs.Prelude.{◌≡◌, refl};
 ghost use Rattle.std.specs.Int.{w32, w64};
 ghost use Rattle.jiff.specs.Words.{civil_nanos, epoch_day};
@@ -27,7 +28,7 @@ impl<'a> Finite<'a> for Date {
     ghost moments = { λ _ _ _. date_finite w64 };
 }
 
-/// A time is read back cut to whole microseconds, toward midnight.
+/// A time is read back truncated to whole microseconds, toward midnight.
 impl<'a> Paired<'a> for Time {
     ghost back = { λ _. BackKept KeptMicrosOfDay };
 
@@ -36,8 +37,8 @@ impl<'a> Paired<'a> for Time {
     ghost lawful = { λ _ _. time_lawful };
 }
 
-/// A civil datetime is read back cut to whole microseconds, toward 2000-01-01 00:00:00 on both
-/// sides.
+/// A civil datetime is read back truncated to whole microseconds, toward 2000-01-01 00:00:00 on
+/// both sides.
 impl<'a> Paired<'a> for DateTime {
     ghost back = { λ _. BackKept (KeptMicros civil_nanos) };
 
@@ -53,7 +54,8 @@ impl<'a> Finite<'a> for DateTime {
     ghost moments = { λ _ _ _. datetime_finite w64 };
 }
 
-/// An instant is read back cut to whole microseconds, toward 2000-01-01 00:00:00 UTC on both sides.
+/// An instant is read back truncated to whole microseconds, toward 2000-01-01 00:00:00 UTC on both
+/// sides.
 impl<'a> Paired<'a> for Timestamp {
     ghost back = { λ _. BackKept (KeptMicros instant_nanos) };
 

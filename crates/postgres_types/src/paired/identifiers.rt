@@ -1,4 +1,4 @@
-//! Hardware addresses and UUIDs are read back as themselves.
+//! MAC addresses and UUIDs are read back as themselves.
 ghost use Rattle.std.specs.Prelude.{◌≡◌, refl};
 ghost use Rattle.postgres_types.specs.FormatBackLaws.{identifier_lawful};
 ghost use Rattle.postgres_types.specs.ReadingBack.{BackKept};
@@ -7,7 +7,7 @@ use crate::paired::Paired;
 use pg_base::network::MacAddress;
 use uuid::Uuid;
 
-/// A hardware address is read back as itself.
+/// A MAC address is read back as itself.
 impl<'a> Paired<'a> for MacAddress {
     ghost back = { λ _. BackKept (λ v w. v ≡ w) };
 

@@ -1,4 +1,4 @@
-//! Moments are read back cut to microseconds.
+//! Timestamps are read back truncated to microseconds.
 ghost use Rattle.std.specs.Prelude.{refl};
 ghost use Rattle.std.specs.Int.{w32, w64};
 ghost use Rattle.pg_base.specs.Moments.{nanos_of};
@@ -9,7 +9,8 @@ ghost use Rattle.postgres_types.specs.ReadingBack.{BackKept};
 use crate::paired::{Finite, Paired};
 use pg_base::unix_time::UnixTime;
 
-/// A moment is read back cut to whole microseconds, toward 2000-01-01 00:00:00 UTC on both sides.
+/// A timestamp is read back truncated to whole microseconds, toward 2000-01-01 00:00:00 UTC on both
+/// sides.
 impl<'a> Paired<'a> for UnixTime {
     ghost back = { λ _. BackKept (KeptMicros nanos_of) };
 

@@ -1,4 +1,4 @@
-//! Whole numbers and truth values are read back as themselves.
+//! Integers and booleans are read back as themselves.
 ghost use Rattle.std.specs.Prelude.{◌≡◌, refl};
 ghost use Rattle.std.specs.Int.{w8, w16, w32, w64};
 ghost use Rattle.pg_base.proofs.FormatLaws.{char_grammar, int2_grammar, int4_grammar, int8_grammar, oid_grammar};
@@ -7,7 +7,7 @@ ghost use Rattle.postgres_types.specs.ReadingBack.{BackKept};
 
 use crate::paired::Paired;
 
-/// A truth value is read back as itself.
+/// A boolean is read back as itself.
 impl<'a> Paired<'a> for bool {
     ghost back = { λ _. BackKept (λ v w. v ≡ w) };
 

@@ -1,4 +1,4 @@
-//! Reading dates and moments with infinities back.
+//! Reading dates and timestamps with infinities back.
 ghost use Rattle.std.specs.Prelude.{◌&&◌};
 ghost use Rattle.std.proofs.Common.{ap};
 ghost use Rattle.std.specs.Int.{w32, w64};

@@ -50,22 +50,21 @@ fn views_of_cells_have_debug_texts(rt: HostRuntime) -> Result<(), Fail> {
 #[test]
 fn types_have_debug_texts(rt: HostRuntime) -> Result<(), Fail> {
     let alloc = rt.alloc();
-    debugs(alloc, &Type::BOOL, "PgType { inner: BuiltIn(Bool) }")?;
+    debugs(alloc, &Type::BOOL, "Bool")?;
     let mood = simple_type(alloc, "mood", 99_000, "app")?;
-    let text = "PgType { inner: Made(Made { \
-        name: \"mood\", oid: 99000, kind: Simple, schema: \"app\" }) }";
+    let text = "Other(Other { name: \"mood\", oid: 99000, kind: Simple, schema: \"app\" })";
     debugs(alloc, &mood, text)?;
     let array = Kind::Array(Type::TEXT);
-    debugs(alloc, &array, "Array(PgType { inner: BuiltIn(Text) })")
+    debugs(alloc, &array, "Array(Text)")
 }
 
 #[test]
 fn what_holds_a_type_has_a_debug_text(rt: HostRuntime) -> Result<(), Fail> {
     let alloc = rt.alloc();
     let field = Field::new(String::from_str(alloc, "price")?, Type::INT8);
-    let text = "Field { name: \"price\", type_: PgType { inner: BuiltIn(Int8) } }";
+    let text = "Field { name: \"price\", type_: Int8 }";
     debugs(alloc, &field, text)?;
     let wrong = WrongType::new(Type::TEXT, "i32");
-    let text = "WrongType { postgres: PgType { inner: BuiltIn(Text) }, rust: \"i32\" }";
+    let text = "WrongType { postgres: Text, rust: \"i32\" }";
     debugs(alloc, &wrong, text)
 }

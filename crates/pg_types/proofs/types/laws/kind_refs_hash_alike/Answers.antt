@@ -1,5 +1,5 @@
 -- Views of one kind are hashed alike.
-use Rattle.std.proofs.Common.{◌≡◌, ◌∙◌, ap, sym}
+use Rattle.std.proofs.Common.{◌∙◌, ap, sym}
 use Rattle.std.proofs.lemmas.Bool.{eq-eqb}
 use Rattle.pg_types.specs.Digest.{digest}
 use Rattle.pg_types.proofs.DerivedTypes.{hash_from_same_seen}
