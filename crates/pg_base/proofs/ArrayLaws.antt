@@ -9,19 +9,19 @@ use Rattle.pg_base.specs.Arrays.{SpellsDimensions, SpellsHead, ArrayBody, dimens
 use Rattle.pg_base.proofs.CellLaws.{cells_single}
 use Rattle.pg_base.specs.Cells.{Cell, CellsInRow}
 use Rattle.pg_base.proofs.CountLaws.{number_then}
-use Rattle.pg_base.specs.Counts.{IsCount, ToRead, number_in, stated}
+use Rattle.pg_base.specs.Counts.{IsCount, ToRead, number_in, count_or_zero}
 use Rattle.pg_base.proofs.FormatLaws.{be-length}
 use Rattle.pg_types.specs.Faults.{Refusal}
 use Rattle.pg_base.specs.Formats.{first_fault_of}
 
 -- what is to be read after so many dimensions
-abbrev behind_dimensions : ℕ → List ℕ → ToRead
-behind_dimensions zero s = record { left = 0; bytes = s }
-behind_dimensions (suc d) s = record { left = stated (number_in s); bytes = drop 4 (drop 4 s) }
+abbrev after_dimensions : ℕ → List ℕ → ToRead
+after_dimensions zero s = record { left = 0; bytes = s }
+after_dimensions (suc d) s = record { left = count_or_zero (number_in s); bytes = drop 4 (drop 4 s) }
 
 -- and after the head
-abbrev behind_head : List ℕ → ToRead
-behind_head b = behind_dimensions (stated (number_in b)) (drop 8 (drop 4 b))
+abbrev after_head : List ℕ → ToRead
+after_head b = after_dimensions (count_or_zero (number_in b)) (drop 8 (drop 4 b))
 
 drop_part : (k : ℕ) (x s : List ℕ) → length x ≡ k → drop k (x ++ s) ≡ s
 drop_part k x s e = ap (λ n. drop n (x ++ s)) (sym e) ∙ drop-append_seam x s
@@ -40,7 +40,7 @@ long_enough x s h =
 -- what is known of bytes that begin with dimensions
 record AreDimensions (d : ℕ) (s : List ℕ) (r : ToRead) : Type 0 where
   pub passes : first_fault_of (dimension_checks d s) ≡ None
-  pub behind : behind_dimensions d s ≡ r
+  pub behind : after_dimensions d s ≡ r
 
 dimensions_then : (d : ℕ) (s : List ℕ) (r : ToRead) → SpellsDimensions d s r → AreDimensions d s r
 dimensions_then zero s r p =
@@ -56,7 +56,7 @@ dimensions_then (suc (suc d)) s r p = absurd p
 -- what is known of bytes that begin with a head
 record IsHead (b : List ℕ) (r : ToRead) : Type 0 where
   pub passes : first_fault_of (head_checks b) ≡ None
-  pub behind : behind_head b ≡ r
+  pub behind : after_head b ≡ r
 
 head_then : (b : List ℕ) (r : ToRead) → SpellsHead b r → IsHead b r
 head_then b r p =

@@ -384,5 +384,5 @@ pub byte_within : (n i : ℕ) (v : Vec ℕ Global) → v.items ≡ packed (first
 byte_within n i v e h = omega (arith, tidy_len n v.items e, v.ok.0)
 
 -- the byte after the last bit is one of the bytes, where the last byte is not full
-pub byte_behind : (n : ℕ) (v : Vec ℕ Global) → v.items ≡ packed (first_bits n v.items) → (n % 8 ≡ 0 → ⊥) → n / 8 < vec_len v
-byte_behind n v e h = omega (arith, tidy_len n v.items e, v.ok.0)
+pub trailing_byte : (n : ℕ) (v : Vec ℕ Global) → v.items ≡ packed (first_bits n v.items) → (n % 8 ≡ 0 → ⊥) → n / 8 < vec_len v
+trailing_byte n v e h = omega (arith, tidy_len n v.items e, v.ok.0)

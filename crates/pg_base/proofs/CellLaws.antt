@@ -5,9 +5,9 @@ use Rattle.std.proofs.Math.Dec.{leb-zero}
 use Rattle.std.proofs.Math.Seq.{take-append_seam, drop-append_seam}
 use Rattle.std.proofs.lemmas.Bool.Decides.{nat_tests}
 use Rattle.std.proofs.lemmas.List.{length-append}
-use Rattle.pg_base.specs.Cells.{Cell, Spells, SpellsNone, SpellsAll, CellsInRow, frame, frames, FramesSingle, FramesInFrontSingle}
+use Rattle.pg_base.specs.Cells.{Cell, Spells, SpellsNone, SpellsAll, CellsInRow, frame, frames, FramesSingle, FramePrefixesSingle}
 use Rattle.pg_base.proofs.CountLaws.{IsNumberThen, number_then}
-use Rattle.pg_base.specs.Counts.{has_number, number_in, has_cell, bytes_in, behind_cell, cell_checks}
+use Rattle.pg_base.specs.Counts.{has_number, number_in, has_cell, bytes_in, after_cell, cell_checks}
 use Rattle.pg_types.specs.Faults.{Refusal, size}
 use Rattle.pg_base.specs.Formats.{first_fault_of}
 use Rattle.pg_base.proofs.FrameLaws.{bytes-frame, frame_spells, parts_of}
@@ -31,7 +31,7 @@ pub record IsCellThen (s : List ℕ) (c : Cell) (u : List ℕ) : Type 0 where
   pub whole : has_cell s ≡ true
   pub bytes : bytes_in s ≡ bytes_or_none c
   pub cell : cell_in s ≡ c
-  pub rest : behind_cell s ≡ u
+  pub rest : after_cell s ≡ u
 
 null_then : (s u : List ℕ) (n : ℕ) → IsNumberThen s (negsuc n) u → IsCellThen s None u
 null_then s u n p = record {
@@ -63,11 +63,11 @@ cell_then t u (Some x) p =
     let parts : t ++ u ≡ framed.0 ++ (x ++ u) = ap (λ s. s ++ u) framed.1 ∙ append_assoc framed.0 x u in
     some_then (t ++ u) x u (number_then (t ++ u) framed.0 (x ++ u) (pos (length x)) parts framed.2)
 
--- a cell in front passes the checks
+-- a whole first cell passes the checks
 pub cell_passes : (s u : List ℕ) (c : Cell) → IsCellThen s c u → first_fault_of (cell_checks s) ≡ None
 cell_passes s u c p = rw (p.has, p.whole) refl
 
--- where a check fails, no cell is in front
+-- where a check fails, the first cell is truncated
 pub no_cell : (s : List ℕ) (r : Refusal) → first_fault_of (cell_checks s) ≡ Some r → SpellsNone s
 no_cell s r e t rest c is spells =
     let none : None ≡ Some r = sym (cell_passes (t ++ rest) rest c (cell_then t rest c spells)) ∙ ap (λ x. first_fault_of (cell_checks x)) (sym is) ∙ e in
@@ -78,7 +78,7 @@ pub cell_single : (t u s w : List ℕ) (c d : Cell) → t ++ u ≡ s ++ w → Sp
 cell_single t u s w c d e p q =
     let one = cell_then t u c p in
     let two = cell_then s w d q in
-    (sym one.cell ∙ ap cell_in e ∙ two.cell, sym one.rest ∙ ap behind_cell e ∙ two.rest)
+    (sym one.cell ∙ ap cell_in e ∙ two.cell, sym one.rest ∙ ap after_cell e ∙ two.rest)
 
 -- and with one row of cells
 pub cells_single : (s : List ℕ) (n : ℕ) (cs ds : List Cell) (u w : List ℕ) → CellsInRow s n cs u → CellsInRow s n ds w → (cs ≡ ds) × (u ≡ w)
@@ -117,7 +117,7 @@ frames_single cs ds b e f =
     (cells_single b (length cs + length ds) cs ds [] [] (frames_alone cs b e, omega arith, inr none) (frames_alone ds b f, omega arith, inr none)).0
 
 -- nor, whatever comes after them, of other cells that are as many
-pub frames_in_front_single : FramesInFrontSingle
-frames_in_front_single cs ds a b s t many e f is =
+pub frame_prefixes_single : FramePrefixesSingle
+frame_prefixes_single cs ds a b s t many e f is =
     let other : CellsInRow (a ++ s) (length cs) ds t = (subst (λ x. SpellsAll x ds t) (sym is) (frames_spell ds b t f), omega (arith, many), inl (sym many)) in
     cells_single (a ++ s) (length cs) cs ds s t (frames_in_row cs a s e) other

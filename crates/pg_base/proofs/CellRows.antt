@@ -18,7 +18,7 @@ use Rattle.pg_base.proofs.FrameLaws.{taken}
 abbrev pub AreBytes : List ℕ → Type 0
 AreBytes s = (i : ℕ) → get_or s i 0 < 256
 
--- a cell is in front, or none is
+-- the first cell is whole, or it is truncated
 abbrev Next : List ℕ → Type 0
 Next s = ((t u : List ℕ) × (c : Cell) × (s ≡ t ++ u) × Spells t c) ⊎ SpellsNone s
 
@@ -31,15 +31,15 @@ four_bytes h b l =
     let fits : Fits w32 (from_be_bytes w32 h) = omega (arith, b 0, b 1, b 2, b 3) in
     (to_z w32 (from_be_bytes w32 h), (sfits_to_z fits, sym (be_bytes_4 h (from_be_bytes w32 h) l b refl) ∙ ap (to_be_bytes w32) (sym (of_z-to_z fits))))
 
--- with fewer than four bytes no cell is in front
-cut_length : (s : List ℕ) → length s < 4 → SpellsNone s
-cut_length s h =
+-- with fewer than four bytes the length is truncated
+truncated_length : (s : List ℕ) → length s < 4 → SpellsNone s
+truncated_length s h =
     let cut : has_number s ≡ false = grind (arith, nat_tests) in
     no_cell s size (rw cut refl)
 
--- nor with fewer than stated after its length
-cut_cell : (s h m : List ℕ) (n : ℕ) → s ≡ h ++ m → IsBe w32 h (pos n) → length m < n → SpellsNone s
-cut_cell s h m n e p l =
+-- and with fewer bytes than the length says, the cell is
+truncated_cell : (s h m : List ℕ) (n : ℕ) → s ≡ h ++ m → IsBe w32 h (pos n) → length m < n → SpellsNone s
+truncated_cell s h m n e p l =
     let number = number_then s h m (pos n) e p in
     let cut : nat_le n (length m) ≡ false = grind (arith, nat_tests) in
     no_cell s size (rw (number.has, number.number, number.rest, cut) refl)
@@ -47,15 +47,15 @@ cut_cell s h m n e p l =
 next_at : (s h m : List ℕ) (z : ℤ) → s ≡ h ++ m → IsBe w32 h z → Next s
 next_at s h m (negsuc k) e p = inl (h, m, None, e, (k, p))
 next_at s h m (pos n) e p = elim (less_or_not (length m) n) [
-  | inl q ↦ inr (cut_cell s h m n e p q)
+  | inl q ↦ inr (truncated_cell s h m n e p q)
   | inr q ↦
       let l : length (take n m) ≡ n = simp length-take (omega arith) in
       let t = taken s h m (take n m) (drop n m) (pos n) e p (ap pos (sym l)) (sym (take-append-drop n m)) in
       inl (t.0, drop n m, Some (take n m), t.1, t.2)
 ]
 
-bytes_behind : (s h m : List ℕ) → s ≡ h ++ m → AreBytes s → AreBytes m
-bytes_behind s h m e b i = subst (λ x. x < 256) (ap (λ x. get_or x (length h + i) 0) e ∙ get_or-append-add h m i 0) (b (length h + i))
+trailing_bytes : (s h m : List ℕ) → s ≡ h ++ m → AreBytes s → AreBytes m
+trailing_bytes s h m e b i = subst (λ x. x < 256) (ap (λ x. get_or x (length h + i) 0) e ∙ get_or-append-add h m i 0) (b (length h + i))
 
 bytes_before : (s : List ℕ) (n : ℕ) → AreBytes s → AreBytes (take n s)
 bytes_before s n b i = elim (less_or_not i n) [
@@ -65,7 +65,7 @@ bytes_before s n b i = elim (less_or_not i n) [
 
 next : (s : List ℕ) → AreBytes s → Next s
 next s b = elim (less_or_not (length s) 4) [
-  | inl q ↦ inr (cut_length s q)
+  | inl q ↦ inr (truncated_length s q)
   | inr q ↦
       let f = four_bytes (take 4 s) (bytes_before s 4 b) (simp length-take (omega arith)) in
       next_at s (take 4 s) (drop 4 s) f.0 (sym (take-append-drop 4 s)) f.1
@@ -76,7 +76,7 @@ pub cells_exist : (s : List ℕ) (n : ℕ) → AreBytes s → (cs : List Cell) �
 cells_exist s zero b = ([], s, (refl, omega arith, inl refl))
 cells_exist s (suc n) b = elim (next s b) [
   | inl p ↦
-      let r = cells_exist p.1 n (bytes_behind s p.0 p.1 p.3 b) in
+      let r = cells_exist p.1 n (trailing_bytes s p.0 p.1 p.3 b) in
       (p.2 ∷ r.0, r.1, ((p.0, p.1, p.3, p.4, r.2.0), omega (arith, r.2.1), elim r.2.2 [ inl e ↦ inl (ap suc e) | inr h ↦ inr h ]))
   | inr h ↦ ([], s, (refl, omega arith, inr h))
 ]
@@ -84,13 +84,13 @@ cells_exist s (suc n) b = elim (next s b) [
 -- what stands after a head is bytes
 dimension_bytes : (d : ℕ) (s : List ℕ) (r : ToRead) → SpellsDimensions d s r → AreBytes s → AreBytes r.bytes
 dimension_bytes zero s r p b = subst AreBytes p.1 b
-dimension_bytes (suc zero) s r p b = bytes_behind (p.1 ++ r.bytes) p.1 r.bytes refl (bytes_behind s p.0 (p.1 ++ r.bytes) p.2 b)
+dimension_bytes (suc zero) s r p b = trailing_bytes (p.1 ++ r.bytes) p.1 r.bytes refl (trailing_bytes s p.0 (p.1 ++ r.bytes) p.2 b)
 dimension_bytes (suc (suc d)) s r p b = absurd p
 
 pub head_bytes : (b : List ℕ) (r : ToRead) → SpellsHead b r → AreBytes b → AreBytes r.bytes
-head_bytes b r p h = dimension_bytes p.0 p.3 r p.7 (bytes_behind (p.2 ++ p.3) p.2 p.3 refl (bytes_behind b p.1 (p.2 ++ p.3) p.4 h))
+head_bytes b r p h = dimension_bytes p.0 p.3 r p.7 (trailing_bytes (p.2 ++ p.3) p.2 p.3 refl (trailing_bytes b p.1 (p.2 ++ p.3) p.4 h))
 
 -- and so is what stands after cells
 pub row_bytes : (s u : List ℕ) (cs : List Cell) → SpellsAll s cs u → AreBytes s → AreBytes u
 row_bytes s u [] e b = subst AreBytes e b
-row_bytes s u (c ∷ cs) p b = row_bytes p.1 u cs p.4 (bytes_behind s p.0 p.1 p.2 b)
+row_bytes s u (c ∷ cs) p b = row_bytes p.1 u cs p.4 (trailing_bytes s p.0 p.1 p.2 b)

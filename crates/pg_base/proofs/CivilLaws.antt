@@ -16,7 +16,7 @@ use Rattle.pg_base.specs.Civil.{is_between, first_fault_count, FormCount, CountG
 use Rattle.pg_types.specs.Faults.{Outcome, Answers, refusal_of, decode}
 use Rattle.pg_base.proofs.FormatLaws.{be-back, be-length, be-single, fits}
 use Rattle.pg_base.specs.Formats.{IsGrammar, Decodes}
-use Rattle.pg_base.specs.Moments.{base_nanos, cut_micros, IsAfterBase}
+use Rattle.pg_base.specs.Timestamps.{base_nanos, whole_micros, IsAfterBase}
 use Rattle.pg_base.specs.Numbers.{FormSigned, wire_signed}
 use Rattle.pg_base.specs.Appending.{Wire}
 use Rattle.pg_types.specs.declared.fault.Fault.{Fault}
@@ -111,18 +111,18 @@ thousandth_within : (z : ℤ) (m n : ℕ) → IsBetween (neg_ℤ (pos (m * 1000)
 thousandth_within (pos k) m n h = omega (arith, signed_arith, h)
 thousandth_within (negsuc k) m n h = omega (arith, signed_arith, h)
 
-civil_within : (v : DateTime) → IsBetween first_civil last_civil (cut_micros (civil_nanos v))
+civil_within : (v : DateTime) → IsBetween first_civil last_civil (whole_micros (civil_nanos v))
 civil_within v = thousandth_within (civil_nanos v -ℤ base_nanos) 378_651_801_600_000_000 252_455_615_999_999_999 (omega (arith, signed_arith, civil_nanos_range v))
 
 -- no civil datetime is refused, and none is written as the least or the greatest number of 8 bytes
-pub datetime_written : (v : DateTime) → IsWrittenCount w64 first_civil last_civil (cut_micros (civil_nanos v)) (wire_datetime v)
+pub datetime_written : (v : DateTime) → IsWrittenCount w64 first_civil last_civil (whole_micros (civil_nanos v)) (wire_datetime v)
 datetime_written v = let k = civil_within v in written w64 first_civil last_civil _ (omega (arith, signed_arith, k)) k
 
-instant_within : (v : Timestamp) → IsBetween first_instant last_instant (cut_micros (instant_nanos v))
+instant_within : (v : Timestamp) → IsBetween first_instant last_instant (whole_micros (instant_nanos v))
 instant_within v = thousandth_within (instant_nanos v -ℤ base_nanos) 378_651_708_001_000_000 252_455_522_400_999_999 (omega (arith, signed_arith, v.in_range))
 
 -- the same of instants
-pub instant_written : (v : Timestamp) → IsWrittenCount w64 first_instant last_instant (cut_micros (instant_nanos v)) (wire_instant v)
+pub instant_written : (v : Timestamp) → IsWrittenCount w64 first_instant last_instant (whole_micros (instant_nanos v)) (wire_instant v)
 instant_written v = let k = instant_within v in written w64 first_instant last_instant _ (omega (arith, signed_arith, k)) k
 
 -- what a value is read back as: it stands where its count says
@@ -147,8 +147,8 @@ pub time_back : (v : Time) (b : List ℕ) → wire_time v ≡ Ok (Some b) → (o
 time_back v b e o d = back_time v o (written_back w64 from_be_bytes-to_be_bytes_8 (pos 0) last_micros IsAfterMidnight _ (wire_time v) (time_written v) b e o d)
 
 -- a civil datetime, and an instant, is read back as itself, truncated to microseconds toward 2000-01-01 00:00:00
-pub datetime_back : (v : DateTime) (b : List ℕ) → wire_datetime v ≡ Ok (Some b) → (o : Outcome DateTime) → ReadsDateTime (Some b) o → IsOkAnd o (IsAfterBase civil_nanos (cut_micros (civil_nanos v)))
+pub datetime_back : (v : DateTime) (b : List ℕ) → wire_datetime v ≡ Ok (Some b) → (o : Outcome DateTime) → ReadsDateTime (Some b) o → IsOkAnd o (IsAfterBase civil_nanos (whole_micros (civil_nanos v)))
 datetime_back v b e o d = written_back w64 from_be_bytes-to_be_bytes_8 first_civil last_civil (IsAfterBase civil_nanos) _ (wire_datetime v) (datetime_written v) b e o d
 
-pub instant_back : (v : Timestamp) (b : List ℕ) → wire_instant v ≡ Ok (Some b) → (o : Outcome Timestamp) → ReadsInstant (Some b) o → IsOkAnd o (IsAfterBase instant_nanos (cut_micros (instant_nanos v)))
+pub instant_back : (v : Timestamp) (b : List ℕ) → wire_instant v ≡ Ok (Some b) → (o : Outcome Timestamp) → ReadsInstant (Some b) o → IsOkAnd o (IsAfterBase instant_nanos (whole_micros (instant_nanos v)))
 instant_back v b e o d = written_back w64 from_be_bytes-to_be_bytes_8 first_instant last_instant (IsAfterBase instant_nanos) _ (wire_instant v) (instant_written v) b e o d

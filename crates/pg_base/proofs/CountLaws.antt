@@ -1,4 +1,4 @@
--- Laws of a number in front.
+-- Laws of counts and lengths, the 4-byte prefixes.
 use Rattle.std.specs.Prelude.{◌≡◌, ℕ, ℤ, pos, List, Some, ◌++◌, ◌≤◌, length, drop, nat_le, true, refl}
 use Rattle.std.proofs.Common.{sym, ◌∙◌, ap, subst, arith}
 use Rattle.std.proofs.lemmas.Bool.Decides.{nat_tests}
@@ -10,7 +10,7 @@ use Rattle.pg_base.specs.Counts.{IsCount, count_bytes, has_number, number_in}
 use Rattle.pg_base.proofs.FormatLaws.{be-back}
 use Rattle.pg_base.proofs.FrameLaws.{fits_length, some_of}
 
--- what is known of bytes with this number in front of u
+-- what is known of bytes that are this prefix and then u
 pub record IsNumberThen (s : List ℕ) (n : ℤ) (u : List ℕ) : Type 0 where
   pub has : has_number s ≡ true
   pub number : number_in s ≡ n

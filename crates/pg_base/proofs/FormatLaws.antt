@@ -8,22 +8,22 @@ use Rattle.std.proofs.lemmas.Nat.{from_be_bytes-to_be_bytes_2, from_be_bytes-to_
 use Rattle.std.proofs.lemmas.Str.{is_utf8-from_IsUtf8}
 use Rattle.std.specs.Int.{Width, w8, w16, w32, w64, w128, byte_len, bytes_high_first, cast_unsigned, cast_signed, to_be_bytes, from_be_bytes}
 use mir.Val.{bits, hbits}
-use Rattle.pg_base.specs.Bytes.{FormBytes, first_fault_bytes}
+use Rattle.pg_base.specs.Bytea.{FormBytes, first_fault_bytes}
 use Rattle.pg_base.specs.Cells.{be, signed_in, IsBe, IsBeUnsigned}
 use Rattle.pg_types.specs.Faults.{Refusal}
 use Rattle.pg_base.specs.Formats.{Checks, IsGrammar, first_fault_of}
 use Rattle.pg_base.specs.Numbers.{FormSigned, FormUnsigned, FormBool, first_fault_number, fits_signed}
 use Rattle.pg_base.specs.Texts.{FormText, first_fault_text}
 
--- checks that are met are passed by
-met_by : (t : Bool) (r : Refusal) (xs ys : Checks) → ((first_fault_of xs ≡ None) → first_fault_of (xs ++ ys) ≡ first_fault_of ys)
+-- checks that pass leave the answer to the later ones
+passed_by : (t : Bool) (r : Refusal) (xs ys : Checks) → ((first_fault_of xs ≡ None) → first_fault_of (xs ++ ys) ≡ first_fault_of ys)
     → cond t (first_fault_of xs) (Some r) ≡ None → cond t (first_fault_of (xs ++ ys)) (Some r) ≡ first_fault_of ys
-met_by true r xs ys later e = later e
-met_by false r xs ys later e = let no : ⊥ = cc in absurd no
+passed_by true r xs ys later e = later e
+passed_by false r xs ys later e = let no : ⊥ = cc in absurd no
 
-pub checks_met : (xs ys : Checks) → first_fault_of xs ≡ None → first_fault_of (xs ++ ys) ≡ first_fault_of ys
-checks_met [] ys e = refl
-checks_met (x ∷ xs) ys e = met_by x.0 x.1 xs ys (checks_met xs ys) e
+pub checks_passed : (xs ys : Checks) → first_fault_of xs ≡ None → first_fault_of (xs ++ ys) ≡ first_fault_of ys
+checks_passed [] ys e = refl
+checks_passed (x ∷ xs) ys e = passed_by x.0 x.1 xs ys (checks_passed xs ys) e
 
 -- and the first that fails is the first of more
 failed_by : (t : Bool) (r s : Refusal) (xs ys : Checks) → ((first_fault_of xs ≡ Some s) → first_fault_of (xs ++ ys) ≡ Some s)

@@ -5,7 +5,7 @@ use Rattle.std.proofs.lemmas.Bool.{leb-true}
 use Rattle.std.proofs.lemmas.Bool.Decides.{nat_tests}
 use Rattle.std.proofs.lemmas.Int.{ints}
 use Rattle.std.specs.Int.{w32}
-use Rattle.pg_base.specs.Cells.{Cell, be, IsBe, Spells, frame, joined}
+use Rattle.pg_base.specs.Cells.{Cell, be, IsBe, Spells, frame, concat}
 
 length_fits : (n : ℕ) → FitsSigned w32 (pos n) → nat_le n 2147483647 ≡ true
 length_fits n h =
@@ -52,8 +52,8 @@ frame_spells None s e =
     (0, (fits, is))
 frame_spells (Some b) s e = e
 
--- both parts of joined bytes are there
-pub parts_of : (a b : Option (List ℕ)) (t : List ℕ) → joined a b ≡ Some t → (x y : List ℕ) × (a ≡ Some x) × (b ≡ Some y) × (t ≡ x ++ y)
+-- where a concatenation is there, both its parts are
+pub parts_of : (a b : Option (List ℕ)) (t : List ℕ) → concat a b ≡ Some t → (x y : List ℕ) × (a ≡ Some x) × (b ≡ Some y) × (t ≡ x ++ y)
 parts_of None b t e = let no : ⊥ = cc in absurd no
 parts_of (Some x) None t e = let no : ⊥ = cc in absurd no
 parts_of (Some x) (Some y) t e = (x, y, refl, refl, cc)

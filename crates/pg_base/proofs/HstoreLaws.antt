@@ -9,8 +9,8 @@ use Rattle.pg_base.specs.Cells.{Cell}
 use Rattle.pg_types.specs.Faults.{Refusal, size, utf8, key_length}
 use Rattle.pg_base.proofs.CellLaws.{IsCellThen, bytes_or_none, cell_by, cell_in, cell_then}
 use Rattle.pg_base.proofs.CountLaws.{number_then}
-use Rattle.pg_base.specs.Counts.{checks_of_next, next_checks, ToRead, behind_cell, bytes_in, has_number, not_negative, number_in, stated}
-use Rattle.pg_base.proofs.FormatLaws.{check_failed, checks_met}
+use Rattle.pg_base.specs.Counts.{checks_of_next, next_checks, ToRead, after_cell, bytes_in, has_number, not_negative, number_in, count_or_zero}
+use Rattle.pg_base.proofs.FormatLaws.{check_failed, checks_passed}
 use Rattle.pg_base.specs.Formats.{IsGrammar, first_fault_of}
 use Rattle.pg_base.specs.Hstore.{Entry, SpellsText, SpellsEntry, SpellsEntries, SpellsCount, FormHstore, key_checks, value_checks, entry_checks, entries_checks, first_fault_hstore, last_value}
 use Rattle.pg_base.specs.Options.{NoneOr}
@@ -18,13 +18,13 @@ use Rattle.pg_base.specs.Sameness.{IsEquivalence}
 
 -- the entry that s begins with
 abbrev entry_in : List ℕ → Entry
-entry_in s = (bytes_in s, cell_in (behind_cell s))
+entry_in s = (bytes_in s, cell_in (after_cell s))
 
 utf8_of : (c : Cell) → NoneOr IsUtf8 c → is_utf8 (bytes_or_none c) ≡ true
 utf8_of None h = is_utf8-from_IsUtf8 [] IsUtf8-nil
 utf8_of (Some x) h = is_utf8-from_IsUtf8 x h
 
--- a text in front passes the checks
+-- a whole text passes the checks
 value_passes : (s u : List ℕ) (c : Cell) → IsCellThen s c u → NoneOr IsUtf8 c → first_fault_of (value_checks s) ≡ None
 value_passes s u c p h = rw (p.has, p.whole, p.bytes, utf8_of c h) refl
 
@@ -35,29 +35,29 @@ some_not_negative (negsuc n) y x e = let no : ⊥ = cc in absurd no
 key_passes : (s x u : List ℕ) → IsCellThen s (Some x) u → IsUtf8 x → first_fault_of (key_checks s) ≡ None
 key_passes s x u p h = rw (p.has, some_not_negative (number_in s) (bytes_in s) x p.cell, p.whole, p.bytes, is_utf8-from_IsUtf8 x h) refl
 
--- the first fault of a text in front is that of a key in front
+-- the first fault of a text is that of a key
 key_fault_by : (t : Bool) (n : ℤ) (d : List ℕ) (r : Refusal)
-    → first_fault_of ((t, size) ∷ (nat_le (stated n) (length d), size) ∷ (is_utf8 (take (stated n) d), utf8) ∷ []) ≡ Some r
-    → first_fault_of ((t, size) ∷ (not_negative n, key_length) ∷ (nat_le (stated n) (length d), size) ∷ (is_utf8 (take (stated n) d), utf8) ∷ []) ≡ Some r
+    → first_fault_of ((t, size) ∷ (nat_le (count_or_zero n) (length d), size) ∷ (is_utf8 (take (count_or_zero n) d), utf8) ∷ []) ≡ Some r
+    → first_fault_of ((t, size) ∷ (not_negative n, key_length) ∷ (nat_le (count_or_zero n) (length d), size) ∷ (is_utf8 (take (count_or_zero n) d), utf8) ∷ []) ≡ Some r
 key_fault_by false n d r e = e
 key_fault_by true (pos n) d r e = e
 key_fault_by true (negsuc n) d r e = let none : None ≡ Some r = sym (rw (leb-zero (length d), is_utf8-from_IsUtf8 [] IsUtf8-nil) refl) ∙ e in let no : ⊥ = cc in absurd no
 
 pub key_fault : (s : List ℕ) (r : Refusal) → first_fault_of (value_checks s) ≡ Some r → first_fault_of (entry_checks s) ≡ Some r
-key_fault s r e = check_failed (key_checks s) (value_checks (behind_cell s)) r (key_fault_by (has_number s) (number_in s) (drop 4 s) r e)
+key_fault s r e = check_failed (key_checks s) (value_checks (after_cell s)) r (key_fault_by (has_number s) (number_in s) (drop 4 s) r e)
 
 -- after a sound key the first fault is the value's
 pub value_fault : (t u x : List ℕ) (r : Refusal) → SpellsText t (Some x) → first_fault_of (value_checks u) ≡ Some r → first_fault_of (entry_checks (t ++ u)) ≡ Some r
 value_fault t u x r p e =
     let after = cell_then t u (Some x) p.0 in
-    checks_met (key_checks (t ++ u)) (value_checks (behind_cell (t ++ u))) (key_passes (t ++ u) x u after p.1)
+    checks_passed (key_checks (t ++ u)) (value_checks (after_cell (t ++ u))) (key_passes (t ++ u) x u after p.1)
     ∙ ap (λ s. first_fault_of (value_checks s)) after.rest ∙ e
 
 -- what is known of bytes that begin with this entry and go on with u
 record IsEntryThen (s : List ℕ) (e : Entry) (u : List ℕ) : Type 0 where
   pub passes : first_fault_of (entry_checks s) ≡ None
   pub entry : entry_in s ≡ e
-  pub rest : behind_cell (behind_cell s) ≡ u
+  pub rest : after_cell (after_cell s) ≡ u
 
 entry_then : (t u : List ℕ) (e : Entry) → SpellsEntry t e → IsEntryThen (t ++ u) e u
 entry_then t u e p =
@@ -66,10 +66,10 @@ entry_then t u e p =
     let key = cell_then p.0 (p.1 ++ u) (Some e.0) p.3.0 in
     let value = cell_then p.1 u e.1 p.4.0 in
     rw parts (record {
-      passes = checks_met (key_checks s) (value_checks (behind_cell s)) (key_passes s e.0 (p.1 ++ u) key p.3.1)
+      passes = checks_passed (key_checks s) (value_checks (after_cell s)) (key_passes s e.0 (p.1 ++ u) key p.3.1)
           ∙ ap (λ x. first_fault_of (value_checks x)) key.rest ∙ value_passes (p.1 ++ u) u e.1 value p.4.1;
       entry = ap₂ (λ (x : List ℕ) (c : Cell). let e : Entry = (x, c) in e) key.bytes (ap cell_in key.rest ∙ value.cell);
-      rest = ap behind_cell key.rest ∙ value.rest;
+      rest = ap after_cell key.rest ∙ value.rest;
     })
 
 -- so many entries, and n more
@@ -87,7 +87,7 @@ unfolding and_more
 passed s rest [] n p = ap (λ x. first_fault_of (entries_checks n x)) p
 passed s rest (e ∷ es) n p =
     let first = entry_then p.0 p.1 e p.3 in
-    rw p.2 (checks_met (entry_checks (p.0 ++ p.1)) (entries_checks (and_more es n) (behind_cell (behind_cell (p.0 ++ p.1)))) first.passes
+    rw p.2 (checks_passed (entry_checks (p.0 ++ p.1)) (entries_checks (and_more es n) (after_cell (after_cell (p.0 ++ p.1)))) first.passes
     ∙ ap (λ x. first_fault_of (entries_checks (and_more es n) x)) first.rest ∙ passed p.1 rest es n p.4)
 
 -- what is checked after sound entries is what is checked of the rest
@@ -98,7 +98,7 @@ entries_pass s rest es n m p e =
 -- the first n entries of s
 entries_in : ℕ → List ℕ → List Entry
 entries_in zero s = []
-entries_in (suc n) s = entry_in s ∷ entries_in n (behind_cell (behind_cell s))
+entries_in (suc n) s = entry_in s ∷ entries_in n (after_cell (after_cell s))
 
 entries_are : (s rest : List ℕ) (es : List Entry) → SpellsEntries s es rest → entries_in (length es) s ≡ es
 unfolding entries_in
@@ -113,7 +113,7 @@ entries_single : (b s u : List ℕ) (es fs : List Entry) → SpellsCount b (reco
 entries_single b s u es fs c p d q =
     let one = number_then b c.0 s (pos (length es)) c.1 c.2 in
     let two = number_then b d.0 u (pos (length fs)) d.1 d.2 in
-    let same : length es ≡ length fs = ap stated (sym one.number ∙ two.number) in
+    let same : length es ≡ length fs = ap count_or_zero (sym one.number ∙ two.number) in
     sym (entries_are s [] es p) ∙ ap₂ entries_in same (sym one.rest ∙ two.rest) ∙ entries_are u [] fs q
 
 -- after a sound count, the first fault is that of the entries
@@ -133,7 +133,7 @@ hstore_grammar value_at = record {
 
 next_fault : (n : ℕ) (s : List ℕ) (r : Refusal) → first_fault_of (checks_of_next entry_checks n s) ≡ Some r → first_fault_of (entries_checks n s) ≡ Some r
 next_fault zero s r e = e
-next_fault (suc n) s r e = check_failed (entry_checks s) (entries_checks n (behind_cell (behind_cell s))) r e
+next_fault (suc n) s r e = check_failed (entry_checks s) (entries_checks n (after_cell (after_cell s))) r e
 
 -- between the start and now these entries were read
 pub record HaveBeenRead (start : ToRead) (es : List Entry) (now : ToRead) : Type 0 where

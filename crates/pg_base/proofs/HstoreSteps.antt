@@ -9,7 +9,7 @@ fault_of_next : (n : ℕ) (s : List ℕ) (x : Refusal) → (n ≡ 0 → ⊥) →
 fault_of_next zero s x h e = absurd (h refl)
 fault_of_next (suc n) s x h e = e
 
--- where entries are stated still, the next entry's fault is the next fault
+-- where entries are still to come, the next entry's fault is the next fault
 pub entry_fault_next : (r : ToRead) (n : ℕ) (s : List ℕ) (x : Refusal) → record { left = n; bytes = s } ≡ r → (n ≡ 0 → ⊥)
     → first_fault_of (entry_checks s) ≡ Some x → first_fault_of (next_checks entry_checks r) ≡ Some x
 entry_fault_next r n s x is h e = ap (λ (r : ToRead). first_fault_of (next_checks entry_checks r)) (sym is) ∙ fault_of_next n s x h e

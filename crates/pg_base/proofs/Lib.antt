@@ -6,7 +6,9 @@ pub mod BitsLaws
 pub mod CellLaws
 pub mod CellRows
 pub mod CivilLaws
+pub mod Concat
 pub mod CountLaws
+pub mod FixedBytesLaws
 pub mod FormatLaws
 pub mod FrameLaws
 pub mod FrameLists
@@ -14,13 +16,10 @@ pub mod HostBits
 pub mod HstoreLaws
 pub mod HstoreLengths
 pub mod HstoreSteps
-pub mod IdentifiersLaws
-pub mod Joined
 pub mod JsonLaws
 pub mod JsonLemmas
 pub mod LsnLaws
 pub mod LsnLemmas
-pub mod MomentsLaws
 pub mod NetworkLaws
 pub mod Octets
 pub mod PadLemmas
@@ -28,3 +27,4 @@ pub mod SamenessLaws
 pub mod SpecialLaws
 pub mod SpecialLemmas
 pub mod TextLemmas
+pub mod TimestampsLaws

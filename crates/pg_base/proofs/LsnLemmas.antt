@@ -84,14 +84,14 @@ half_of_digits n small =
     let own = digits_is_IsNumeral 16 true (omega arith) (omega arith) n (omega arith) in
     (own.0, rw (plain_digits _ own.0, hex_from_numeral _ own.0 (rw own.1 small)) (ap Some own.1))
 
-joined_halves : (n : ℕ) → n < 2 ^ 64 → position_of (n / 2 ^ 32) (n % 2 ^ 32) ≡ n
-joined_halves n small =
+concat_halves : (n : ℕ) → n < 2 ^ 64 → position_of (n / 2 ^ 32) (n % 2 ^ 32) ≡ n
+concat_halves n small =
     let fits : n / 2 ^ 32 * 2 ^ 32 % 2 ^ 64 ≡ n / 2 ^ 32 * 2 ^ 32 = omega arith in
     rw fits (or_shifted (n / 2 ^ 32) 32 (n % 2 ^ 32) (omega arith) ∙ omega arith)
 
--- what is printed of a position is parsed to it
-pub printed_parses : (n : ℕ) → n < 2 ^ 64 → lsn_of (lsn_text n) ≡ Some n
-printed_parses n small =
+-- a position's text is parsed to the position
+pub text_parses : (n : ℕ) → n < 2 ^ 64 → lsn_of (lsn_text n) ≡ Some n
+text_parses n small =
     let hi = half_of_digits (n / 2 ^ 32) (omega arith) in
     let lo = half_of_digits (n % 2 ^ 32) (omega arith) in
-    rw (before_slash _ (digits 16 true (n % 2 ^ 32)) hi.0.1, after_slash _ (digits 16 true (n % 2 ^ 32)) hi.0.1, hi.1, lo.1) (ap Some (joined_halves n small))
+    rw (before_slash _ (digits 16 true (n % 2 ^ 32)) hi.0.1, after_slash _ (digits 16 true (n % 2 ^ 32)) hi.0.1, hi.1, lo.1) (ap Some (concat_halves n small))

@@ -29,12 +29,12 @@ same_address (V6 a) (V4 b) f h = absurd (omega arith)
 same_address (V6 a) (V6 b) f h = ap (λ s. V6 (record { segments = s })) (same_segments (ipv6_segments a) (ipv6_segments b) h)
 
 -- the bytes of an address with its netmask meet the checks of INET, and other checks are left
-met : (more : Checks) (flag : ℕ) (a : IpAddr) (masklen : ℕ) → length (address_octets a) ≡ address_len a → masklen ≤ 8 * address_len a
+checks_hold : (more : Checks) (flag : ℕ) (a : IpAddr) (masklen : ℕ) → length (address_octets a) ≡ address_len a → masklen ≤ 8 * address_len a
     → first_fault_of (inet_checks (network_bytes flag (with_netmask a masklen)) ++ more) ≡ first_fault_of more
-met more flag (V4 a) masklen len fits =
+checks_hold more flag (V4 a) masklen len fits =
     let four : 4 ≤ length (network_bytes flag (with_netmask (V4 a) masklen)) = omega arith in
     rw (le-leb 4 _ four, le-leb masklen 32 fits, eq-eqb (length (ipv4_octets a)) 4 len) refl
-met more flag (V6 a) masklen len fits =
+checks_hold more flag (V6 a) masklen len fits =
     let four : 4 ≤ length (network_bytes flag (with_netmask (V6 a) masklen)) = omega arith in
     rw (le-leb 4 _ four, le-leb masklen 128 fits, eq-eqb (length (octets_of (ipv6_segments a))) 16 len) refl
 
@@ -49,7 +49,7 @@ inet_single b n m h k =
     same
 
 inet_passes : (b : List ℕ) (n : Network) → FormInet b n → first_fault_inet b ≡ None
-inet_passes b n h = ap first_fault_inet h.1 ∙ met [] h.0 n.address n.masklen h.2 h.3
+inet_passes b n h = ap first_fault_inet h.1 ∙ checks_hold [] h.0 n.address n.masklen h.2 h.3
 
 pub inet_grammar : IsGrammar (λ n m. n ≡ m) FormInet first_fault_inet
 inet_grammar = record { passes = inet_passes; single = inet_single }
@@ -61,7 +61,7 @@ cidr_passes b n h =
     let clear : (host_part (drop 4 b) (slice_index b 1) == 0) ≡ true = rw (behind, at_mask) (eq-eqb _ 0 h.1) in
     let last = (host_part (drop 4 b) (slice_index b 1) == 0, host_bits) ∷ [] in
     let others : first_fault_cidr b ≡ first_fault_of last =
-    ap (λ s. first_fault_of (inet_checks s ++ last)) h.0.1 ∙ met last h.0.0 n.address n.masklen h.0.2 h.0.3 in
+    ap (λ s. first_fault_of (inet_checks s ++ last)) h.0.1 ∙ checks_hold last h.0.0 n.address n.masklen h.0.2 h.0.3 in
     others ∙ ap (λ t. first_fault_of ((t, host_bits) ∷ [])) clear
 
 pub cidr_grammar : IsGrammar (λ n m. n ≡ m) FormCidr first_fault_cidr

@@ -22,35 +22,35 @@ pub without_low_le : (k byte : ℕ) → without_low k byte ≤ byte
 without_low_le k byte = div-mul-le_self byte (2 ^ k)
 
 -- ---- bytes whose last one is without its pad
-module _ (n m x : ℕ) (p : List ℕ) (count : length p ≡ bytes_for n) (last : m + 1 ≡ length p) (below : (k : ℕ) → get_or p k 0 < 256) (cut : x ≡ without_low (pad_of n) (get_or p m 0)) where
-  cut_at : (i : ℕ) → i / 8 ≡ m → get_or (set p m x) (i / 8) 0 ≡ without_low (pad_of n) (get_or p m 0)
-  cut_at i e = ap (λ y. get_or (set p m x) y 0) e ∙ get_or-set_same p m x 0 (omega arith) ∙ cut
+module _ (n m x : ℕ) (p : List ℕ) (count : length p ≡ bytes_for n) (last : m + 1 ≡ length p) (below : (k : ℕ) → get_or p k 0 < 256) (masked : x ≡ without_low (pad_of n) (get_or p m 0)) where
+  masked_at : (i : ℕ) → i / 8 ≡ m → get_or (set p m x) (i / 8) 0 ≡ without_low (pad_of n) (get_or p m 0)
+  masked_at i e = ap (λ y. get_or (set p m x) y 0) e ∙ get_or-set_same p m x 0 (omega arith) ∙ masked
 
-  cut_near : (i : ℕ) → i < n → i / 8 ≡ m → nth_bit (set p m x) i ≡ nth_bit p i
-  cut_near i h e =
-      ap (λ y. bit_of y (i % 8)) (cut_at i e) ∙ ap (λ y. eqb y 1) (high_kept (get_or p m 0) (pad_of n) (7 - i % 8) (omega arith)) ∙
+  masked_near : (i : ℕ) → i < n → i / 8 ≡ m → nth_bit (set p m x) i ≡ nth_bit p i
+  masked_near i h e =
+      ap (λ y. bit_of y (i % 8)) (masked_at i e) ∙ ap (λ y. eqb y 1) (high_kept (get_or p m 0) (pad_of n) (7 - i % 8) (omega arith)) ∙
       ap (λ y. bit_of (get_or p y 0) (i % 8)) (sym e)
 
-  cut_inside : (i : ℕ) → i < n → nth_bit (set p m x) i ≡ nth_bit p i
-  cut_inside i h = ⊎_elim (cut_near i h) (put_far p m i x) (cases_eq (i / 8) m)
+  masked_inside : (i : ℕ) → i < n → nth_bit (set p m x) i ≡ nth_bit p i
+  masked_inside i h = ⊎_elim (masked_near i h) (put_far p m i x) (cases_eq (i / 8) m)
 
-  cut_zero : (i : ℕ) → n ≤ i → i / 8 ≡ m → nth_bit (set p m x) i ≡ false
-  cut_zero i h e = ap (λ y. bit_of y (i % 8)) (cut_at i e) ∙ ap (λ y. eqb y 1) (low_clear (get_or p m 0) (pad_of n) (7 - i % 8) (omega arith))
+  masked_zero : (i : ℕ) → n ≤ i → i / 8 ≡ m → nth_bit (set p m x) i ≡ false
+  masked_zero i h e = ap (λ y. bit_of y (i % 8)) (masked_at i e) ∙ ap (λ y. eqb y 1) (low_clear (get_or p m 0) (pad_of n) (7 - i % 8) (omega arith))
 
-  cut_past : (i : ℕ) → n ≤ i → (i / 8 ≡ m → ⊥) → nth_bit (set p m x) i ≡ false
-  cut_past i h e = nth_bit_past (set p m x) i (rw length-set (omega arith))
+  masked_past : (i : ℕ) → n ≤ i → (i / 8 ≡ m → ⊥) → nth_bit (set p m x) i ≡ false
+  masked_past i h e = nth_bit_past (set p m x) i (rw length-set (omega arith))
 
-  cut_pad : (i : ℕ) → n ≤ i → nth_bit (set p m x) i ≡ false
-  cut_pad i h = ⊎_elim (cut_zero i h) (cut_past i h) (cases_eq (i / 8) m)
+  masked_pad : (i : ℕ) → n ≤ i → nth_bit (set p m x) i ≡ false
+  masked_pad i h = ⊎_elim (masked_zero i h) (masked_past i h) (cases_eq (i / 8) m)
 
-  cut_below : x < 256
-  cut_below = omega (arith, cut, without_low_le (pad_of n) (get_or p m 0), below m)
+  masked_below : x < 256
+  masked_below = omega (arith, masked, without_low_le (pad_of n) (get_or p m 0), below m)
 
-  pub cut_view : first_bits n (set p m x) ≡ first_bits n p
-  cut_view = first_bits_same n (set p m x) p cut_inside
+  pub masked_view : first_bits n (set p m x) ≡ first_bits n p
+  masked_view = first_bits_same n (set p m x) p masked_inside
 
-  pub cut_tidy : set p m x ≡ packed (first_bits n (set p m x))
-  cut_tidy = tidy n (set p m x) (length-set p m x ∙ count) (put_below p m x (omega arith) cut_below below) cut_pad
+  pub masked_packed : set p m x ≡ packed (first_bits n (set p m x))
+  masked_packed = tidy n (set p m x) (length-set p m x ∙ count) (put_below p m x (omega arith) masked_below below) masked_pad
 
 -- packed bytes are the bytes with the last one cleared of its padding
 pub packed_parts : (n : ℕ) (p whole : List ℕ) (last : ℕ) → length p ≡ bytes_for n → ((k : ℕ) → get_or p k 0 < 256) → p ≡ whole ++ last ∷ [] → packed (first_bits n p) ≡ whole ++ without_low (pad_of n) last ∷ []
@@ -59,8 +59,8 @@ packed_parts n p whole last count below e =
     let x = without_low (pad_of n) last in
     let end : m + 1 ≡ length p = sym (ap length e ∙ length_push whole last) in
     let at : get_or p m 0 ≡ last = ap (λ y. get_or y m 0) e ∙ get_or_push whole last 0 m refl in
-    let cut : x ≡ without_low (pad_of n) (get_or p m 0) = ap (without_low (pad_of n)) (sym at) in
-    ap packed (sym (cut_view n m x p count end below cut)) ∙ sym (cut_tidy n m x p count end below cut) ∙ ap (λ y. set y m x) e ∙
+    let masked : x ≡ without_low (pad_of n) (get_or p m 0) = ap (without_low (pad_of n)) (sym at) in
+    ap packed (sym (masked_view n m x p count end below masked)) ∙ sym (masked_packed n m x p count end below masked) ∙ ap (λ y. set y m x) e ∙
     set_at whole last [] x m refl
 
 pub packed_none : (n : ℕ) (p : List ℕ) → length p ≡ bytes_for n → length p ≡ 0 → packed (first_bits n p) ≡ []

@@ -36,11 +36,11 @@ module _ {A : Type 0} (same : A → A → Type 0) (law : IsEquivalence same) whe
   special_transitive (value v) (value u) (value x) h k = law.transitive v u x h k
 
   -- sameness of what stands for values with infinities is an equivalence where that of the values is
-  pub special_equivalence : {B : Type 0} (seen : B → Special A) → IsEquivalence (λ a b. SameSpecial same (seen a) (seen b))
-  special_equivalence seen = record {
-    reflexive = λ a. special_reflexive (seen a);
-    symmetric = λ a b. special_symmetric (seen a) (seen b);
-    transitive = λ a b c. special_transitive (seen a) (seen b) (seen c);
+  pub special_equivalence : {B : Type 0} (view : B → Special A) → IsEquivalence (λ a b. SameSpecial same (view a) (view b))
+  special_equivalence view = record {
+    reflexive = λ a. special_reflexive (view a);
+    symmetric = λ a b. special_symmetric (view a) (view b);
+    transitive = λ a b c. special_transitive (view a) (view b) (view c);
   }
 
 -- the infinities have the width

@@ -4,7 +4,7 @@ use Rattle.std.specs.Int.{w32, bit_at, div_ceil}
 use Rattle.std.specs.List.{range_with_len}
 use Rattle.pg_base.specs.Appending.{Wire, wire_of}
 use Rattle.pg_base.specs.Cells.{Cell, be}
-use Rattle.pg_base.specs.Counts.{IsCount, count_checks, number_in, stated}
+use Rattle.pg_base.specs.Counts.{IsCount, count_checks, number_in, count_or_zero}
 use Rattle.pg_types.specs.declared.types.built_in.BuiltIn.TheVariants.{Bit, Varbit}
 use Rattle.pg_types.specs.Content.{Content, is_row}
 use Rattle.pg_types.specs.Faults.{Refusal, Outcome, refusal_of, size, transmit}
@@ -82,7 +82,7 @@ FormBits bits_of b v =
 
 -- the checks of the count come first; then any other number of bytes than the bits take is Size
 abbrev pub first_fault_bits : List ℕ → Option Refusal
-first_fault_bits b = first_fault_of (count_checks b ++ (length (drop 4 b) == bytes_for (stated (number_in b)), size) ∷ [])
+first_fault_bits b = first_fault_of (count_checks b ++ (length (drop 4 b) == bytes_for (count_or_zero (number_in b)), size) ∷ [])
 
 -- what a cell reads as
 abbrev pub ReadsBits : {A : Type 0} → (A → List Bool) → Cell → Outcome A → Type 0

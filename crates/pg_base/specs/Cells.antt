@@ -63,20 +63,20 @@ abbrev pub CellsInRow : List ℕ → ℕ → List Cell → List ℕ → Type 0
 CellsInRow s n cs rest = SpellsAll s cs rest × (length cs ≤ n) × ((length cs ≡ n) ⊎ SpellsNone rest)
 
 -- the first bytes and then the second, where both are there
-abbrev pub joined : Option (List ℕ) → Option (List ℕ) → Option (List ℕ)
-joined None r = None
-joined (Some a) r = option_map (λ b. a ++ b) r
+abbrev pub concat : Option (List ℕ) → Option (List ℕ) → Option (List ℕ)
+concat None r = None
+concat (Some a) r = option_map (λ b. a ++ b) r
 
 -- the frames of cells, one after another, where each cell has one
 abbrev pub frames : List Cell → Option (List ℕ)
 frames [] = Some []
-frames (c ∷ cs) = joined (frame c) (frames cs)
+frames (c ∷ cs) = concat (frame c) (frames cs)
 
 -- the frames of cells are those of no others
 abbrev pub FramesSingle : Type 0
 FramesSingle = (cs ds : List Cell) (b : List ℕ) → frames cs ≡ Some b → frames ds ≡ Some b → cs ≡ ds
 
 -- and, whatever comes after them, of no other cells that are as many
-abbrev pub FramesInFrontSingle : Type 0
-FramesInFrontSingle =
+abbrev pub FramePrefixesSingle : Type 0
+FramePrefixesSingle =
     (cs ds : List Cell) (a b s t : List ℕ) → length cs ≡ length ds → frames cs ≡ Some a → frames ds ≡ Some b → a ++ s ≡ b ++ t → (cs ≡ ds) × (s ≡ t)

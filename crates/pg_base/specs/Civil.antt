@@ -7,7 +7,7 @@ use Rattle.jiff.specs.Words.{epoch_day, time_nanos, civil_nanos, IsBetween}
 use Rattle.pg_base.specs.Cells.{Cell, IsBe, signed_in}
 use Rattle.pg_types.specs.Faults.{Refusal, Outcome, size, decode}
 use Rattle.pg_base.specs.Formats.{first_fault_of, ReadsPlain}
-use Rattle.pg_base.specs.Moments.{IsAfterBase, wire_timestamp}
+use Rattle.pg_base.specs.Timestamps.{IsAfterBase, wire_timestamp}
 use Rattle.pg_base.specs.Numbers.{wire_signed}
 use Rattle.pg_base.specs.Appending.{Wire}
 

@@ -1,4 +1,4 @@
--- A number of four bytes in front of others: a count or a length (pq_getmsgint).
+-- Count and length prefixes, of 4 bytes (pq_getmsgint).
 use Rattle.std.specs.Prelude.{◌≡◌, ◌==◌, ◌+◌, zero, suc, Result, Ok, Err, IfSome, IsSome, ℕ, ℤ, pos, negsuc, List, [], ◌∷◌, ◌++◌, length, take, drop, Bool, true, false, nat_le, Option, Some, None, if◌then◌else◌}
 use Rattle.std.specs.Borrow.{Bor}
 use Rattle.std.specs.Int.{w32}
@@ -15,10 +15,10 @@ has_number s = nat_le 4 (length s)
 abbrev pub number_in : List ℕ → ℤ
 number_in s = signed_in w32 (take 4 s)
 
--- how many a number states: a negative one states none
-abbrev pub stated : ℤ → ℕ
-stated (pos n) = n
-stated (negsuc n) = 0
+-- a prefix as a number of items or bytes: a negative one counts as 0
+abbrev pub count_or_zero : ℤ → ℕ
+count_or_zero (pos n) = n
+count_or_zero (negsuc n) = 0
 
 -- whether a number is not negative
 abbrev pub not_negative : ℤ → Bool
@@ -29,15 +29,15 @@ not_negative (negsuc n) = false
 abbrev pub IsCount : List ℕ → ℕ → Type 0
 IsCount s n = IsBe w32 s (pos n)
 
--- the checks of a count in front: one that is truncated is Size, and a negative one Count
+-- the checks of a count prefix: one that is truncated is Size, and a negative one Count
 abbrev pub count_checks : List ℕ → Checks
 count_checks s = (has_number s, size) ∷ (not_negative (number_in s), count) ∷ []
 
 -- s begins with what spells a value, and rest comes after it
-abbrev pub InFront : {A : Type 0} → (List ℕ → A → Type 0) → List ℕ → A × Bor (List ℕ) → Type 0
-InFront spells s p = (t : List ℕ) × (s ≡ t ++ p.1.now) × spells t p.0
+abbrev pub StartsWith : {A : Type 0} → (List ℕ → A → Type 0) → List ℕ → A × Bor (List ℕ) → Type 0
+StartsWith spells s p = (t : List ℕ) × (s ≡ t ++ p.1.now) × spells t p.0
 
--- what is to be read: the items that are stated still, and the bytes that are left
+-- what is to be read: the number of items that are still to come, and the remaining bytes
 pub record ToRead : Type 0 where
   pub left : ℕ
   pub bytes : List ℕ
@@ -46,7 +46,7 @@ pub record ToRead : Type 0 where
 abbrev pub nothing : ToRead
 nothing = record { left = 0; bytes = [] }
 
--- the checks of what comes next: those of an item, or after the last that no bytes are left
+-- the checks of what comes next: those of an item, or after the last item that no bytes trail
 abbrev pub checks_of_next : (List ℕ → Checks) → ℕ → List ℕ → Checks
 checks_of_next item zero s = (length s == 0, size) ∷ []
 checks_of_next item (suc n) s = item s
@@ -64,19 +64,19 @@ TakesNext spells item old (Some (Err f)) new =
     IfSome (refusal_of f) (λ r. first_fault_of (next_checks item old) ≡ Some r) × IsSome (refusal_of f) × (new ≡ nothing)
 TakesNext spells item old None new = (old ≡ nothing) × (new ≡ nothing)
 
--- whether the bytes whose length stands in front are all there
+-- whether the bytes after a length prefix are all there
 abbrev pub has_cell : List ℕ → Bool
-has_cell s = nat_le (stated (number_in s)) (length (drop 4 s))
+has_cell s = nat_le (count_or_zero (number_in s)) (length (drop 4 s))
 
--- the bytes whose length stands in front: none where it is negative
+-- the bytes after a length prefix: none where it is negative
 abbrev pub bytes_in : List ℕ → List ℕ
-bytes_in s = take (stated (number_in s)) (drop 4 s)
+bytes_in s = take (count_or_zero (number_in s)) (drop 4 s)
 
 -- what follows a length and its bytes
-abbrev pub behind_cell : List ℕ → List ℕ
-behind_cell s = drop (stated (number_in s)) (drop 4 s)
+abbrev pub after_cell : List ℕ → List ℕ
+after_cell s = drop (count_or_zero (number_in s)) (drop 4 s)
 
--- the checks of a cell in front: where its length or a part of its bytes is truncated, it is Size
+-- the checks of the first cell: where its length or a part of its bytes is truncated, it is Size
 abbrev pub cell_checks : List ℕ → Checks
 cell_checks s = (has_number s, size) ∷ (has_cell s, size) ∷ []
 

@@ -10,8 +10,8 @@ use Rattle.std.specs.declared.cmp.Ordering.TheVariants.{Less, Equal, Greater}
 use Rattle.std.specs.Str.{bytes_eq, is_utf8}
 use Rattle.pg_types.specs.declared.fault.Fault.{Fault}
 use Rattle.pg_base.specs.Appending.{Wire, wire_of}
-use Rattle.pg_base.specs.Cells.{Cell, cell_of, frame, Spells, joined}
-use Rattle.pg_base.specs.Counts.{IsCount, TakesNext, ToRead, behind_cell, bytes_in, count_checks, has_cell, has_number, not_negative, number_in, stated, count_bytes}
+use Rattle.pg_base.specs.Cells.{Cell, cell_of, frame, Spells, concat}
+use Rattle.pg_base.specs.Counts.{IsCount, TakesNext, ToRead, after_cell, bytes_in, count_checks, has_cell, has_number, not_negative, number_in, count_or_zero, count_bytes}
 use Rattle.pg_types.specs.Faults.{Refusal, Outcome, size, utf8, key_length}
 use Rattle.pg_base.specs.Formats.{Checks, first_fault_of, ReadsPlain}
 use Rattle.pg_base.specs.Options.{NoneOr}
@@ -53,35 +53,35 @@ abbrev pub FormHstore : {A : Type 0} → (A → List ℕ → Option Cell) → Li
 FormHstore value_at b m =
     (es : List Entry) × (s : List ℕ) × SpellsCount b (record { left = length es; bytes = s }) × SpellsEntries s es [] × ((q : List ℕ) → value_at m q ≡ last_value q es)
 
--- the checks of a key in front: bytes that are truncated are Size, a negative length KeyLength, and what is no UTF-8 Utf8
+-- the checks of a key: bytes that are truncated are Size, a negative length KeyLength, and what is no UTF-8 Utf8
 abbrev pub key_checks : List ℕ → Checks
 key_checks s =
     (has_number s, size) ∷ (not_negative (number_in s), key_length) ∷ (has_cell s, size) ∷ (is_utf8 (bytes_in s), utf8) ∷ []
 
--- the checks of a value in front: the same, but a negative length is NULL, which has no text
+-- the checks of a value: the same, but a negative length is NULL, which has no text
 abbrev pub value_checks : List ℕ → Checks
 value_checks s = (has_number s, size) ∷ (has_cell s, size) ∷ (is_utf8 (bytes_in s), utf8) ∷ []
 
--- the checks of an entry in front: those of its key, and then those of its value
+-- the checks of an entry: those of its key, and then those of its value
 abbrev pub entry_checks : List ℕ → Checks
-entry_checks s = key_checks s ++ value_checks (behind_cell s)
+entry_checks s = key_checks s ++ value_checks (after_cell s)
 
 -- the checks of n entries, one after another, and of the end
 abbrev pub entries_checks : ℕ → List ℕ → Checks
 entries_checks zero s = (length s == 0, size) ∷ []
-entries_checks (suc n) s = entry_checks s ++ entries_checks n (behind_cell (behind_cell s))
+entries_checks (suc n) s = entry_checks s ++ entries_checks n (after_cell (after_cell s))
 
 -- the checks of the count come first, and then those of as many entries
 abbrev pub first_fault_hstore : List ℕ → Option Refusal
-first_fault_hstore b = first_fault_of (count_checks b ++ entries_checks (stated (number_in b)) (drop 4 b))
+first_fault_hstore b = first_fault_of (count_checks b ++ entries_checks (count_or_zero (number_in b)) (drop 4 b))
 
 -- an entry of borrowed texts
-abbrev pub lent_entry : Bor (List ℕ) × Option (Bor (List ℕ)) → Entry
-lent_entry e = (e.0.now, cell_of e.1)
+abbrev pub borrowed_entry : Bor (List ℕ) × Option (Bor (List ℕ)) → Entry
+borrowed_entry e = (e.0.now, cell_of e.1)
 
 -- a step of reading: the next entry was taken
 abbrev pub TakesEntry : ToRead → Option (Result (Bor (List ℕ) × Option (Bor (List ℕ))) Fault) → ToRead → Type 0
-TakesEntry = TakesNext (λ s e. SpellsEntry s (lent_entry e)) entry_checks
+TakesEntry = TakesNext (λ s e. SpellsEntry s (borrowed_entry e)) entry_checks
 
 -- an entry of owned texts
 abbrev pub owned_entry : String Global × Option (String Global) → Entry
@@ -102,27 +102,27 @@ ReadsHstore = ReadsPlain (FormHstore value_at) first_fault_hstore
 -- the frames of the entries' keys and values, in the order of the list, where each has one
 abbrev pub entries_bytes : List Entry → Option (List ℕ)
 entries_bytes [] = Some []
-entries_bytes (e ∷ es) = joined (joined (frame (Some e.0)) (frame e.1)) (entries_bytes es)
+entries_bytes (e ∷ es) = concat (concat (frame (Some e.0)) (frame e.1)) (entries_bytes es)
 
 -- the cell of entries: their count, and their frames
 abbrev pub hstore_bytes : List Entry → Option (List ℕ)
-hstore_bytes es = joined (count_bytes (length es)) (entries_bytes es)
+hstore_bytes es = concat (count_bytes (length es)) (entries_bytes es)
 
--- e, in front of f, in its place, or after it
-abbrev pub placed_by : Ordering → Entry → Entry → List Entry → List Entry → List Entry
-placed_by Less e f fs rest = e ∷ f ∷ fs
-placed_by Equal e f fs rest = e ∷ fs
-placed_by Greater e f fs rest = f ∷ rest
+-- e before f, in its place, or after it
+abbrev pub insert_entry_by : Ordering → Entry → Entry → List Entry → List Entry → List Entry
+insert_entry_by Less e f fs rest = e ∷ f ∷ fs
+insert_entry_by Equal e f fs rest = e ∷ fs
+insert_entry_by Greater e f fs rest = f ∷ rest
 
--- an entry placed among entries in order
-abbrev pub placed : Entry → List Entry → List Entry
-placed e [] = e ∷ []
-placed e (f ∷ fs) = placed_by (slice_cmp nat_cmp e.0 f.0) e f fs (placed e fs)
+-- an entry inserted among entries in order
+abbrev pub insert_entry : Entry → List Entry → List Entry
+insert_entry e [] = e ∷ []
+insert_entry e (f ∷ fs) = insert_entry_by (slice_cmp nat_cmp e.0 f.0) e f fs (insert_entry e fs)
 
 -- the entries in the order of their keys' bytes; of equal keys, which no map has, the first
 abbrev pub in_key_order : List Entry → List Entry
 in_key_order [] = []
-in_key_order (e ∷ es) = placed e (in_key_order es)
+in_key_order (e ∷ es) = insert_entry e (in_key_order es)
 
 -- what entries are written as: their cell, in the order of their keys
 abbrev pub wire_hstore : List Entry → Wire

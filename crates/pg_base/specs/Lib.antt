@@ -1,21 +1,21 @@
 -- The words of types, faults, cells and formats.
 pub mod Appending
+pub mod ArrayTypes
 pub mod Arrays
 pub mod Bits
-pub mod Bytes
+pub mod Bytea
 pub mod Cells
 pub mod Civil
 pub mod Counts
+pub mod FixedBytes
 pub mod Formats
 pub mod Hstore
-pub mod Identifiers
 pub mod Json
-pub mod Lists
 pub mod Lsn
-pub mod Moments
 pub mod Network
 pub mod Numbers
 pub mod Options
 pub mod Sameness
 pub mod Special
 pub mod Texts
+pub mod Timestamps

@@ -108,10 +108,10 @@ abbrev pub first_fault_network : Network → Option Refusal
 first_fault_network n =
     first_fault_of ((nat_le n.masklen (address_bits n.address), netmask) ∷ (host_part (address_octets n.address) n.masklen == 0, host_bits) ∷ [])
 
--- what is made of the parts n: they themselves where there is no fault, and else the fault
-abbrev pub Made : Network → Option Refusal → Outcome Network → Type 0
-Made n fault (Ok made) = (made ≡ n) × (fault ≡ None)
-Made n fault (Err r) = fault ≡ Some r
+-- the parts n where there is no fault, and else the fault
+abbrev pub NetworkOrFault : Network → Option Refusal → Outcome Network → Type 0
+NetworkOrFault n fault (Ok made) = (made ≡ n) × (fault ≡ None)
+NetworkOrFault n fault (Err r) = fault ≡ Some r
 
 -- whether the address has its family's length and the netmask fits
 abbrev pub is_network : Network → Bool

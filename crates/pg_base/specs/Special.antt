@@ -6,14 +6,14 @@ use mir.Val.{bits}
 use Rattle.pg_base.specs.declared.special.Date.{Date}
 use Rattle.pg_base.specs.declared.special.Date.TheVariants.{PosInfinity as AfterDates, NegInfinity as BeforeDates, Value as OneDate}
 use Rattle.pg_base.specs.declared.special.Timestamp.{Timestamp}
-use Rattle.pg_base.specs.declared.special.Timestamp.TheVariants.{PosInfinity as AfterMoments, NegInfinity as BeforeMoments, Value as OneMoment}
+use Rattle.pg_base.specs.declared.special.Timestamp.TheVariants.{PosInfinity as AfterTimestamps, NegInfinity as BeforeTimestamps, Value as OneTimestamp}
 use Rattle.pg_types.specs.declared.types.built_in.BuiltIn.TheVariants.{Date as DateRow}
 use Rattle.pg_base.specs.Appending.{Wire}
 use Rattle.pg_base.specs.Cells.{Cell, be}
 use Rattle.pg_types.specs.Content.{Content, is_row}
 use Rattle.pg_types.specs.Faults.{Refusal, Outcome, size}
 use Rattle.pg_base.specs.Formats.{NotNull}
-use Rattle.pg_base.specs.Moments.{accepted_moment}
+use Rattle.pg_base.specs.Timestamps.{accepts_timestamps}
 
 -- a value, or what comes after all values or before them
 pub data Special (A : Type 0) : Type 0 where
@@ -22,16 +22,16 @@ pub data Special (A : Type 0) : Type 0 where
   value : A → Special A
 
 -- what a date with infinities is
-abbrev pub date_seen : {A : Type 0} → Date A → Special A
-date_seen AfterDates = pos_infinity
-date_seen BeforeDates = neg_infinity
-date_seen (OneDate v) = value v
+abbrev pub date_view : {A : Type 0} → Date A → Special A
+date_view AfterDates = pos_infinity
+date_view BeforeDates = neg_infinity
+date_view (OneDate v) = value v
 
 -- what a timestamp with infinities is
-abbrev pub timestamp_seen : {A : Type 0} → Timestamp A → Special A
-timestamp_seen AfterMoments = pos_infinity
-timestamp_seen BeforeMoments = neg_infinity
-timestamp_seen (OneMoment v) = value v
+abbrev pub timestamp_view : {A : Type 0} → Timestamp A → Special A
+timestamp_view AfterTimestamps = pos_infinity
+timestamp_view BeforeTimestamps = neg_infinity
+timestamp_view (OneTimestamp v) = value v
 
 -- dates with infinities accept DATE where their values do
 abbrev pub accepted_date : (Content → Bool) → Content → Bool
@@ -39,7 +39,7 @@ accepted_date inside ty = is_row DateRow ty && inside ty
 
 -- timestamps with infinities accept TIMESTAMP and TIMESTAMPTZ where their values do
 abbrev pub accepted_timestamp : (Content → Bool) → Content → Bool
-accepted_timestamp inside ty = accepted_moment ty && inside ty
+accepted_timestamp inside ty = accepts_timestamps ty && inside ty
 
 -- the bytes of infinity: those of the greatest number of the width
 abbrev pub infinity : Width → List ℕ
@@ -67,12 +67,12 @@ RefusedSpecial w refused b r = ((length b ≢ byte_len w) × (r ≡ size)) ⊎ (
 
 -- what bytes give: an infinity is itself, before the value's reading is asked; all else is a value or its fault
 abbrev pub DecodesSpecial : {A B : Type 0} → Width → (B → Special A) → (Outcome A → Type 0) → List ℕ → Outcome B → Type 0
-DecodesSpecial w seen reads b (Ok s) = FormSpecial w (λ v. reads (Ok v)) b (seen s)
-DecodesSpecial w seen reads b (Err r) = RefusedSpecial w (λ f. reads (Err f)) b r
+DecodesSpecial w view reads b (Ok s) = FormSpecial w (λ v. reads (Ok v)) b (view s)
+DecodesSpecial w view reads b (Err r) = RefusedSpecial w (λ f. reads (Err f)) b r
 
 -- what a cell gives: NULL is WasNull, whatever the value's reading says of it
 abbrev pub ReadsSpecial : {A B : Type 0} → Width → (B → Special A) → (Cell → Outcome A → Type 0) → Cell → Outcome B → Type 0
-ReadsSpecial w seen reads = NotNull (λ b. DecodesSpecial w seen (reads (Some b)) b)
+ReadsSpecial w view reads = NotNull (λ b. DecodesSpecial w view (reads (Some b)) b)
 
 -- NULL, an infinity and a cell of another width are read without memory, and a value where its own reading is
 abbrev pub FreeSpecial : Width → (List ℕ → Type 0) → Cell → Type 0

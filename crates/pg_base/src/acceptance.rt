@@ -2,11 +2,11 @@
 ghost use Rattle.std.specs.Prelude.{◌≡◌, codes, option_map};
 ghost use Rattle.std.specs.Cow.{cow_value};
 ghost use Rattle.pg_types.specs.declared.types.built_in.BuiltIn.TheVariants.{Date, Jsonb};
-ghost use Rattle.pg_base.specs.Lists.{member_of};
+ghost use Rattle.pg_base.specs.ArrayTypes.{element_of};
 ghost use Rattle.pg_base.specs.Bits.{accepted_bits};
 ghost use Rattle.pg_types.specs.Content.{content, is_row};
 ghost use Rattle.pg_base.specs.Json.{accepted_json};
-ghost use Rattle.pg_base.specs.Moments.{accepted_moment};
+ghost use Rattle.pg_base.specs.Timestamps.{accepts_timestamps};
 ghost use Rattle.pg_base.specs.Texts.{accepted_text, has_version, is_named};
 
 use crate::types::{KindRef, PgType};
@@ -55,8 +55,8 @@ pub fn is_bits(ty: &PgType) -> bool
 /// Whether timestamps are read from cells of that type and written to them: TIMESTAMP and
 /// TIMESTAMPTZ.
 #[tactic(auto, using(pg_types::proofs::DerivedTypes::eq_content))]
-pub fn is_moment(ty: &PgType) -> bool
-    ensures { result ≡ accepted_moment (content ty.now) }
+pub fn is_timestamp(ty: &PgType) -> bool
+    ensures { result ≡ accepts_timestamps (content ty.now) }
 {
     *ty == PgType::TIMESTAMP || *ty == PgType::TIMESTAMPTZ
 }
@@ -86,11 +86,11 @@ pub fn is_jsonb(ty: &PgType) -> bool
 }
 
 /// The type of the elements, where that type is an array.
-pub fn member_type(ty: &PgType) -> Option<Cow<'_, PgType>>
-    ensures { option_map (λ member. content (cow_value member)) result ≡ member_of (content ty.now) }
+pub fn element_type(ty: &PgType) -> Option<Cow<'_, PgType>>
+    ensures { option_map (λ element. content (cow_value element)) result ≡ element_of (content ty.now) }
 {
     match ty.kind() {
-        KindRef::Array(member) => Some(member),
+        KindRef::Array(element) => Some(element),
         _ => None,
     }
 }

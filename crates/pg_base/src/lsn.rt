@@ -11,7 +11,7 @@ use std::str::FromStr;
 
 /// A position in the write-ahead log, which is a number of 64 bits.
 ///
-/// It is printed as its high and its low 32 bits in upper-case hexadecimal, without leading zeros
+/// It is displayed as its high and its low 32 bits in upper-case hexadecimal, without leading zeros
 /// and with `/` between, as by PostgreSQL's `pg_lsn_out`.
 #[derive(Clone, Copy, PartialEq, Eq, PartialOrd, Ord)]
 pub struct PgLsn(u64);

@@ -1,7 +1,9 @@
 //! Internet addresses with their netmasks, and MAC addresses.
 ghost use Rattle.std.specs.Prelude.{◌≡◌, ℕ, ◌==◌, List, not};
 ghost use Rattle.pg_types.specs.Faults.{Answers, NeverMemory};
-ghost use Rattle.pg_base.specs.Network.{Made, Network, NetmaskFits, NoHostBits, address_bits, address_octets, first_fault_netmask, first_fault_network, host_part, with_netmask};
+ghost use Rattle.pg_base.specs.Network.{NetworkOrFault, Network, NetmaskFits, NoHostBits, address_bits};
+ghost use Rattle.pg_base.specs.Network.{address_octets, first_fault_netmask, first_fault_network, host_part};
+ghost use Rattle.pg_base.specs.Network.{with_netmask};
 
 pub mod laws;
 
@@ -41,7 +43,8 @@ impl IpInet {
     /// The address with a netmask of `len` bits, which is refused with `Netmask` where the address
     /// has fewer: 32 in IPv4, 128 in IPv6.
     pub fn new(addr: IpAddr, len: u8) -> Result<IpInet, Fault>
-        ensures outcome { Answers (Made (with_netmask addr len) (first_fault_netmask (with_netmask addr len))) result }
+        ensures outcome { Answers (NetworkOrFault (with_netmask addr len)
+            (first_fault_netmask (with_netmask addr len))) result }
         ensures never_memory { NeverMemory result }
     {
         if len > address_bits(addr) {
@@ -88,7 +91,8 @@ impl IpCidr {
     /// where the address has fewer bits, 32 in IPv4 and 128 in IPv6, and then with `HostBits` where
     /// a bit of the address after the first `len` is 1.
     pub fn new(addr: IpAddr, len: u8) -> Result<IpCidr, Fault>
-        ensures outcome { Answers (Made (with_netmask addr len) (first_fault_network (with_netmask addr len))) result }
+        ensures outcome { Answers (NetworkOrFault (with_netmask addr len)
+            (first_fault_network (with_netmask addr len))) result }
         ensures never_memory { NeverMemory result }
     {
         let first = IpInet::new(addr, len)?;

@@ -12,12 +12,12 @@ mod civil;
 mod counts;
 mod frames;
 mod hstore;
-mod identifiers;
 mod lsn;
-mod moments;
 mod network;
 mod numbers;
 mod texts;
+mod timestamps;
+mod uuids;
 
 pub use arrays::{ArrayCells, array_from_sql, array_to_sql};
 pub(crate) use bits::without_pad;
@@ -26,10 +26,8 @@ pub use bytea::{bytea_from_sql, bytea_to_sql};
 pub use civil::{date_from_sql, date_to_sql, time_from_sql, time_to_sql};
 pub use frames::{MAX_LEN, frame_to_sql};
 pub use hstore::{HstoreEntries, hstore_from_sql, hstore_to_sql};
-pub use identifiers::{macaddr_from_sql, macaddr_to_sql, uuid_from_sql, uuid_to_sql};
 pub use lsn::{lsn_from_sql, lsn_to_sql};
-pub use moments::{timestamp_from_sql, timestamp_to_sql};
-pub use network::{Inet, inet_from_sql, inet_to_sql};
+pub use network::{Inet, inet_from_sql, inet_to_sql, macaddr_from_sql, macaddr_to_sql};
 pub use numbers::{
     bool_from_sql, bool_to_sql, char_from_sql, char_to_sql, int2_from_sql, int2_to_sql,
     int4_from_sql, int4_to_sql, int8_from_sql, int8_to_sql, oid_from_sql, oid_to_sql,
@@ -38,3 +36,5 @@ pub use texts::{
     lquery_from_sql, lquery_to_sql, ltree_from_sql, ltree_to_sql, ltxtquery_from_sql,
     ltxtquery_to_sql, text_from_sql, text_to_sql,
 };
+pub use timestamps::{timestamp_from_sql, timestamp_to_sql};
+pub use uuids::{uuid_from_sql, uuid_to_sql};

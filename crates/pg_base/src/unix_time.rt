@@ -18,7 +18,7 @@ pub struct UnixTime {
 }
 
 impl UnixTime {
-    ghost use Rattle.pg_base.specs.Moments.{IsAfterBase, nanos_of, cut_micros};
+    ghost use Rattle.pg_base.specs.Timestamps.{IsAfterBase, nanos_of, whole_micros};
     ghost use Rattle.pg_base.specs.Numbers.{fits_signed};
 
     /// The timestamp `nanos` nanoseconds after second `secs`; `None` where `nanos` is 1,000,000,000
@@ -60,8 +60,8 @@ impl UnixTime {
     /// The microseconds from 2000-01-01 00:00:00 UTC to the timestamp, truncated toward 2000 on
     /// both sides; `None` where an `i64` does not hold them.
     pub fn to_postgres_micros(&self) -> Option<i64>
-        ensures { MatchOption result (fits_signed w64 (cut_micros (nanos_of self.now)) ≡ false)
-            (λ micros. micros ≡ cut_micros (nanos_of self.now)) }
+        ensures { MatchOption result (fits_signed w64 (whole_micros (nanos_of self.now)) ≡ false)
+            (λ micros. micros ≡ whole_micros (nanos_of self.now)) }
     {
         let secs = i128::from(self.secs) - i128::from(POSTGRES_EPOCH_SECS);
         let nanos = secs * 1_000_000_000 + i128::from(self.nanos);

@@ -6,18 +6,18 @@ use Rattle.std.proofs.lemmas.List.{take-append-drop, take_all}
 use Rattle.std.proofs.lemmas.Option.{slice_get_read}
 use Rattle.std.proofs.lemmas.Slice.Zip.{get_or-zip, length-zip}
 use Rattle.pg_base.specs.Appending.{Wire}
-use Rattle.pg_base.specs.Cells.{Cell, frame, frames, joined}
+use Rattle.pg_base.specs.Cells.{Cell, frame, frames, concat}
 use Rattle.pg_types.specs.Faults.{Outcome}
 use Rattle.pg_types.specs.declared.fault.Fault.{Fault}
 use Rattle.pg_base.proofs.FrameLists.{frames-append}
-use Rattle.pg_base.proofs.Joined.{joined-nil}
+use Rattle.pg_base.proofs.Concat.{concat-nil}
 use Rattle.pg_write.proofs.ElementCells.{next_cell}
-use Rattle.pg_write.specs.ListWriting.{element_cells, framed, with_frame}
+use Rattle.pg_write.specs.ArrayWriting.{element_cells, element_frame_cell, with_frame}
 use Rattle.pg_params.specs.ParamWriting.{AppendsFrame, Binds}
 
 -- one frame more
 next_frame : (cs : List Cell) (c : Cell) (bs b : List ℕ) → frames cs ≡ Some bs → frame c ≡ Some b → frames (cs ++ c ∷ []) ≡ Some (bs ++ b)
-next_frame cs c bs b so_far next = frames-append cs (c ∷ []) ∙ ap (joined (frames cs)) (joined-nil (frame c)) ∙ rw (so_far, next) refl
+next_frame cs c bs b so_far next = frames-append cs (c ∷ []) ∙ ap (concat (frames cs)) (concat-nil (frame c)) ∙ rw (so_far, next) refl
 
 is_ok : {A : Type 0} (r : Outcome A) (a : A) → r ≡ Ok a → IsOk r
 is_ok (Ok x) a e = refl
@@ -42,7 +42,7 @@ module _ {A B : Type 0} (f : A × B → Wire) (xs : List A) (ys : List B) (same 
     -- one more parameter was appended
     pub next_param : {u : ⊤} (old mid new : List ℕ) → Binds f (take i (zip xs ys)) old mid (Ok u) → AppendsFrame (f here) mid new (Ok u) → Binds f (take (i + 1) (zip xs ys)) old new (Ok u)
     next_param old mid new (cs, bs, cells, all, was) (c, b, cell, one, is) =
-        let has : framed (f here) ≡ Ok c = ap framed cell ∙ ap (with_frame c) one in (
+        let has : element_frame_cell (f here) ≡ Ok c = ap element_frame_cell cell ∙ ap (with_frame c) one in (
           cs ++ c ∷ [],
           bs ++ b,
           next_cell f (zip xs ys) i here within stands cs c cells has,

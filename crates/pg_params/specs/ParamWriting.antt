@@ -5,14 +5,14 @@ use Rattle.pg_base.specs.Cells.{Cell, frame, frames}
 use Rattle.pg_types.specs.Faults.{refusal_of}
 use Rattle.pg_types.specs.declared.fault.Fault.{Fault}
 use Rattle.pg_types.specs.declared.fault.Fault.TheVariants.{Transmit}
-use Rattle.pg_write.specs.ListWriting.{element_cells, framed}
+use Rattle.pg_write.specs.ArrayWriting.{element_cells, element_frame_cell}
 
--- the frame of the cell was appended; or there is none, and the old bytes stand in front of what was written of it
+-- the frame of the cell was appended; or there is none, and what was written of it follows the old bytes
 abbrev pub AppendsFrame : Wire → List ℕ → List ℕ → Result ⊤ Fault → Type 0
 AppendsFrame w old new (Ok done) = (c : Cell) × (b : List ℕ) × (w ≡ Ok c) × (frame c ≡ Some b) × (new ≡ old ++ b)
-AppendsFrame w old new (Err f) = (take (length old) new ≡ old) × IfSome (refusal_of f) (λ r. framed w ≡ Err r)
+AppendsFrame w old new (Err f) = (take (length old) new ≡ old) × IfSome (refusal_of f) (λ r. element_frame_cell w ≡ Err r)
 
--- what stands four bytes after the place n was framed from there on; or it has no frame
+-- what stands four bytes after the place n got its length at n; or it has no frame
 abbrev pub FramesFrom : ℕ → List ℕ → List ℕ → Result ⊤ Fault → Type 0
 FramesFrom n old new (Ok done) = (b : List ℕ) × (frame (Some (drop (n + 4) old)) ≡ Some b) × (new ≡ take n old ++ b)
 FramesFrom n old new (Err f) = (new ≡ old) × (f ≡ Transmit) × (frame (Some (drop (n + 4) old)) ≡ None)
@@ -22,4 +22,4 @@ FramesFrom n old new (Err f) = (new ≡ old) × (f ≡ Transmit) × (frame (Some
 abbrev pub Binds : {A : Type 0} → (A → Wire) → List A → List ℕ → List ℕ → Result ⊤ (ℕ × Fault) → Type 0
 Binds wire vs old new (Ok done) = (cs : List Cell) × (b : List ℕ) × (element_cells wire vs ≡ Ok cs) × (frames cs ≡ Some b) × (new ≡ old ++ b)
 Binds {A} wire vs old new (Err (p, f)) =
-    (new ≡ old) × IsOk (element_cells wire (take p vs)) × ((v : A) × (slice_get vs p ≡ Some v) × IfSome (refusal_of f) (λ r. framed (wire v) ≡ Err r))
+    (new ≡ old) × IsOk (element_cells wire (take p vs)) × ((v : A) × (slice_get vs p ≡ Some v) × IfSome (refusal_of f) (λ r. element_frame_cell (wire v) ≡ Err r))

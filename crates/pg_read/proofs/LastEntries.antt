@@ -15,11 +15,11 @@ last_value-push : (q : List ℕ) (es : List Entry) (e : Entry) → last_value q 
 last_value-push q [] e = refl
 last_value-push q (x ∷ es) e = ap (or_this q x) (last_value-push q es e) ∙ push_or (bytes_eq e.0 q) q x e.1 (last_value q es)
 
-seen_or : (b : Bool) (v : Option (String Global)) (rest : Option (Option (String Global))) (u : Cell) (old : Option Cell) → option_map string_bytes v ≡ u
+view_or : (b : Bool) (v : Option (String Global)) (rest : Option (Option (String Global))) (u : Cell) (old : Option Cell) → option_map string_bytes v ≡ u
     → option_map (λ o. option_map string_bytes o) rest ≡ old
     → option_map (λ o. option_map string_bytes o) (cond b (Some v) rest) ≡ (if b then Some u else old)
-seen_or true v rest u old e f = ap Some e
-seen_or false v rest u old e f = f
+view_or true v rest u old e f = ap Some e
+view_or false v rest u old e f = f
 
 -- one more entry is put in
 pub put_in : {S : Type 0} (m n : HashMap (String Global) (Option (String Global)) S) (es : List Entry) (e : Entry) (k : List ℕ) (v : Option (String Global))
@@ -28,5 +28,5 @@ pub put_in : {S : Type 0} (m n : HashMap (String Global) (Option (String Global)
 put_in m n es e k v before puts key value q =
     ap (option_map (λ o. option_map string_bytes o)) (puts q)
     ∙ ap (λ (b : List ℕ). option_map (λ o. option_map string_bytes o) (cond (bytes_eq b q) (Some v) (get_by_text m q))) key
-    ∙ seen_or (bytes_eq e.0 q) v (get_by_text m q) e.1 (last_value q es) value (before q)
+    ∙ view_or (bytes_eq e.0 q) v (get_by_text m q) e.1 (last_value q es) value (before q)
     ∙ sym (last_value-push q es e)

@@ -1,6 +1,6 @@
-mod ArraySteps
+mod ArrayCellSteps
+mod FixedSizeSteps
 mod LastEntries
-mod ListSteps
 mod Refusals
 mod RunFrames
 mod RunSteps

@@ -4,9 +4,9 @@ use Rattle.pg_base.proofs.CellLaws.{cells_single, frames_in_row}
 use Rattle.pg_base.specs.Cells.{Cell, CellsInRow}
 use Rattle.pg_types.specs.Faults.{Refusal, Outcome, refusal_of}
 use Rattle.pg_types.specs.declared.fault.Fault.{Fault}
-use Rattle.pg_read.proofs.ListSteps.{fault_more, fault_stays}
-use Rattle.pg_read.specs.ListLaws.{all_single}
-use Rattle.pg_read.specs.ListReading.{ReadsAll}
+use Rattle.pg_read.proofs.ArrayCellSteps.{fault_more, fault_stays}
+use Rattle.pg_read.specs.ArrayReadingLaws.{all_single}
+use Rattle.pg_read.specs.ArrayReading.{ReadsAll}
 use Rattle.pg_read.specs.Reading.{ReadsSingle}
 use Rattle.pg_read.specs.RunReading.{AnswersValues, ReadsFrames, ReadsRun, RunEnds, RunStops}
 

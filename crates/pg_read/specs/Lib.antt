@@ -1,8 +1,8 @@
 -- The words of reading.
+pub mod ArrayReading
+pub mod ArrayReadingLaws
 pub mod BoxReading
-pub mod Framed
-pub mod ListLaws
-pub mod ListReading
+pub mod FrameReading
 pub mod OptionReading
 pub mod Reading
 pub mod ReadingLaws

@@ -94,13 +94,13 @@ module _ {A : Type 0} (w : Width) (same : A → A → Type 0) (reads : Cell → 
     | inr y ↦ elim k [ inl z ↦ absurd (z.0 y.0.width) | inr z ↦ single (Some b) (Err r) (Err s) y.1 z.1 ]
   ]
 
-  one_decoded : {B : Type 0} (seen : B → Special A) → GivesSingle (λ s t. SameSpecial same (seen s) (seen t)) (DecodesSpecial w seen (reads (Some b)) b)
-  one_decoded seen (Ok s) (Ok t) h k = one_form (seen s) (seen t) h k
-  one_decoded seen (Ok s) (Err f) h k = form_or_refused (seen s) f h k
-  one_decoded seen (Err r) (Ok t) h k = form_or_refused (seen t) r k h
-  one_decoded seen (Err r) (Err f) h k = one_refusal r f h k
+  one_decoded : {B : Type 0} (view : B → Special A) → GivesSingle (λ s t. SameSpecial same (view s) (view t)) (DecodesSpecial w view (reads (Some b)) b)
+  one_decoded view (Ok s) (Ok t) h k = one_form (view s) (view t) h k
+  one_decoded view (Ok s) (Err f) h k = form_or_refused (view s) f h k
+  one_decoded view (Err r) (Ok t) h k = form_or_refused (view t) r k h
+  one_decoded view (Err r) (Err f) h k = one_refusal r f h k
 
 -- one outcome inside gives one outcome of the values with infinities
-pub special_single : {A B : Type 0} (w : Width) (seen : B → Special A) (same : A → A → Type 0) (reads : Cell → Outcome A → Type 0) → ReadsSingle same reads → ReadsSingle (λ s t. SameSpecial same (seen s) (seen t)) (ReadsSpecial w seen reads)
-special_single w seen same reads single =
-    not_null_single (λ s t. SameSpecial same (seen s) (seen t)) (λ b. DecodesSpecial w seen (reads (Some b)) b) (λ b. one_decoded w same reads single b seen)
+pub special_single : {A B : Type 0} (w : Width) (view : B → Special A) (same : A → A → Type 0) (reads : Cell → Outcome A → Type 0) → ReadsSingle same reads → ReadsSingle (λ s t. SameSpecial same (view s) (view t)) (ReadsSpecial w view reads)
+special_single w view same reads single =
+    not_null_single (λ s t. SameSpecial same (view s) (view t)) (λ b. DecodesSpecial w view (reads (Some b)) b) (λ b. one_decoded w same reads single b view)

@@ -4,8 +4,8 @@ use Rattle.pg_base.specs.Cells.{Cell, SpellsAll, CellsInRow, frames}
 use Rattle.pg_types.specs.Faults.{Refusal, Outcome, refusal_of, size}
 use Rattle.pg_base.specs.Sameness.{SameList}
 use Rattle.pg_types.specs.declared.fault.Fault.{Fault}
-use Rattle.pg_read.specs.Framed.{after_cut}
-use Rattle.pg_read.specs.ListReading.{ReadsAll}
+use Rattle.pg_read.specs.FrameReading.{after_truncated}
+use Rattle.pg_read.specs.ArrayReading.{ReadsAll}
 
 -- the slice stands after the first cells of the row, which are ds
 abbrev pub StandsAfter : List ℕ → List Cell → List Cell → List ℕ → Type 0
@@ -17,18 +17,18 @@ StopsRefused {A} reads old cs r new =
     (ds : List Cell) × (c : Cell) × (vs : List A) × ReadsAll reads ds (Ok vs) × reads c (Err r) × StandsAfter old cs (ds ++ c ∷ []) new
 
 -- every cell that is there gives a value, and they are fewer than n: it is Size, and the slice stands where the truncated cell after them leaves it
-abbrev pub StopsCut : {A : Type 0} → (Cell → Outcome A → Type 0) → ℕ → List Cell → List ℕ → Refusal → List ℕ → Type 0
-StopsCut {A} reads n cs rest r new = (vs : List A) × ReadsAll reads cs (Ok vs) × (length cs < n) × (r ≡ size) × (new ≡ after_cut rest)
+abbrev pub StopsTruncated : {A : Type 0} → (Cell → Outcome A → Type 0) → ℕ → List Cell → List ℕ → Refusal → List ℕ → Type 0
+StopsTruncated {A} reads n cs rest r new = (vs : List A) × ReadsAll reads cs (Ok vs) × (length cs < n) × (r ≡ size) × (new ≡ after_truncated rest)
 
 -- memory runs out: the slice stands after first cells that each give a value, or after one more, whose value was not kept
-abbrev pub StopsUnkept : {A : Type 0} → (Cell → Outcome A → Type 0) → List ℕ → List Cell → List ℕ → Type 0
-StopsUnkept {A} reads old cs new =
+abbrev pub StopsOutOfMemory : {A : Type 0} → (Cell → Outcome A → Type 0) → List ℕ → List Cell → List ℕ → Type 0
+StopsOutOfMemory {A} reads old cs new =
     (ds : List Cell) × (vs : List A) × ReadsAll reads ds (Ok vs) × (StandsAfter old cs ds new ⊎ ((c : Cell) × StandsAfter old cs (ds ++ c ∷ []) new))
 
 -- with which fault n cells are not read, and where the slice stands
 abbrev pub RunStops : {A : Type 0} → (Cell → Outcome A → Type 0) → List ℕ → ℕ → List Cell → List ℕ → Option Refusal → List ℕ → Type 0
-RunStops reads old n cs rest None new = StopsUnkept reads old cs new
-RunStops reads old n cs rest (Some r) new = StopsRefused reads old cs r new ⊎ StopsCut reads n cs rest r new
+RunStops reads old n cs rest None new = StopsOutOfMemory reads old cs new
+RunStops reads old n cs rest (Some r) new = StopsRefused reads old cs r new ⊎ StopsTruncated reads n cs rest r new
 
 -- what n cells in a row are read as: the values of all of them, and the slice stands after them, or they stop
 abbrev pub RunEnds : {A X : Type 0} → (X → List A) → (Cell → Outcome A → Type 0) → List ℕ → ℕ → List Cell → List ℕ → Result X Fault → List ℕ → Type 0

@@ -1,48 +1,56 @@
-//! Reading arrays of a length that the type states.
-ghost use Rattle.std.specs.Prelude.{Some, IsTrue};
-ghost use Rattle.pg_base.specs.Lists.{accepted_list, member_of};
+//! Reading arrays.
+ghost use Rattle.std.specs.Prelude.{◌≡◌, Some, IsTrue};
+ghost use Rattle.std.specs.Box.{boxed_slice_items};
+ghost use Rattle.pg_base.specs.ArrayTypes.{accepted_list, element_of};
 ghost use Rattle.pg_types.specs.Content.{content};
 ghost use Rattle.pg_types.specs.Faults.{Answers};
 ghost use Rattle.pg_base.proofs.SamenessLaws.{list_equivalence};
 ghost use Rattle.pg_base.specs.Sameness.{SameList};
-ghost use Rattle.pg_read.specs.ListLaws.{fixed_single, members_single};
-ghost use Rattle.pg_read.specs.ListReading.{ReadsArray, ReadsFixed, ReadsMembers};
+ghost use Rattle.pg_read.specs.ArrayReadingLaws.{list_single, by_elements_single};
+ghost use Rattle.pg_read.specs.ArrayReading.{ReadsList, ReadsByElement};
 ghost use Rattle.pg_read.specs.Reading.{NullAlone};
 
+mod fixed_size;
+
 use crate::from_sql::{FromSql, from_sql_nullable};
-use crate::lists::accepts_list;
-use pg_base::acceptance::member_type;
+use pg_base::acceptance::element_type;
 use pg_base::fault::Fault;
 use pg_base::protocol::array_from_sql;
 use pg_base::types::PgType;
 use std::alloc::Global;
+use std::boxed::BoxedSlice;
 
-/// An array of a type that `T` accepts, of `N` elements, read as for `Vec<T>`; elements after the
-/// first `N` are not read. Where `N` were read, a further element that is truncated is `Size`, and
-/// one that is whole `Excess` with `N`. Where fewer are stated, bytes after the last are `Size`,
-/// and otherwise it is `TooFew` with `N` and the number that was stated. NULL is `WasNull`.
-impl<'a, T: FromSql<'a>, const N: usize> FromSql<'a> for [T; N] {
-    ghost same = { SameList T.same };
+/// An array of a type that `T` accepts (`array_recv`), of one dimension or none: its elements, in
+/// order, of which every negative length is NULL. The flags, the OID of the elements' type and the
+/// lower bound are not looked at.
+///
+/// The head's checks come first: where it is truncated it is `Size`, a negative number of
+/// dimensions or elements is `Count`, and more than 1 dimension `Dimensions`. Then the first
+/// element that is truncated is `Size`, or the first that `T` refuses gives `T`'s fault, whichever
+/// stands first. Bytes after the last element are `Size`. NULL is `WasNull`.
+impl<'a, T: FromSql<'a>> FromSql<'a> for Vec<T> {
+    ghost same = { λ v w. SameList T.same v.items w.items };
 
     ghost accepted = { accepted_list T.accepted };
 
-    ghost reads = { λ ty. ReadsMembers (λ member. ReadsArray (λ vs. vs) (ReadsFixed N (T.reads member))) (member_of ty) };
+    ghost reads = { λ ty. ReadsByElement (λ element. ReadsList (λ v. v.items) (T.reads element)) (element_of ty) };
 
     ghost memory_free = { NullAlone };
 
-    ghost equivalence = { list_equivalence T.same T.equivalence (λ vs. vs) };
+    ghost equivalence = { list_equivalence T.same T.equivalence (λ v. v.items) };
 
-    ghost single = { λ ty ok. members_single (SameList T.same) T.accepted (λ member. ReadsArray (λ vs. vs) (ReadsFixed N (T.reads member)))
-        (λ member inside. fixed_single (λ vs. vs) N T.same (T.reads member) (T.single member inside)) ty ok };
+    ghost single = { λ ty ok. by_elements_single (λ v w. SameList T.same v.items w.items) T.accepted
+        (λ element. ReadsList (λ v. v.items) (T.reads element))
+        (λ element inside. list_single (λ v. v.items) T.same (T.reads element) (T.single element inside)) ty ok };
 
-    fn from_sql(alloc: Global, ty: &PgType, raw: &'a [u8]) -> Result<[T; N], Fault> {
-        match member_type(ty) {
-            Some(member) => read_array(alloc, &member, raw),
+    fn from_sql(alloc: Global, ty: &PgType, raw: &'a [u8]) -> Result<Vec<T>, Fault> {
+        match element_type(ty) {
+            Some(element) => read_list(alloc, &element, raw),
             None => unreachable!(),
         }
     }
 
-    fn from_sql_null(_alloc: Global, _ty: &PgType) -> Result<[T; N], Fault> {
+    fn from_sql_null(_alloc: Global, _ty: &PgType) -> Result<Vec<T>, Fault> {
         Err(Fault::WasNull)
     }
 
@@ -51,30 +59,64 @@ impl<'a, T: FromSql<'a>, const N: usize> FromSql<'a> for [T; N] {
     }
 }
 
-/// Reads `N` elements of an array, which are of the type `member`.
-fn read_array<'a, T: FromSql<'a>, const N: usize>(
+/// An array of a type that `T` accepts, read as for `Vec<T>`. NULL is `WasNull`.
+impl<'a, T: FromSql<'a>> FromSql<'a> for BoxedSlice<T> {
+    ghost same = { λ v w. SameList T.same (boxed_slice_items v) (boxed_slice_items w) };
+
+    ghost accepted = { accepted_list T.accepted };
+
+    ghost reads = { λ ty. ReadsByElement (λ element. ReadsList boxed_slice_items (T.reads element)) (element_of ty) };
+
+    ghost memory_free = { NullAlone };
+
+    ghost equivalence = { list_equivalence T.same T.equivalence boxed_slice_items };
+
+    ghost single = { λ ty ok. by_elements_single (λ v w. SameList T.same (boxed_slice_items v) (boxed_slice_items w))
+        T.accepted (λ element. ReadsList boxed_slice_items (T.reads element))
+        (λ element inside. list_single boxed_slice_items T.same (T.reads element) (T.single element inside)) ty ok };
+
+    fn from_sql(alloc: Global, ty: &PgType, raw: &'a [u8]) -> Result<BoxedSlice<T>, Fault> {
+        match Vec::from_sql(alloc, ty, raw) {
+            Ok(values) => Ok(values.into_boxed_slice()),
+            Err(fault) => Err(fault),
+        }
+    }
+
+    fn from_sql_null(_alloc: Global, _ty: &PgType) -> Result<BoxedSlice<T>, Fault> {
+        Err(Fault::WasNull)
+    }
+
+    fn accepts(ty: &PgType) -> bool {
+        accepts_list::<T>(ty)
+    }
+}
+
+/// Whether the type is an array of a type that `T` accepts.
+pub(crate) fn accepts_list<'a, T: FromSql<'a>>(ty: &PgType) -> bool
+    ensures { result ≡ accepted_list T.accepted (content ty.now) }
+{
+    match element_type(ty) {
+        Some(element) => T::accepts(&element),
+        None => false,
+    }
+}
+
+/// Reads the elements of an array, which are of the type `element`. The list grows as they come,
+/// since a head may state more than the cell has.
+fn read_list<'a, T: FromSql<'a>>(
     alloc: Global,
-    member: &PgType,
+    element: &PgType,
     raw: &'a [u8],
-) -> Result<[T; N], Fault>
-    requires { IsTrue (T.accepted (content member.now)) }
-    ensures { Answers (ReadsArray (λ vs. vs) (ReadsFixed N (T.reads (content member.now))) (Some raw.entry.now)) result }
+) -> Result<Vec<T>, Fault>
+    requires { IsTrue (T.accepted (content element.now)) }
+    ensures { Answers (ReadsList (λ v. v.items) (T.reads (content element.now)) (Some raw.entry.now)) result }
 {
     let mut cells = array_from_sql(alloc, raw)?;
     let mut values = Vec::new(alloc);
     while let Some(cell) = cells.next() {
         let cell = cell?;
-        if values.len() == N {
-            return Err(Fault::Excess { expected: N });
-        }
-        let value: T = from_sql_nullable(alloc, member, cell)?;
+        let value: T = from_sql_nullable(alloc, element, cell)?;
         values.push(value)?;
     }
-    match <[T; N]>::try_from(values) {
-        Ok(array) => Ok(array),
-        Err(values) => Err(Fault::TooFew {
-            expected: N,
-            got: values.len(),
-        }),
-    }
+    Ok(values)
 }

@@ -1,7 +1,7 @@
 //! Reading bytes.
 ghost use Rattle.std.specs.Prelude.{◌≡◌};
 ghost use Rattle.pg_types.specs.declared.types.built_in.BuiltIn.TheVariants.{Bytea};
-ghost use Rattle.pg_base.specs.Bytes.{FormBytes, ReadsBytes, first_fault_bytes};
+ghost use Rattle.pg_base.specs.Bytea.{FormBytes, ReadsBytes, first_fault_bytes};
 ghost use Rattle.pg_types.specs.Content.{content, is_row};
 ghost use Rattle.pg_base.proofs.FormatLaws.{bytes_grammar};
 ghost use Rattle.pg_base.proofs.SamenessLaws.{content_equivalence};
@@ -26,7 +26,8 @@ impl<'a> FromSql<'a> for &'a [u8] {
 
     ghost equivalence = { content_equivalence (λ s. s.now) };
 
-    ghost single = { λ _ _. plain_single (λ s t. s.now ≡ t.now) (FormBytes (λ s. s.now)) first_fault_bytes (bytes_grammar (λ s. s.now)) };
+    ghost single = { λ _ _. plain_single (λ s t. s.now ≡ t.now) (FormBytes (λ s. s.now)) first_fault_bytes
+        (bytes_grammar (λ s. s.now)) };
 
     fn from_sql(_alloc: Global, _ty: &PgType, raw: &'a [u8]) -> Result<&'a [u8], Fault> {
         Ok(bytea_from_sql(raw))
@@ -56,7 +57,8 @@ impl<'a> FromSql<'a> for Vec<u8> {
 
     ghost equivalence = { content_equivalence (λ s. s.items) };
 
-    ghost single = { λ _ _. plain_single (λ s t. s.items ≡ t.items) (FormBytes (λ s. s.items)) first_fault_bytes (bytes_grammar (λ s. s.items)) };
+    ghost single = { λ _ _. plain_single (λ s t. s.items ≡ t.items) (FormBytes (λ s. s.items)) first_fault_bytes
+        (bytes_grammar (λ s. s.items)) };
 
     fn from_sql(alloc: Global, _ty: &PgType, raw: &'a [u8]) -> Result<Vec<u8>, Fault> {
         Ok(Vec::from_slice(alloc, bytea_from_sql(raw))?)

@@ -2,13 +2,19 @@
 ghost use Rattle.std.specs.Prelude.{◌≡◌, pos};
 ghost use Rattle.std.specs.Int.{w32, w64};
 ghost use Rattle.jiff.specs.Words.{civil_nanos, epoch_day, time_nanos};
-ghost use Rattle.pg_base.specs.Civil.{CountGives, FormCount, IsAfterMidnight, IsDayOf, ReadsDate, ReadsDateTime, ReadsInstant, ReadsTime, first_civil, first_day, first_fault_count, first_instant, instant_nanos, last_civil, last_day, last_instant, last_micros};
+ghost use Rattle.pg_base.specs.Civil.{CountGives, FormCount, IsAfterMidnight, IsDayOf, ReadsDate};
+ghost use Rattle.pg_base.specs.Civil.{ReadsDateTime, ReadsInstant, ReadsTime, first_civil, first_day};
+ghost use Rattle.pg_base.specs.Civil.{first_fault_count, first_instant, instant_nanos, last_civil, last_day};
+ghost use Rattle.pg_base.specs.Civil.{last_instant, last_micros};
 ghost use Rattle.pg_base.proofs.CivilLaws.{date_grammar, datetime_grammar, instant_grammar, time_grammar};
 ghost use Rattle.pg_types.specs.Content.{is_row};
 ghost use Rattle.pg_types.specs.Faults.{Answers, NeverMemory};
-ghost use Rattle.pg_base.specs.Moments.{IsAfterBase};
+ghost use Rattle.pg_base.specs.Timestamps.{IsAfterBase};
 ghost use Rattle.pg_base.proofs.SamenessLaws.{content_equivalence};
-ghost use Rattle.pg_types.specs.declared.types.built_in.BuiltIn.TheVariants.{Date as DateRow, Time as TimeRow, Timestamp as TimestampRow, Timestamptz};
+ghost use Rattle.pg_types.specs.declared.types.built_in.BuiltIn.TheVariants.{Date as DateRow};
+ghost use Rattle.pg_types.specs.declared.types.built_in.BuiltIn.TheVariants.{Time as TimeRow};
+ghost use Rattle.pg_types.specs.declared.types.built_in.BuiltIn.TheVariants.{Timestamp as TimestampRow};
+ghost use Rattle.pg_types.specs.declared.types.built_in.BuiltIn.TheVariants.{Timestamptz};
 ghost use Rattle.pg_read.specs.Reading.{EveryCell};
 ghost use Rattle.pg_read.specs.ReadingLaws.{plain_single};
 
@@ -85,7 +91,8 @@ impl<'a> FromSql<'a> for Date {
 
     ghost equivalence = { content_equivalence epoch_day };
 
-    ghost single = { λ _ _. plain_single (λ v w. epoch_day v ≡ epoch_day w) (FormCount w32 first_day last_day IsDayOf) (first_fault_count w32 first_day last_day) date_grammar };
+    ghost single = { λ _ _. plain_single (λ v w. epoch_day v ≡ epoch_day w)
+        (FormCount w32 first_day last_day IsDayOf) (first_fault_count w32 first_day last_day) date_grammar };
 
     #[tactic(auto, using(pg_base::proofs::CivilLaws::answered_4))]
     fn from_sql(_alloc: Global, _ty: &PgType, raw: &'a [u8]) -> Result<Date, Fault> {
@@ -116,7 +123,8 @@ impl<'a> FromSql<'a> for Time {
 
     ghost equivalence = { content_equivalence time_nanos };
 
-    ghost single = { λ _ _. plain_single (λ v w. time_nanos v ≡ time_nanos w) (FormCount w64 (pos 0) last_micros IsAfterMidnight) (first_fault_count w64 (pos 0) last_micros) time_grammar };
+    ghost single = { λ _ _. plain_single (λ v w. time_nanos v ≡ time_nanos w)
+        (FormCount w64 (pos 0) last_micros IsAfterMidnight) (first_fault_count w64 (pos 0) last_micros) time_grammar };
 
     #[tactic(auto, using(pg_base::proofs::CivilLaws::answered_8))]
     fn from_sql(_alloc: Global, _ty: &PgType, raw: &'a [u8]) -> Result<Time, Fault> {
@@ -148,7 +156,9 @@ impl<'a> FromSql<'a> for DateTime {
 
     ghost equivalence = { content_equivalence civil_nanos };
 
-    ghost single = { λ _ _. plain_single (λ v w. civil_nanos v ≡ civil_nanos w) (FormCount w64 first_civil last_civil (IsAfterBase civil_nanos)) (first_fault_count w64 first_civil last_civil) datetime_grammar };
+    ghost single = { λ _ _. plain_single (λ v w. civil_nanos v ≡ civil_nanos w)
+        (FormCount w64 first_civil last_civil (IsAfterBase civil_nanos))
+        (first_fault_count w64 first_civil last_civil) datetime_grammar };
 
     #[tactic(auto, using(pg_base::proofs::CivilLaws::answered_8))]
     fn from_sql(_alloc: Global, _ty: &PgType, raw: &'a [u8]) -> Result<DateTime, Fault> {
@@ -180,7 +190,9 @@ impl<'a> FromSql<'a> for Timestamp {
 
     ghost equivalence = { content_equivalence instant_nanos };
 
-    ghost single = { λ _ _. plain_single (λ v w. instant_nanos v ≡ instant_nanos w) (FormCount w64 first_instant last_instant (IsAfterBase instant_nanos)) (first_fault_count w64 first_instant last_instant) instant_grammar };
+    ghost single = { λ _ _. plain_single (λ v w. instant_nanos v ≡ instant_nanos w)
+        (FormCount w64 first_instant last_instant (IsAfterBase instant_nanos))
+        (first_fault_count w64 first_instant last_instant) instant_grammar };
 
     #[tactic(auto, using(pg_base::proofs::CivilLaws::answered_8))]
     fn from_sql(_alloc: Global, _ty: &PgType, raw: &'a [u8]) -> Result<Timestamp, Fault> {

@@ -45,7 +45,7 @@ impl<'a, S: Default + BuildHasher + Drop> FromSql<'a> for HashMap<String, Option
         while let Some(entry) = entries.next() {
             let (key, value) = entry?;
             let key = String::from_str(alloc, key)?;
-            let value = copied(alloc, value)?;
+            let value = owned_copy(alloc, value)?;
             // An earlier value of the key gives way.
             drop(map.insert(key, value)?);
         }
@@ -65,7 +65,7 @@ impl<'a, S: Default + BuildHasher + Drop> FromSql<'a> for HashMap<String, Option
 }
 
 /// Copies a text, if there is one.
-fn copied(alloc: Global, text: Option<&str>) -> Result<Option<String>, Fault>
+fn owned_copy(alloc: Global, text: Option<&str>) -> Result<Option<String>, Fault>
     ensures copy { IfOk result (λ copy. option_map string_bytes copy ≡ cell_of text.entry) }
     ensures refused { IfErr result (λ fault. fault ≡ Memory) }
 {

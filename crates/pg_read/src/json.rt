@@ -35,7 +35,8 @@ impl<'a> FromSql<'a> for Value {
 
     ghost equivalence = { content_equivalence view };
 
-    ghost single = { λ ty _. plain_single (λ v w. view v ≡ view w) (FormJson view (is_row Jsonb ty)) (first_fault_json (is_row Jsonb ty)) (json_grammar view (is_row Jsonb ty)) };
+    ghost single = { λ ty _. plain_single (λ v w. view v ≡ view w) (FormJson view (is_row Jsonb ty))
+        (first_fault_json (is_row Jsonb ty)) (json_grammar view (is_row Jsonb ty)) };
 
     fn from_sql(alloc: Global, ty: &PgType, raw: &'a [u8]) -> Result<Value, Fault> {
         if is_jsonb(ty) {

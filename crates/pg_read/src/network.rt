@@ -1,8 +1,12 @@
-//! Reading Internet addresses.
+//! Reading Internet addresses and MAC addresses.
 ghost use Rattle.std.specs.Prelude.{◌≡◌};
-ghost use Rattle.pg_types.specs.declared.types.built_in.BuiltIn.TheVariants.{Cidr, Inet};
+ghost use Rattle.pg_types.specs.declared.types.built_in.BuiltIn.TheVariants.{Cidr, Inet, Macaddr};
 ghost use Rattle.pg_types.specs.Content.{is_row};
-ghost use Rattle.pg_base.specs.Network.{FormAddress, FormCidr, FormInet, ReadsAddress, ReadsCidr, ReadsInet, first_fault_cidr, first_fault_inet};
+ghost use Rattle.pg_base.specs.FixedBytes.{FormFixedBytes, ReadsFixedBytes};
+ghost use Rattle.pg_base.specs.Network.{FormAddress, FormCidr, FormInet, ReadsAddress, ReadsCidr, ReadsInet};
+ghost use Rattle.pg_base.specs.Network.{first_fault_cidr, first_fault_inet};
+ghost use Rattle.pg_base.specs.Numbers.{first_fault_number};
+ghost use Rattle.pg_base.proofs.FixedBytesLaws.{fixed_bytes_grammar};
 ghost use Rattle.pg_base.proofs.NetworkLaws.{address_grammar, cidr_grammar, inet_grammar};
 ghost use Rattle.pg_base.proofs.SamenessLaws.{equal_equivalence};
 ghost use Rattle.pg_read.specs.Reading.{EveryCell};
@@ -10,8 +14,8 @@ ghost use Rattle.pg_read.specs.ReadingLaws.{plain_single};
 
 use crate::from_sql::FromSql;
 use pg_base::fault::Fault;
-use pg_base::network::{IpCidr, IpInet};
-use pg_base::protocol::inet_from_sql;
+use pg_base::network::{IpCidr, IpInet, MacAddress};
+use pg_base::protocol::{inet_from_sql, macaddr_from_sql};
 use pg_base::types::PgType;
 use std::alloc::Global;
 use std::net::IpAddr;
@@ -104,5 +108,35 @@ impl<'a> FromSql<'a> for IpCidr {
     #[tactic(auto, using(pg_types::proofs::DerivedTypes::eq_content))]
     fn accepts(ty: &PgType) -> bool {
         *ty == PgType::CIDR
+    }
+}
+
+/// MACADDR: 6 bytes, in the order of its text (`macaddr_recv`). Any other length is
+/// `Size`, and NULL is `WasNull`.
+impl<'a> FromSql<'a> for MacAddress {
+    ghost same = { λ v w. v ≡ w };
+
+    ghost accepted = { is_row Macaddr };
+
+    ghost reads = { λ _. ReadsFixedBytes 6 };
+
+    ghost memory_free = { EveryCell };
+
+    ghost equivalence = { equal_equivalence };
+
+    ghost single = { λ _ _. plain_single (λ v w. v ≡ w) (FormFixedBytes 6) (first_fault_number 6)
+        (fixed_bytes_grammar 6) };
+
+    fn from_sql(_alloc: Global, _ty: &PgType, raw: &'a [u8]) -> Result<MacAddress, Fault> {
+        Ok(MacAddress::new(macaddr_from_sql(raw)?))
+    }
+
+    fn from_sql_null(_alloc: Global, _ty: &PgType) -> Result<MacAddress, Fault> {
+        Err(Fault::WasNull)
+    }
+
+    #[tactic(auto, using(pg_types::proofs::DerivedTypes::eq_content))]
+    fn accepts(ty: &PgType) -> bool {
+        *ty == PgType::MACADDR
     }
 }

@@ -1,9 +1,9 @@
 //! What conversions of rows and records are built from: framed cells, read from the front of a
 //! slice.
 ghost use Rattle.std.specs.Prelude.{◌<◌, ℕ, IsTrue, slice_index};
-ghost use Rattle.pg_base.specs.Cells.{FramesSingle, FramesInFrontSingle};
+ghost use Rattle.pg_base.specs.Cells.{FramesSingle, FramePrefixesSingle};
 ghost use Rattle.pg_types.specs.Content.{content};
-ghost use Rattle.pg_read.specs.Framed.{TakesNumber, TakesCell, ReadsFramed};
+ghost use Rattle.pg_read.specs.FrameReading.{TakesNumber, TakesCell, ReadsFrame};
 ghost use Rattle.pg_read.specs.RunReading.{ReadsRun, ReadsFrames};
 
 use crate::from_sql::{FromSql, from_sql_nullable};
@@ -58,7 +58,7 @@ pub fn read_value<'a, T: FromSql<'a>>(
     buf: &mut &'a [u8],
 ) -> Result<T, Fault>
     requires { IsTrue (T.accepted (content type_.now)) }
-    ensures { ReadsFramed (T.reads (content type_.now)) T.memory_free buf.old.now result buf.new.now }
+    ensures { ReadsFrame (T.reads (content type_.now)) T.memory_free buf.old.now result buf.new.now }
 {
     let raw = read_cell(buf)?;
     from_sql_nullable(alloc, type_, raw)
@@ -80,7 +80,7 @@ fn holds_bytes(bytes: &[u8])
 ///
 /// Frames determine their cells, and in front of other bytes they do where the number of cells is
 /// known; from the frames of `n` cells that each give a value these values are read.
-#[tactic(auto, using(pg_base::proofs::CellLaws::frames_single, pg_base::proofs::CellLaws::frames_in_front_single))]
+#[tactic(auto, using(pg_base::proofs::CellLaws::frames_single, pg_base::proofs::CellLaws::frame_prefixes_single))]
 pub fn read_values<'a, T: FromSql<'a>>(
     alloc: Global,
     type_: &PgType,
@@ -91,7 +91,7 @@ pub fn read_values<'a, T: FromSql<'a>>(
     ensures run { ReadsRun (λ v. v.items) (T.reads (content type_.now)) buf.old.now n result buf.new.now }
     ensures frames { ReadsFrames (λ v. v.items) T.same (T.reads (content type_.now)) buf.old.now n result buf.new.now }
     ensures frames_single { FramesSingle }
-    ensures frames_in_front_single { FramesInFrontSingle }
+    ensures frame_prefixes_single { FramePrefixesSingle }
 {
     holds_bytes(*buf);
     let mut values = Vec::new(alloc);

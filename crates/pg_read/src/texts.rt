@@ -46,7 +46,8 @@ impl<'a> FromSql<'a> for &'a str {
 
     ghost equivalence = { content_equivalence (λ s. s.now) };
 
-    ghost single = { λ ty _. plain_single (λ s t. s.now ≡ t.now) (FormText (λ s. s.now) (has_version ty)) (first_fault_text (has_version ty)) (text_grammar (λ s. s.now) (has_version ty)) };
+    ghost single = { λ ty _. plain_single (λ s t. s.now ≡ t.now) (FormText (λ s. s.now) (has_version ty))
+        (first_fault_text (has_version ty)) (text_grammar (λ s. s.now) (has_version ty)) };
 
     fn from_sql(_alloc: Global, ty: &PgType, raw: &'a [u8]) -> Result<&'a str, Fault> {
         text_of(ty, raw)
@@ -78,7 +79,9 @@ impl<'a> FromSql<'a> for CowStr<'a> {
 
     ghost equivalence = { content_equivalence cow_str_bytes };
 
-    ghost single = { λ ty _. plain_single (λ s t. cow_str_bytes s ≡ cow_str_bytes t) (FormText cow_str_bytes (has_version ty)) (first_fault_text (has_version ty)) (text_grammar cow_str_bytes (has_version ty)) };
+    ghost single = { λ ty _. plain_single (λ s t. cow_str_bytes s ≡ cow_str_bytes t)
+        (FormText cow_str_bytes (has_version ty)) (first_fault_text (has_version ty))
+        (text_grammar cow_str_bytes (has_version ty)) };
 
     fn from_sql(_alloc: Global, ty: &PgType, raw: &'a [u8]) -> Result<CowStr<'a>, Fault>
         ensures outcome { Answers (ReadsText cow_str_bytes (has_version (content ty.now)) (Some raw.now)) result }
@@ -114,7 +117,9 @@ impl<'a> FromSql<'a> for String {
 
     ghost equivalence = { content_equivalence string_bytes };
 
-    ghost single = { λ ty _. plain_single (λ s t. string_bytes s ≡ string_bytes t) (FormText string_bytes (has_version ty)) (first_fault_text (has_version ty)) (text_grammar string_bytes (has_version ty)) };
+    ghost single = { λ ty _. plain_single (λ s t. string_bytes s ≡ string_bytes t)
+        (FormText string_bytes (has_version ty)) (first_fault_text (has_version ty))
+        (text_grammar string_bytes (has_version ty)) };
 
     fn from_sql(alloc: Global, ty: &PgType, raw: &'a [u8]) -> Result<String, Fault> {
         Ok(String::from_str(alloc, text_of(ty, raw)?)?)
@@ -144,7 +149,9 @@ impl<'a> FromSql<'a> for BoxedStr {
 
     ghost equivalence = { content_equivalence boxed_str_bytes };
 
-    ghost single = { λ ty _. plain_single (λ s t. boxed_str_bytes s ≡ boxed_str_bytes t) (FormText boxed_str_bytes (has_version ty)) (first_fault_text (has_version ty)) (text_grammar boxed_str_bytes (has_version ty)) };
+    ghost single = { λ ty _. plain_single (λ s t. boxed_str_bytes s ≡ boxed_str_bytes t)
+        (FormText boxed_str_bytes (has_version ty)) (first_fault_text (has_version ty))
+        (text_grammar boxed_str_bytes (has_version ty)) };
 
     fn from_sql(alloc: Global, ty: &PgType, raw: &'a [u8]) -> Result<BoxedStr, Fault> {
         Ok(String::from_str(alloc, text_of(ty, raw)?)?.into_boxed_str())

@@ -9,7 +9,7 @@ use Rattle.pg_types.specs.declared.types.built_in.BuiltIn.{BuiltIn as Row}
 use Rattle.pg_types.specs.declared.types.built_in.BuiltIn.TheVariants.{Bool}
 use Rattle.pg_types.specs.BuiltInRows.{row_oid}
 use Rattle.pg_types.specs.Constants.{all_rows}
-use Rattle.pg_types.specs.Content.{Content, BuiltInType, MadeType, KindContent, SimpleKind, EnumKind, PseudoKind, ArrayKind, RangeKind, MultirangeKind, DomainKind, CompositeKind, FieldsContent, NoFields, FieldAnd, same_type, same_kind_content, same_fields}
+use Rattle.pg_types.specs.Content.{Content, BuiltInType, UserDefinedType, KindContent, SimpleKind, EnumKind, PseudoKind, ArrayKind, RangeKind, MultirangeKind, DomainKind, CompositeKind, FieldsContent, NoFields, FieldAnd, same_type, same_kind_content, same_fields}
 
 -- texts that the test finds the same are the same
 pub bytes-same : (m n : List ℕ) → pointwise ◌==◌ m n ≡ true → m ≡ n
@@ -61,7 +61,7 @@ mutual
   -- types that the test finds the same are the same
   pub type-same : (a b : Content) → same_type a b ≡ true → a ≡ b
   type-same (BuiltInType a) (BuiltInType b) h = ap BuiltInType (row-same a b h)
-  type-same (MadeType m i k s) (MadeType n j l t) h =
+  type-same (UserDefinedType m i k s) (UserDefinedType n j l t) h =
       let p = and_parts (pointwise ◌==◌ m n) (i == j && (same_kind_content k l && pointwise ◌==◌ s t)) h in
       let q = and_parts (i == j) (same_kind_content k l && pointwise ◌==◌ s t) p.1 in
       let r = and_parts (same_kind_content k l) (pointwise ◌==◌ s t) q.1 in
@@ -69,8 +69,8 @@ mutual
       let f = eqb-true i j q.0 in
       let g = kind-same k l r.0 in
       let w = bytes-same s t r.1 in cc
-  type-same (BuiltInType a) (MadeType n j l t) h = cc
-  type-same (MadeType m i k s) (BuiltInType b) h = cc
+  type-same (BuiltInType a) (UserDefinedType n j l t) h = cc
+  type-same (UserDefinedType m i k s) (BuiltInType b) h = cc
 
   -- the same of kinds
   pub kind-same : (a b : KindContent) → same_kind_content a b ≡ true → a ≡ b
@@ -110,7 +110,7 @@ mutual
   -- the test finds a type the same as itself
   pub type-self : (a : Content) → same_type a a ≡ true
   type-self (BuiltInType a) = eq-eqb (row_oid a) (row_oid a) refl
-  type-self (MadeType m i k s) = rw (bytes-self m, eq-eqb i i refl, kind-self k, bytes-self s) refl
+  type-self (UserDefinedType m i k s) = rw (bytes-self m, eq-eqb i i refl, kind-self k, bytes-self s) refl
 
   -- the same of a kind
   pub kind-self : (a : KindContent) → same_kind_content a a ≡ true

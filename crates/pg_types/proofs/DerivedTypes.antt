@@ -7,7 +7,7 @@ use Rattle.std.specs.Cow.{cow_value}
 use mathlib.Core.Former.{Count}
 use denote.Hole.Carrier as Carrier
 use Rattle.pg_types.specs.declared.types.PgType.{PgType}
-use Rattle.pg_types.specs.declared.types.Inner.{Inner, BuiltIn, Made'}
+use Rattle.pg_types.specs.declared.types.Inner.{Inner, BuiltIn, Other'}
 use Rattle.pg_types.specs.declared.types.kind.Field.{Field}
 use Rattle.pg_types.specs.declared.types.kind.KindRef.{KindRef}
 use Rattle.pg_types.specs.declared.types.kind.KindRef.TheVariants as view
@@ -19,7 +19,7 @@ use Rattle.pg_types.specs.contracts.types.kind.FieldPartialEq.TheImpl.{ghosts as
 use Rattle.pg_types.specs.contracts.types.kind.KindRefPartialEq.TheImpl.{ghosts as views}
 use Rattle.pg_types.specs.contracts.types.PgTypePartialEq.TheImpl.Laws as type_laws
 use Rattle.pg_types.specs.contracts.types.InnerPartialEq.TheImpl.Laws as inner_laws
-use Rattle.pg_types.specs.contracts.types.OtherPartialEq.TheImpl.Laws as made_laws
+use Rattle.pg_types.specs.contracts.types.OtherPartialEq.TheImpl.Laws as other_laws
 use Rattle.pg_types.specs.contracts.types.kind.KindPartialEq.TheImpl.Laws as kind_laws
 use Rattle.pg_types.specs.contracts.types.kind.FieldPartialEq.TheImpl.Laws as field_laws
 use Rattle.pg_types.specs.contracts.types.PgTypeHash.TheImpl.{ghosts as type_hashes}
@@ -31,7 +31,7 @@ use Rattle.pg_types.specs.contracts.types.kind.FieldHash.TheImpl.Laws as field_h
 use Rattle.pg_types.specs.contracts.types.kind.KindRefHash.TheImpl.{ghosts as view_hashes}
 use Rattle.pg_types.specs.contracts.types.kind.KindRefHash.TheImpl.Laws as view_hash_laws
 use Rattle.pg_types.specs.Content.{Content, SameField, content, field_name, field_type, fields_content, inner_content, kind_content, row_content, same_fields, same_kind_content, same_type}
-use Rattle.pg_types.specs.Seen.{seen}
+use Rattle.pg_types.specs.KindRefs.{kind_ref_view}
 use Rattle.pg_types.proofs.Contents.{bytes-same, bytes-self, eq-rows, kind-same, kind-self, type-same, type-self}
 
 -- lists of strings are compared by their texts
@@ -47,9 +47,9 @@ mutual
   -- == of the insides of two types
   eq-inner : (a b : Inner) → inners.eq a b ≡ same_type (inner_content a) (inner_content b)
   eq-inner (BuiltIn x) (BuiltIn y) = inner_laws.is (BuiltIn x) (BuiltIn y) ∙ eq-rows x y
-  eq-inner (Made' p n o k s) (Made' q m i l t) =
-      inner_laws.is (Made' p n o k s) (Made' q m i l t) ∙ made_laws.is (record { name = n; oid = o; kind = k; schema = s }) (record { name = m; oid = i; kind = l; schema = t }) ∙ ap (λ b. string_eq n m && (o == i && (b && string_eq s t))) (eq-kind k l)
-  eq-inner (BuiltIn x) (Made' q m i l t) = inner_laws.is (BuiltIn x) (Made' q m i l t)
+  eq-inner (Other' p n o k s) (Other' q m i l t) =
+      inner_laws.is (Other' p n o k s) (Other' q m i l t) ∙ other_laws.is (record { name = n; oid = o; kind = k; schema = s }) (record { name = m; oid = i; kind = l; schema = t }) ∙ ap (λ b. string_eq n m && (o == i && (b && string_eq s t))) (eq-kind k l)
+  eq-inner (BuiltIn x) (Other' q m i l t) = inner_laws.is (BuiltIn x) (Other' q m i l t)
   eq-inner a b = inner_laws.is a b
 
   -- == of two kinds
@@ -126,24 +126,24 @@ eq_lists (f ∷ fs) (g ∷ gs) =
     let h = eq_lists fs gs in cc
 
 -- what == of two views of kinds answers
-eq_seen : (a b : KindRef) → views.eq a b ≡ same_kind_content (seen a) (seen b)
-eq_seen view.Simple view.Simple = refl
-eq_seen (view.Enum z) (view.Enum y) = strings z.now y.now
-eq_seen view.Pseudo view.Pseudo = refl
-eq_seen (view.Array z) (view.Array y) = eq_content (cow_value z) (cow_value y)
-eq_seen (view.Range z) (view.Range y) = eq_content (cow_value z) (cow_value y)
-eq_seen (view.Multirange z) (view.Multirange y) = eq_content (cow_value z) (cow_value y)
-eq_seen (view.Domain z) (view.Domain y) = eq_content (cow_value z) (cow_value y)
-eq_seen (view.Composite z) (view.Composite y) = eq_lists z.now y.now
-eq_seen a b = refl
+eq_kind_ref_view : (a b : KindRef) → views.eq a b ≡ same_kind_content (kind_ref_view a) (kind_ref_view b)
+eq_kind_ref_view view.Simple view.Simple = refl
+eq_kind_ref_view (view.Enum z) (view.Enum y) = strings z.now y.now
+eq_kind_ref_view view.Pseudo view.Pseudo = refl
+eq_kind_ref_view (view.Array z) (view.Array y) = eq_content (cow_value z) (cow_value y)
+eq_kind_ref_view (view.Range z) (view.Range y) = eq_content (cow_value z) (cow_value y)
+eq_kind_ref_view (view.Multirange z) (view.Multirange y) = eq_content (cow_value z) (cow_value y)
+eq_kind_ref_view (view.Domain z) (view.Domain y) = eq_content (cow_value z) (cow_value y)
+eq_kind_ref_view (view.Composite z) (view.Composite y) = eq_lists z.now y.now
+eq_kind_ref_view a b = refl
 
 -- equal views stand for the same
-pub same_seen_from_eq : (a b : KindRef) → views.eq a b ≡ true → seen a ≡ seen b
-same_seen_from_eq a b h = kind-same _ _ (sym (eq_seen a b) ∙ h)
+pub kind_ref_from_eq : (a b : KindRef) → views.eq a b ≡ true → kind_ref_view a ≡ kind_ref_view b
+kind_ref_from_eq a b h = kind-same _ _ (sym (eq_kind_ref_view a b) ∙ h)
 
 -- views that stand for the same are equal
-pub eq_from_same_seen : (a b : KindRef) → seen a ≡ seen b → views.eq a b ≡ true
-eq_from_same_seen a b h = eq_seen a b ∙ ap (λ k. same_kind_content (seen a) k) (sym h) ∙ kind-self (seen a)
+pub eq_from_kind_ref : (a b : KindRef) → kind_ref_view a ≡ kind_ref_view b → views.eq a b ≡ true
+eq_from_kind_ref a b h = eq_kind_ref_view a b ∙ ap (λ k. same_kind_content (kind_ref_view a) k) (sym h) ∙ kind-self (kind_ref_view a)
 
 -- types that stand for the same are hashed alike
 pub hash_from_same : (a b : PgType) → content a ≡ content b → type_hashes.hash_input a ≡ type_hashes.hash_input b
@@ -158,5 +158,5 @@ pub hash_from_same_field : (a b : Field) → SameField a b → field_hashes.hash
 hash_from_same_field a b h = field_hash_laws.respects_eq-law a b (eq_from_same_field a b h)
 
 -- views that stand for the same are hashed alike
-pub hash_from_same_seen : (a b : KindRef) → seen a ≡ seen b → view_hashes.hash_input a ≡ view_hashes.hash_input b
-hash_from_same_seen a b h = view_hash_laws.respects_eq-law a b (eq_from_same_seen a b h)
+pub hash_from_same_kind_ref : (a b : KindRef) → kind_ref_view a ≡ kind_ref_view b → view_hashes.hash_input a ≡ view_hashes.hash_input b
+hash_from_same_kind_ref a b h = view_hash_laws.respects_eq-law a b (eq_from_kind_ref a b h)

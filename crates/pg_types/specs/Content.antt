@@ -4,16 +4,16 @@ use Rattle.std.specs.Option.{option_map_or}
 use Rattle.std.specs.Cmp.Lexicographic.{pointwise}
 use Rattle.pg_types.specs.declared.types.built_in.BuiltIn.{BuiltIn as Row}
 use Rattle.pg_types.specs.declared.types.PgType.{PgType}
-use Rattle.pg_types.specs.declared.types.Inner.{Inner, BuiltIn, Made'}
+use Rattle.pg_types.specs.declared.types.Inner.{Inner, BuiltIn, Other'}
 use Rattle.pg_types.specs.declared.types.kind.Field.{Field}
 use Rattle.pg_types.specs.declared.types.kind.Kind.{Kind, Simple, Enum, Pseudo, Array', Range', Multirange', Domain', Composite', Row_of-Field, end_of-Field, more_of-Field}
-use Rattle.pg_types.specs.BuiltInRows.{row_oid, row_name, row_member}
+use Rattle.pg_types.specs.BuiltInRows.{row_oid, row_name, row_element}
 
 mutual
   -- what a type is: a built-in one, or one of this name, OID, kind and schema
   pub data Content : Type 0 where
     BuiltInType : Row → Content
-    MadeType : List ℕ → ℕ → KindContent → List ℕ → Content
+    UserDefinedType : List ℕ → ℕ → KindContent → List ℕ → Content
 
   -- what a kind is
   pub data KindContent : Type 0 where
@@ -35,17 +35,17 @@ abbrev mutual
   -- what the inside of a type stands for
   pub inner_content : Inner → Content
   inner_content (BuiltIn row) = BuiltInType row
-  inner_content (Made' _ name oid kind schema) = MadeType (string_bytes name) oid (kind_content kind) (string_bytes schema)
+  inner_content (Other' _ name oid kind schema) = UserDefinedType (string_bytes name) oid (kind_content kind) (string_bytes schema)
 
   -- what a kind stands for
   pub kind_content : Kind → KindContent
   kind_content Simple = SimpleKind
   kind_content (Enum labels) = EnumKind (map string_bytes labels.items)
   kind_content Pseudo = PseudoKind
-  kind_content (Array' member) = ArrayKind (inner_content member)
-  kind_content (Range' member) = RangeKind (inner_content member)
-  kind_content (Multirange' member) = MultirangeKind (inner_content member)
-  kind_content (Domain' member) = DomainKind (inner_content member)
+  kind_content (Array' element) = ArrayKind (inner_content element)
+  kind_content (Range' element) = RangeKind (inner_content element)
+  kind_content (Multirange' element) = MultirangeKind (inner_content element)
+  kind_content (Domain' element) = DomainKind (inner_content element)
   kind_content (Composite' _ fields) = CompositeKind (row_content fields)
 
   -- what the fields that a composite kind holds stand for
@@ -66,7 +66,7 @@ abbrev mutual
   -- whether two types are the same: built-in ones by their OID, and user-defined ones by their parts
   pub same_type : Content → Content → Bool
   same_type (BuiltInType a) (BuiltInType b) = row_oid a == row_oid b
-  same_type (MadeType name oid kind schema) (MadeType name' oid' kind' schema') =
+  same_type (UserDefinedType name oid kind schema) (UserDefinedType name' oid' kind' schema') =
       pointwise ◌==◌ name name' && (oid == oid' && (same_kind_content kind kind' && pointwise ◌==◌ schema schema'))
   same_type _ _ = false
 
@@ -91,36 +91,36 @@ abbrev mutual
 
 -- the kind of a row: an array where it holds another row, and else a simple type
 abbrev pub row_kind : Row → KindContent
-row_kind row = option_map_or (λ member. ArrayKind (BuiltInType member)) (row_member row) SimpleKind
+row_kind row = option_map_or (λ element. ArrayKind (BuiltInType element)) (row_element row) SimpleKind
 
 -- the OID of a type
 abbrev pub oid_of : Content → ℕ
 oid_of (BuiltInType row) = row_oid row
-oid_of (MadeType _ oid _ _) = oid
+oid_of (UserDefinedType _ oid _ _) = oid
 
 -- the name of a type, without its schema
 abbrev pub name_of : Content → List ℕ
 name_of (BuiltInType row) = row_name row
-name_of (MadeType name _ _ _) = name
+name_of (UserDefinedType name _ _ _) = name
 
 -- the schema of a type
 abbrev pub schema_of : Content → List ℕ
 schema_of (BuiltInType _) = codes "pg_catalog"
-schema_of (MadeType _ _ _ schema) = schema
+schema_of (UserDefinedType _ _ _ schema) = schema
 
 -- the kind of a type
 abbrev pub kind_of : Content → KindContent
 kind_of (BuiltInType row) = row_kind row
-kind_of (MadeType _ _ kind _) = kind
+kind_of (UserDefinedType _ _ kind _) = kind
 
 -- the type is a row of the table
 abbrev pub IsBuiltIn : Content → Type 0
 IsBuiltIn (BuiltInType _) = Unit {0}
-IsBuiltIn (MadeType _ _ _ _) = ⊥
+IsBuiltIn (UserDefinedType _ _ _ _) = ⊥
 
--- a type as it is shown: its name, after its schema and a dot unless that is `public` or `pg_catalog`
-abbrev pub shown : Content → List ℕ
-shown t =
+-- the text of a type: its name, after its schema and a dot unless that is `public` or `pg_catalog`
+abbrev pub type_text : Content → List ℕ
+type_text t =
     if pointwise ◌==◌ (schema_of t) (codes "public") || pointwise ◌==◌ (schema_of t) (codes "pg_catalog") then name_of t else schema_of t ++ codes "." ++ name_of t
 
 -- the name of a field

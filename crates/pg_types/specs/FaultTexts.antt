@@ -1,6 +1,6 @@
 -- What the two faults with a type of their own hold, and what they print.
 use Rattle.std.specs.Prelude.{ℕ, List, ◌++◌, codes}
-use Rattle.pg_types.specs.Content.{Content, content, shown}
+use Rattle.pg_types.specs.Content.{Content, content, type_text}
 use Rattle.pg_types.specs.declared.fault.WrongType.{WrongType}
 
 -- the refused Postgres type
@@ -18,4 +18,4 @@ was_null_text = codes "a Postgres value was `NULL`"
 -- what WrongType prints
 abbrev pub wrong_type_text : Content → List ℕ → List ℕ
 wrong_type_text ty rust =
-    codes "cannot convert between the Rust type `" ++ (rust ++ (codes "` and the Postgres type `" ++ (shown ty ++ codes "`")))
+    codes "cannot convert between the Rust type `" ++ (rust ++ (codes "` and the Postgres type `" ++ (type_text ty ++ codes "`")))

@@ -3,6 +3,6 @@ pub mod BuiltInRows
 pub mod Constants
 pub mod Content
 pub mod Digest
-pub mod Faults
 pub mod FaultTexts
-pub mod Seen
+pub mod Faults
+pub mod KindRefs

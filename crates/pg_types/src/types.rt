@@ -2,8 +2,9 @@
 ghost use Rattle.std.specs.Prelude.{◌≡◌, ◌≢◌, Some, IfSome, IsNone, IsOk, IfOk, IfErr, string_bytes};
 ghost use Rattle.pg_types.specs.declared.fault.Fault.TheVariants.{Memory};
 ghost use Rattle.pg_types.specs.BuiltInRows.{row_oid};
-ghost use Rattle.pg_types.specs.Content.{BuiltInType, MadeType, IsBuiltIn, content, kind_content, oid_of, name_of, schema_of, kind_of, shown};
-ghost use Rattle.pg_types.specs.Seen.{seen};
+ghost use Rattle.pg_types.specs.Content.{BuiltInType, UserDefinedType, IsBuiltIn, content, kind_content};
+ghost use Rattle.pg_types.specs.Content.{oid_of, name_of, schema_of, kind_of, type_text};
+ghost use Rattle.pg_types.specs.KindRefs.{kind_ref_view};
 
 use super::fault::Fault;
 use built_in::BuiltIn;
@@ -36,7 +37,7 @@ pub struct PgType {
 #[derive(PartialEq, Eq, Hash, Drop)]
 enum Inner {
     BuiltIn(BuiltIn),
-    Made(Rc<Other>),
+    Other(Rc<Other>),
 }
 
 #[cycle(types)]
@@ -57,11 +58,11 @@ impl PgType {
         kind: Kind,
         schema: String,
     ) -> Result<PgType, Fault>
-        ensures made { IfOk result
-            (λ t. content t ≡ MadeType (string_bytes name) oid (kind_content kind) (string_bytes schema)) }
+        ensures other { IfOk result
+            (λ t. content t ≡ UserDefinedType (string_bytes name) oid (kind_content kind) (string_bytes schema)) }
         ensures refused { IfErr result (λ e. e ≡ Memory) }
     {
-        let made = Rc::new(
+        let other = Rc::new(
             alloc,
             Other {
                 name,
@@ -71,7 +72,7 @@ impl PgType {
             },
         )?;
         Ok(PgType {
-            inner: Inner::Made(made),
+            inner: Inner::Other(other),
         })
     }
 
@@ -92,7 +93,7 @@ impl PgType {
     {
         match &self.inner {
             Inner::BuiltIn(row) => row.oid(),
-            Inner::Made(made) => made.oid,
+            Inner::Other(other) => other.oid,
         }
     }
 
@@ -102,7 +103,7 @@ impl PgType {
     {
         match &self.inner {
             Inner::BuiltIn(row) => row.name(),
-            Inner::Made(made) => made.name.as_str(),
+            Inner::Other(other) => other.name.as_str(),
         }
     }
 
@@ -112,7 +113,7 @@ impl PgType {
     {
         match &self.inner {
             Inner::BuiltIn(_) => "pg_catalog",
-            Inner::Made(made) => made.schema.as_str(),
+            Inner::Other(other) => other.schema.as_str(),
         }
     }
 
@@ -120,16 +121,16 @@ impl PgType {
     /// user-defined type holds is borrowed from it.
     #[tactic(auto, using(crate::proofs::Fields::composite_content))]
     pub fn kind(&self) -> KindRef<'_>
-        ensures { seen result ≡ kind_of (content self.now) }
+        ensures { kind_ref_view result ≡ kind_of (content self.now) }
     {
         match &self.inner {
-            Inner::BuiltIn(row) => match row.member() {
-                Some(member) => KindRef::Array(Cow::Owned(PgType {
-                    inner: Inner::BuiltIn(member),
+            Inner::BuiltIn(row) => match row.element() {
+                Some(element) => KindRef::Array(Cow::Owned(PgType {
+                    inner: Inner::BuiltIn(element),
                 })),
                 None => KindRef::Simple,
             },
-            Inner::Made(made) => made.kind.as_kind_ref(),
+            Inner::Other(other) => other.kind.as_kind_ref(),
         }
     }
 
@@ -152,7 +153,7 @@ impl Clone for PgType {
     fn clone(&self) -> Result<PgType, AllocError> {
         let inner = match &self.inner {
             Inner::BuiltIn(row) => Inner::BuiltIn(*row),
-            Inner::Made(made) => Inner::Made(made.clone()?),
+            Inner::Other(other) => Inner::Other(other.clone()?),
         };
         Ok(PgType { inner })
     }
@@ -172,14 +173,14 @@ impl fmt::Debug for Inner {
     fn fmt<W: fmt::Write>(&self, f: &mut fmt::Formatter<W>) -> fmt::Result {
         match self {
             Inner::BuiltIn(row) => fmt::Debug::fmt(row, f),
-            Inner::Made(other) => f.debug_tuple("Other").field(other).finish(),
+            Inner::Other(other) => f.debug_tuple("Other").field(other).finish(),
         }
     }
 }
 
 /// Writes the name, preceded by the schema and a dot unless the schema is `public` or `pg_catalog`.
 impl fmt::Display for PgType {
-    ghost output = { λ t. Some (shown (content t)) };
+    ghost output = { λ t. Some (type_text (content t)) };
 
     fn fmt<W: fmt::Write>(&self, f: &mut fmt::Formatter<W>) -> fmt::Result {
         let schema = self.schema();

@@ -9,11 +9,11 @@ use Rattle.pg_base.specs.Arrays.{array_bytes, owned_cell}
 use Rattle.pg_base.specs.Cells.{Cell}
 use Rattle.pg_types.specs.Content.{Content, oid_of}
 use Rattle.pg_types.specs.Faults.{Outcome, Refusal, transmit}
-use Rattle.pg_base.specs.Lists.{member_of}
-use Rattle.pg_write.specs.ListWriting.{element_cells, framed, in_front, lower_bound_of, wire_array, wire_list, wire_members}
+use Rattle.pg_base.specs.ArrayTypes.{element_of}
+use Rattle.pg_write.specs.ArrayWriting.{element_cells, element_frame_cell, cons_cell, lower_bound_of, wire_array, wire_list, wire_by_element}
 
--- a cell in front of others: all are there
-in_front_ok : (w : Wire) (r : Outcome (List Cell)) (cs : List Cell) → in_front w r ≡ Ok cs → (c : Cell) × (ds : List Cell) × (w ≡ Ok c) × (r ≡ Ok ds) × (cs ≡ c ∷ ds)
+-- a cell before others: all are there
+in_front_ok : (w : Wire) (r : Outcome (List Cell)) (cs : List Cell) → cons_cell w r ≡ Ok cs → (c : Cell) × (ds : List Cell) × (w ≡ Ok c) × (r ≡ Ok ds) × (cs ≡ c ∷ ds)
 in_front_ok (Err x) r cs e = let no : ⊥ = cc in absurd no
 in_front_ok (Ok c) (Err x) cs e = let no : ⊥ = cc in absurd no
 in_front_ok (Ok c) (Ok ds) cs e = (c, ds, refl, refl, cc)
@@ -23,16 +23,16 @@ module _ {A : Type 0} (wire : A → Wire) where
   cells-append : (us vs : List A) (cs ds : List Cell) → element_cells wire us ≡ Ok cs → element_cells wire vs ≡ Ok ds → element_cells wire (us ++ vs) ≡ Ok (cs ++ ds)
   cells-append [] vs cs ds e f = let none : cs ≡ [] = cc in rw none f
   cells-append (u ∷ us) vs cs ds e f =
-      let p = in_front_ok (framed (wire u)) (element_cells wire us) cs e in
-      ap (in_front (framed (wire u))) (cells-append us vs p.1 ds p.3 f)
-      ∙ ap (λ w. in_front w (Ok (p.1 ++ ds))) p.2 ∙ ap (λ ws. Ok (ws ++ ds)) (sym p.4)
+      let p = in_front_ok (element_frame_cell (wire u)) (element_cells wire us) cs e in
+      ap (cons_cell (element_frame_cell (wire u))) (cells-append us vs p.1 ds p.3 f)
+      ∙ ap (λ w. cons_cell w (Ok (p.1 ++ ds))) p.2 ∙ ap (λ ws. Ok (ws ++ ds)) (sym p.4)
 
   -- the first fault is that of the others where the first elements have none
   cells-fault : (us vs : List A) (cs : List Cell) (r : Refusal) → element_cells wire us ≡ Ok cs → element_cells wire vs ≡ Err r → element_cells wire (us ++ vs) ≡ Err r
   cells-fault [] vs cs r e f = f
   cells-fault (u ∷ us) vs cs r e f =
-      let p = in_front_ok (framed (wire u)) (element_cells wire us) cs e in
-      ap (in_front (framed (wire u))) (cells-fault us vs p.1 r p.3 f) ∙ rw p.2 refl
+      let p = in_front_ok (element_frame_cell (wire u)) (element_cells wire us) cs e in
+      ap (cons_cell (element_frame_cell (wire u))) (cells-fault us vs p.1 r p.3 f) ∙ rw p.2 refl
 
   module _ (vs : List A) (i : ℕ) (v : A) (h : i < length vs) (is : v ≡ get_or vs i v) where
     more : take (i + 1) vs ≡ take i vs ++ v ∷ []
@@ -42,30 +42,30 @@ module _ {A : Type 0} (wire : A → Wire) where
     whole = sym (take-append-drop (i + 1) vs) ∙ ap (λ us. us ++ drop (i + 1) vs) more ∙ append_assoc (take i vs) (v ∷ []) (drop (i + 1) vs)
 
     -- one more element has a cell
-    pub next_cell : (cs : List Cell) (c : Cell) → element_cells wire (take i vs) ≡ Ok cs → framed (wire v) ≡ Ok c → element_cells wire (take (i + 1) vs) ≡ Ok (cs ++ c ∷ [])
+    pub next_cell : (cs : List Cell) (c : Cell) → element_cells wire (take i vs) ≡ Ok cs → element_frame_cell (wire v) ≡ Ok c → element_cells wire (take (i + 1) vs) ≡ Ok (cs ++ c ∷ [])
     next_cell cs c so_far next =
         let one : element_cells wire (v ∷ []) ≡ Ok (c ∷ []) = rw next refl in
         ap (element_cells wire) more ∙ cells-append (take i vs) (v ∷ []) cs (c ∷ []) so_far one
 
     -- the next element has none
-    pub next_fault : (cs : List Cell) (r : Refusal) → element_cells wire (take i vs) ≡ Ok cs → framed (wire v) ≡ Err r → element_cells wire vs ≡ Err r
+    pub next_fault : (cs : List Cell) (r : Refusal) → element_cells wire (take i vs) ≡ Ok cs → element_frame_cell (wire v) ≡ Err r → element_cells wire vs ≡ Err r
     next_fault cs r so_far next =
         let others : element_cells wire (v ∷ drop (i + 1) vs) ≡ Err r = rw next refl in
         ap (element_cells wire) whole ∙ cells-fault (take i vs) (v ∷ drop (i + 1) vs) cs r so_far others
 
-    pub next_refusal : (cs : List Cell) (refusal : Option Refusal) → element_cells wire (take i vs) ≡ Ok cs → IfSome refusal (λ r. framed (wire v) ≡ Err r) → IfSome refusal (λ r. element_cells wire vs ≡ Err r)
+    pub next_refusal : (cs : List Cell) (refusal : Option Refusal) → element_cells wire (take i vs) ≡ Ok cs → IfSome refusal (λ r. element_frame_cell (wire v) ≡ Err r) → IfSome refusal (λ r. element_cells wire vs ≡ Err r)
     next_refusal cs None so_far next = tt
     next_refusal cs (Some r) so_far next = next_fault cs r so_far next
 
 -- what a list is written as, where its elements have cells
-pub list_written : {A : Type 0} (wire : Content → A → Wire) (ty member : Content) (vs : List A) (cs : List Cell) (b : List ℕ)
-    → member_of ty ≡ Some member → length vs ≤ 2147483647 → element_cells (wire member) vs ≡ Ok cs → array_bytes (lower_bound_of ty) (oid_of member) cs ≡ Some b
+pub list_written : {A : Type 0} (wire : Content → A → Wire) (ty element : Content) (vs : List A) (cs : List Cell) (b : List ℕ)
+    → element_of ty ≡ Some element → length vs ≤ 2147483647 → element_cells (wire element) vs ≡ Ok cs → array_bytes (lower_bound_of ty) (oid_of element) cs ≡ Some b
     → wire_list wire ty vs ≡ Ok (Some b)
-list_written wire ty member vs cs b member_is few cells bytes =
+list_written wire ty element vs cs b element_is few cells bytes =
     let fits : nat_le (length vs) 2147483647 ≡ true = grind (arith, nat_tests) in
-    ap (λ m. wire_members wire ty m vs) member_is
-    ∙ ap (λ t. cond t (wire_array (lower_bound_of ty) (oid_of member) (element_cells (wire member) vs)) (Err transmit)) fits
-    ∙ ap (wire_array (lower_bound_of ty) (oid_of member)) cells ∙ ap wire_of bytes
+    ap (λ m. wire_by_element wire ty m vs) element_is
+    ∙ ap (λ t. cond t (wire_array (lower_bound_of ty) (oid_of element) (element_cells (wire element) vs)) (Err transmit)) fits
+    ∙ ap (wire_array (lower_bound_of ty) (oid_of element)) cells ∙ ap wire_of bytes
 
 -- an appender that did not refuse had bytes to append
 pub had_bytes : {u : ⊤} (w : Option (List ℕ)) (old new : Filled) → Appends w old new (Ok u) → (b : List ℕ) × (w ≡ Some b) × (new.items ≡ old.items ++ b)

@@ -12,10 +12,10 @@ use Rattle.std.specs.Map.{keys_of}
 use Rattle.std.proofs.lemmas.Cmp.{nat_list_cmp_total}
 use Rattle.std.proofs.lemmas.Map.Text.{is_eq-slice_cmp}
 use Rattle.std.proofs.lemmas.Map.Keys.{sorted_from_all_adjacent}
-use Rattle.pg_base.specs.Hstore.{lent_entry, owned_entry}
+use Rattle.pg_base.specs.Hstore.{borrowed_entry, owned_entry}
 
-abbrev pub Lent : Type 0
-Lent = Bor (List ℕ) × Option (Bor (List ℕ))
+abbrev pub BorrowedEntry : Type 0
+BorrowedEntry = Bor (List ℕ) × Option (Bor (List ℕ))
 
 apart_next : (ks : List (List ℕ)) (k : ℕ) (d : List ℕ) → IsDistinct bytes_eq ks → suc k < length ks → bytes_eq (get_or ks k d) (get_or ks (suc k) d) ≡ false
 unfolding IsDistinct
@@ -40,19 +40,19 @@ unfolding IsDistinct
 distinct_bytes [] h = tt
 distinct_bytes (e ∷ es) h = (all_bytes e.0 es h.0, distinct_bytes es h.1)
 
-key_at : (xs : List Lent) (k : ℕ) (d : Lent) → get_or (map (λ e. e.0) (map lent_entry xs)) k d.0.now ≡ (get_or xs k d).0.now
+key_at : (xs : List BorrowedEntry) (k : ℕ) (d : BorrowedEntry) → get_or (map (λ e. e.0) (map borrowed_entry xs)) k d.0.now ≡ (get_or xs k d).0.now
 key_at [] k d = refl
 key_at (x ∷ xs) zero d = refl
 key_at (x ∷ xs) (suc k) d = key_at xs k d
 
-length_keys : (xs : List Lent) → length (map (λ e. e.0) (map lent_entry xs)) ≡ length xs
+length_keys : (xs : List BorrowedEntry) → length (map (λ e. e.0) (map borrowed_entry xs)) ≡ length xs
 length_keys [] = refl
 length_keys (x ∷ xs) = ap suc (length_keys xs)
 
-pub strictly_sorted : (xs : List Lent) (d : Lent) → IsSortedByKey (λ e. e.0) (λ x y. slice_cmp nat_cmp x.now y.now) xs
-    → IsDistinct bytes_eq (map (λ e. e.0) (map lent_entry xs)) → IsStrictlySortedBy (slice_cmp nat_cmp) (map (λ e. e.0) (map lent_entry xs))
+pub strictly_sorted : (xs : List BorrowedEntry) (d : BorrowedEntry) → IsSortedByKey (λ e. e.0) (λ x y. slice_cmp nat_cmp x.now y.now) xs
+    → IsDistinct bytes_eq (map (λ e. e.0) (map borrowed_entry xs)) → IsStrictlySortedBy (slice_cmp nat_cmp) (map (λ e. e.0) (map borrowed_entry xs))
 strictly_sorted xs d sorted distinct =
-    let ks : List (List ℕ) = map (λ e. e.0) (map lent_entry xs) in
+    let ks : List (List ℕ) = map (λ e. e.0) (map borrowed_entry xs) in
     sorted_from_all_adjacent nat_list_cmp_total ks d.0.now (λ k h.
     let a : List ℕ = (get_or xs k d).0.now in
     let b : List ℕ = (get_or xs (k + 1) d).0.now in

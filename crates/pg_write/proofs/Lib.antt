@@ -1,4 +1,4 @@
 pub mod ElementCells
+pub mod Insertion
 mod KeyOrder
-pub mod Placing
 pub mod SameEntries

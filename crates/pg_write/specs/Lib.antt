@@ -1,4 +1,4 @@
 -- The words of writing.
-pub mod ListWriting
+pub mod ArrayWriting
 pub mod OptionWriting
 pub mod Writing

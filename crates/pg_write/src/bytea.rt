@@ -3,7 +3,7 @@ ghost use Rattle.std.specs.Prelude.{◌≡◌, true, codes, refl};
 ghost use Rattle.std.specs.Cow.{cow_slice_items};
 ghost use Rattle.pg_types.specs.declared.format.Format.TheVariants.{Binary};
 ghost use Rattle.pg_types.specs.declared.types.built_in.BuiltIn.TheVariants.{Bytea};
-ghost use Rattle.pg_base.specs.Bytes.{wire_bytes};
+ghost use Rattle.pg_base.specs.Bytea.{wire_bytes};
 ghost use Rattle.pg_types.specs.Content.{content, is_row};
 ghost use Rattle.pg_write.specs.Writing.{checked_by};
 

@@ -3,9 +3,12 @@ ghost use Rattle.std.specs.Prelude.{◌≡◌, ◌/◌, ◌-ℤ◌, pos, true, c
 ghost use Rattle.jiff.specs.Words.{civil_nanos, epoch_day, time_nanos};
 ghost use Rattle.pg_base.specs.Civil.{base_day, instant_nanos, wire_date, wire_datetime, wire_instant, wire_time};
 ghost use Rattle.pg_types.specs.Content.{is_row};
-ghost use Rattle.pg_base.specs.Moments.{cut_micros};
+ghost use Rattle.pg_base.specs.Timestamps.{whole_micros};
 ghost use Rattle.pg_types.specs.declared.format.Format.TheVariants.{Binary};
-ghost use Rattle.pg_types.specs.declared.types.built_in.BuiltIn.TheVariants.{Date as DateRow, Time as TimeRow, Timestamp as TimestampRow, Timestamptz};
+ghost use Rattle.pg_types.specs.declared.types.built_in.BuiltIn.TheVariants.{Date as DateRow};
+ghost use Rattle.pg_types.specs.declared.types.built_in.BuiltIn.TheVariants.{Time as TimeRow};
+ghost use Rattle.pg_types.specs.declared.types.built_in.BuiltIn.TheVariants.{Timestamp as TimestampRow};
+ghost use Rattle.pg_types.specs.declared.types.built_in.BuiltIn.TheVariants.{Timestamptz};
 ghost use Rattle.pg_write.specs.Writing.{checked_by};
 
 use crate::to_sql::{ToSql, wrong_type};
@@ -35,14 +38,14 @@ fn micros_of_time(time: Time) -> i64
 
 /// The microseconds from 2000-01-01 00:00:00 to a civil datetime, truncated toward it.
 fn micros_of_datetime(datetime: DateTime) -> i64
-    ensures { result ≡ cut_micros (civil_nanos datetime) }
+    ensures { result ≡ whole_micros (civil_nanos datetime) }
 {
     ((datetime.to_plain().to_nanosecond() - POSTGRES_EPOCH_NANOS) / 1_000) as i64
 }
 
 /// The microseconds from 2000-01-01 00:00:00 UTC to an instant, truncated toward it.
 fn micros_of_instant(instant: Timestamp) -> i64
-    ensures { result ≡ cut_micros (instant_nanos instant) }
+    ensures { result ≡ whole_micros (instant_nanos instant) }
 {
     ((instant.as_nanosecond() - POSTGRES_EPOCH_NANOS) / 1_000) as i64
 }
@@ -152,7 +155,8 @@ impl ToSql for DateTime {
 
     ghost wire = { λ _ v. wire_datetime v };
 
-    ghost checked = { λ ty v. checked_by (is_row TimestampRow ty) ty (codes "jiff::civil::DateTime") (wire_datetime v) };
+    ghost checked = { λ ty v. checked_by (is_row TimestampRow ty) ty (codes "jiff::civil::DateTime")
+        (wire_datetime v) };
 
     ghost format = { λ _ _. Binary };
 

@@ -2,7 +2,7 @@
 ghost use Rattle.std.specs.Prelude.{◌≡◌, map, true, codes, refl, IfOk, IfErr};
 ghost use Rattle.pg_types.specs.declared.fault.Fault.TheVariants.{Memory};
 ghost use Rattle.pg_types.specs.declared.format.Format.TheVariants.{Binary};
-ghost use Rattle.pg_base.specs.Hstore.{in_key_order, lent_entry, owned_entry, wire_hstore};
+ghost use Rattle.pg_base.specs.Hstore.{in_key_order, borrowed_entry, owned_entry, wire_hstore};
 ghost use Rattle.pg_base.specs.Texts.{is_named};
 ghost use Rattle.pg_write.specs.Writing.{checked_by};
 
@@ -28,7 +28,8 @@ impl<S: BuildHasher + Drop> ToSql for HashMap<String, Option<String>, S> {
 
     ghost wire = { λ _ m. wire_hstore (map owned_entry m.entries) };
 
-    ghost checked = { λ ty m. checked_by (is_named (codes "hstore") ty) ty (codes "HashMap") (wire_hstore (map owned_entry m.entries)) };
+    ghost checked = { λ ty m. checked_by (is_named (codes "hstore") ty) ty (codes "HashMap")
+        (wire_hstore (map owned_entry m.entries)) };
 
     ghost format = { λ _ _. Binary };
 
@@ -69,7 +70,7 @@ fn sorted_entries<'a, S: BuildHasher + Drop>(
     alloc: Global,
     store: &'a HashMap<String, Option<String>, S>,
 ) -> Result<Vec<(&'a str, Option<&'a str>)>, Fault>
-    ensures sorted { IfOk result (λ v. map lent_entry v.items ≡ in_key_order (map owned_entry store.now.entries)) }
+    ensures sorted { IfOk result (λ v. map borrowed_entry v.items ≡ in_key_order (map owned_entry store.now.entries)) }
     ensures refused { IfErr result (λ fault. fault ≡ Memory) }
 {
     let mut entries = Vec::with_capacity(alloc, store.len())?;

@@ -19,7 +19,7 @@ use std::alloc::Global;
 
 /// JSON: the document's compact text, the members of an object in the order of their keys
 /// (`json_send`). JSONB: the version 1 and that text (`jsonb_send`). A document that holds, at any
-/// depth, a number that is kept as neither `i64` nor `u64` is `JsonNumber`. The text is made in
+/// depth, a number that is kept as neither `i64` nor `u64` is `JsonNumber`. The text is written to
 /// memory of its own, which may be refused.
 impl ToSql for Value {
     ghost accepted = { accepted_json };
@@ -28,7 +28,8 @@ impl ToSql for Value {
 
     ghost wire = { λ ty v. wire_json (is_row Jsonb ty) (view v) };
 
-    ghost checked = { λ ty v. checked_by (accepted_json ty) ty (codes "serde_json::Value") (wire_json (is_row Jsonb ty) (view v)) };
+    ghost checked = { λ ty v. checked_by (accepted_json ty) ty (codes "serde_json::Value")
+        (wire_json (is_row Jsonb ty) (view v)) };
 
     ghost format = { λ _ _. Binary };
 

@@ -4,17 +4,15 @@
 //! the buffer's bytes as they were.
 #![tactic(auto)]
 
+mod arrays;
 mod bits;
 mod boxes;
 mod bytea;
 mod civil;
 mod hstore;
-mod identifiers;
 mod json;
 pub mod laws;
-mod lists;
 mod lsn;
-mod moments;
 mod network;
 mod numbers;
 mod options;
@@ -22,3 +20,5 @@ mod references;
 mod special;
 mod texts;
 pub mod to_sql;
+mod unix_time;
+mod uuids;

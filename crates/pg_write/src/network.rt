@@ -1,8 +1,9 @@
-//! Writing Internet addresses.
+//! Writing Internet addresses and MAC addresses.
 ghost use Rattle.std.specs.Prelude.{true, codes, refl};
 ghost use Rattle.pg_types.specs.declared.format.Format.TheVariants.{Binary};
-ghost use Rattle.pg_types.specs.declared.types.built_in.BuiltIn.TheVariants.{Cidr, Inet};
+ghost use Rattle.pg_types.specs.declared.types.built_in.BuiltIn.TheVariants.{Cidr, Inet, Macaddr};
 ghost use Rattle.pg_types.specs.Content.{is_row};
+ghost use Rattle.pg_base.specs.FixedBytes.{wire_fixed_bytes};
 ghost use Rattle.pg_base.specs.Network.{wire_address, wire_cidr, wire_inet};
 ghost use Rattle.pg_write.specs.Writing.{checked_by};
 
@@ -10,8 +11,8 @@ use crate::to_sql::{ToSql, wrong_type};
 use bytes::BytesMut;
 use pg_base::fault::Fault;
 use pg_base::format::{Format, IsNull};
-use pg_base::network::{IpCidr, IpInet, address_bits};
-use pg_base::protocol::inet_to_sql;
+use pg_base::network::{IpCidr, IpInet, MacAddress, address_bits};
+use pg_base::protocol::{inet_to_sql, macaddr_to_sql};
 use pg_base::types::PgType;
 use std::alloc::Global;
 use std::net::IpAddr;
@@ -145,6 +146,52 @@ impl ToSql for IpCidr {
             self.to_sql(alloc, ty, out)
         } else {
             Err(wrong_type(ty, "IpCidr"))
+        }
+    }
+
+    fn encode_format(&self, _ty: &PgType) -> Format {
+        Format::Binary
+    }
+
+    ghost checks = { λ _ _. refl };
+}
+
+/// MACADDR: 6 bytes, in the order of its text (`macaddr_send`).
+impl ToSql for MacAddress {
+    ghost accepted = { is_row Macaddr };
+
+    ghost name = { codes "MacAddress" };
+
+    ghost wire = { λ _ v. wire_fixed_bytes 6 v };
+
+    ghost checked = { λ ty v. checked_by (is_row Macaddr ty) ty (codes "MacAddress") (wire_fixed_bytes 6 v) };
+
+    ghost format = { λ _ _. Binary };
+
+    ghost by_room = { λ _. Unit {0} };
+
+    ghost refuses_memory_free = { true };
+
+    fn to_sql(&self, alloc: Global, _ty: &PgType, out: &mut BytesMut) -> Result<IsNull, Fault> {
+        macaddr_to_sql(alloc, self.to_array(), out)?;
+        Ok(IsNull::No)
+    }
+
+    #[tactic(auto, using(pg_types::proofs::DerivedTypes::eq_content))]
+    fn accepts(ty: &PgType) -> bool {
+        *ty == PgType::MACADDR
+    }
+
+    fn to_sql_checked(
+        &self,
+        alloc: Global,
+        ty: &PgType,
+        out: &mut BytesMut,
+    ) -> Result<IsNull, Fault> {
+        if Self::accepts(ty) {
+            self.to_sql(alloc, ty, out)
+        } else {
+            Err(wrong_type(ty, "MacAddress"))
         }
     }
 

@@ -92,7 +92,8 @@ impl ToSql for String {
 
     ghost wire = { λ ty v. wire_text (has_version ty) (string_bytes v) };
 
-    ghost checked = { λ ty v. checked_by (accepted_text ty) ty (codes "String") (wire_text (has_version ty) (string_bytes v)) };
+    ghost checked = { λ ty v. checked_by (accepted_text ty) ty (codes "String")
+        (wire_text (has_version ty) (string_bytes v)) };
 
     ghost format = { λ _ _. Binary };
 
@@ -141,7 +142,8 @@ impl ToSql for BoxedStr {
 
     ghost wire = { λ ty v. wire_text (has_version ty) (boxed_str_bytes v) };
 
-    ghost checked = { λ ty v. checked_by (accepted_text ty) ty (codes "Box<str>") (wire_text (has_version ty) (boxed_str_bytes v)) };
+    ghost checked = { λ ty v. checked_by (accepted_text ty) ty (codes "Box<str>")
+        (wire_text (has_version ty) (boxed_str_bytes v)) };
 
     ghost format = { λ _ _. Binary };
 
@@ -190,7 +192,8 @@ impl<'b> ToSql for CowStr<'b> {
 
     ghost wire = { λ ty v. wire_text (has_version ty) (cow_str_bytes v) };
 
-    ghost checked = { λ ty v. checked_by (accepted_text ty) ty (codes "Cow<str>") (wire_text (has_version ty) (cow_str_bytes v)) };
+    ghost checked = { λ ty v. checked_by (accepted_text ty) ty (codes "Cow<str>")
+        (wire_text (has_version ty) (cow_str_bytes v)) };
 
     ghost format = { λ _ _. Binary };
 

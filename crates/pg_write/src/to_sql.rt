@@ -90,7 +90,8 @@ pub fn to_sql_checked_as<T: ToSql>(
     out: &mut BytesMut,
 ) -> Result<IsNull, Fault>
     requires { length rust.now ≤ REASON_LEN }
-    ensures writes { Writes (checked_by (T.accepted (content ty.now)) (content ty.now) rust.now (T.wire (content ty.now) v.now))
+    ensures writes { Writes (checked_by (T.accepted (content ty.now)) (content ty.now) rust.now
+        (T.wire (content ty.now) v.now))
         out.old.items out.new.items result }
     ensures room { T.by_room v.now → IsTrue (T.accepted (content ty.now))
         → KeepsRoomRule (T.wire (content ty.now) v.now) out.old.spare result }

@@ -46,8 +46,8 @@ lines_after x line y block z done e k =
 splits_taken : (x line y block z next : List ℕ) (done more : List (List ℕ)) → Splits x done (line ++ y) → y ≡ block ++ z
     → Splits (line ++ block) more next → Splits x (done ++ more) (next ++ z)
 splits_taken x line y block z next done more s k t = λ after.
-    let joined : line ++ y ++ after ≡ (line ++ block) ++ (z ++ after) = ap (λ (l : List ℕ). line ++ l ++ after) k ∙ simp append_assoc in
-    s after ∙ ap (λ (l : List ℕ). done ++ lines_of l) joined
+    let concat : line ++ y ++ after ≡ (line ++ block) ++ (z ++ after) = ap (λ (l : List ℕ). line ++ l ++ after) k ∙ simp append_assoc in
+    s after ∙ ap (λ (l : List ℕ). done ++ lines_of l) concat
     ∙ ap (λ (l : List (List ℕ)). done ++ l) (t (z ++ after) ∙ ap (λ (l : List ℕ). more ++ lines_of l) (sym (append_assoc next z after)))
     ∙ sym (append_assoc done more _)
 
@@ -77,12 +77,12 @@ under_way-stopped (Some x) (Some y) (Some z) o n m line block old new u k t none
     answers_first x (u.0 ++ t.0) (t.1 z).0 o m (lines_begun x line y block z u.0 t.0 _ (whole x (line ++ y) u.0 u.1) k (t.1 z).1)
     (writes_more u.0 t.0 o n m u.2 (new, gained t.0 old new t.2 none, w))
 
-pub under_way-cut : (a b d o n m : Option (List ℕ)) (line block old new : List ℕ) (j : ℕ) → IsUnderWay a b o n line → Consumes b d block
+pub under_way-partial : (a b d o n m : Option (List ℕ)) (line block old new : List ℕ) (j : ℕ) → IsUnderWay a b o n line → Consumes b d block
     → TakesSome (line ++ block) old new → old ≡ [] → Appends n m (take j new) → AnswersPart a o m
-under_way-cut None b d o n m line block old new j u k t none w = tt
-under_way-cut (Some x) None d o n m line block old new j u k t none w = absurd u
-under_way-cut (Some x) (Some y) None o n m line block old new j u k t none w = absurd k
-under_way-cut (Some x) (Some y) (Some z) o n m line block old new j u k t none w =
+under_way-partial None b d o n m line block old new j u k t none w = tt
+under_way-partial (Some x) None d o n m line block old new j u k t none w = absurd u
+under_way-partial (Some x) (Some y) None o n m line block old new j u k t none w = absurd k
+under_way-partial (Some x) (Some y) (Some z) o n m line block old new j u k t none w =
     answers_part x (u.0 ++ t.0) (t.1 z).0 o m (lines_begun x line y block z u.0 t.0 _ (whole x (line ++ y) u.0 u.1) k (t.1 z).1)
     (writes_part u.0 t.0 o n m u.2 (new, j, gained t.0 old new t.2 none, w))
 
@@ -110,10 +110,10 @@ under_way-unfinished (Some x) None o n m line u w = absurd u
 under_way-unfinished (Some x) (Some y) o n m line u w =
     answers_first x u.0 _ o m (whole x (line ++ y) u.0 u.1) (u.2.0, u.2.1, Appends-kept o n m _ u.2.2 w)
 
-pub under_way-end_cut : (a b d o n m : Option (List ℕ)) (line : List ℕ) → IsUnderWay a b o n line → Consumes b d [] → IsAtEnd d
+pub under_way-end_partial : (a b d o n m : Option (List ℕ)) (line : List ℕ) → IsUnderWay a b o n line → Consumes b d [] → IsAtEnd d
     → WritesPart (lines_of line) n m → AnswersPart a o m
-under_way-end_cut None b d o n m line u k end w = tt
-under_way-end_cut (Some x) None d o n m line u k end w = absurd u
-under_way-end_cut (Some x) (Some y) None o n m line u k end w = absurd k
-under_way-end_cut (Some x) (Some y) (Some z) o n m line u k end w =
+under_way-end_partial None b d o n m line u k end w = tt
+under_way-end_partial (Some x) None d o n m line u k end w = absurd u
+under_way-end_partial (Some x) (Some y) None o n m line u k end w = absurd k
+under_way-end_partial (Some x) (Some y) (Some z) o n m line u k end w =
     answers_part x (u.0 ++ lines_of line) [] o m (at_end x line y z u.0 (whole x (line ++ y) u.0 u.1) k end ∙ sym (append-nil _)) (writes_part u.0 (lines_of line) o n m u.2 w)

@@ -7,7 +7,7 @@ use Rattle.hex.specs.Hex.{decode_of}
 use Rattle.hex.specs.declared.error.FromHexError.{FromHexError}
 use Rattle.postgres_types.specs.Cells.{Cell}
 use Rattle.pgcell_norm.specs.Forms.{same_word}
-use Rattle.pgcell_norm.specs.Names.{name_of, seen_name}
+use Rattle.pgcell_norm.specs.Names.{name_of, name_view}
 use Rattle.pgcell_norm.specs.declared.names.Form.{Form}
 use Rattle.pgcell.specs.Split.{split}
 use Rattle.pgcell.specs.declared.request.Request.{Request}
@@ -61,12 +61,12 @@ abbrev pub request_of : List ℕ → Option Asked
 request_of line = option_and_then (λ parts. asked_by parts.0 parts.1) (split 32 line)
 
 -- the cell that a request holds
-abbrev pub seen_bytes : Option (Vec ℕ Global) → Cell
-seen_bytes None = None
-seen_bytes (Some bytes) = Some bytes.items
+abbrev pub cell_view : Option (Vec ℕ Global) → Cell
+cell_view None = None
+cell_view (Some bytes) = Some bytes.items
 
 -- what a request asks for
-abbrev pub seen : Request → Asked
-seen (Norm name cell) = norm (seen_name name) (seen_bytes cell)
-seen (TypeOf oid) = type_of oid
-seen (Lsn text) = lsn text.now
+abbrev pub view : Request → Asked
+view (Norm name cell) = norm (name_view name) (cell_view cell)
+view (TypeOf oid) = type_of oid
+view (Lsn text) = lsn text.now

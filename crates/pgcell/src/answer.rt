@@ -2,8 +2,8 @@
 ghost use Rattle.std.specs.Prelude.{◌≡◌, ◌++◌, ℕ, List, OnOk, OnErr};
 ghost use Rattle.postgres_types.specs.Cells.{cell_of};
 ghost use Rattle.postgres_types.specs.Lsn.{lsn_of};
-ghost use Rattle.pgcell.specs.Answer.{Answer, AnswersType, printed_lsn};
-ghost use Rattle.pgcell.specs.Request.{seen_bytes};
+ghost use Rattle.pgcell.specs.Answer.{Answer, AnswersType, lsn_answer};
+ghost use Rattle.pgcell.specs.Request.{cell_view};
 
 use crate::request::Request;
 use pgcell_norm::norm::norm;
@@ -28,7 +28,7 @@ pub fn answer(alloc: Global, line: &[u8], pending: &mut Vec<u8>) -> Result<(), A
 
 /// The cell, borrowed.
 fn borrowed(cell: &Option<Vec<u8>>) -> Option<&[u8]>
-    ensures { cell_of result ≡ seen_bytes cell.now }
+    ensures { cell_of result ≡ cell_view cell.now }
 {
     match cell {
         Some(bytes) => Some(bytes.as_slice()),
@@ -52,7 +52,7 @@ fn show_type(alloc: Global, oid: Oid, pending: &mut Vec<u8>) -> Result<(), Alloc
 
 /// The answer to `lsn TEXT`.
 fn show_lsn(alloc: Global, text: &str, pending: &mut Vec<u8>) -> Result<(), AllocError>
-    ensures ok { OnOk result (pending.new.items ≡ pending.old.items ++ printed_lsn (lsn_of text.now)) }
+    ensures ok { OnOk result (pending.new.items ≡ pending.old.items ++ lsn_answer (lsn_of text.now)) }
     ensures err { OnErr result (pending.new.items ≡ pending.old.items) }
 {
     let Ok(lsn) = text.parse::<PgLsn>() else {

@@ -1,7 +1,8 @@
 //! What a line asks for.
 ghost use Rattle.std.specs.Prelude.{◌≡◌, ◌∷◌, [], ◌==◌, IfSome, IfNone, IfOk, option_map};
 ghost use Rattle.pgcell.specs.Split.{split};
-ghost use Rattle.pgcell.specs.Request.{cell_of_word, lsn_of_text, norm_of, oid_of_word, request_of, seen, seen_bytes, type_of};
+ghost use Rattle.pgcell.specs.Request.{cell_of_word, lsn_of_text, norm_of, oid_of_word, request_of, view};
+ghost use Rattle.pgcell.specs.Request.{cell_view, type_of};
 
 use crate::split::split_once;
 use hex::FromHexError;
@@ -23,7 +24,7 @@ pub enum Request<'a> {
 impl<'a> Request<'a> {
     /// What the line asks for, or `None` where it is not well formed.
     pub fn parse(alloc: Global, line: &'a [u8]) -> Result<Option<Request<'a>>, AllocError>
-        ensures { IfOk result (λ request. option_map seen request ≡ request_of line.now) }
+        ensures { IfOk result (λ request. option_map view request ≡ request_of line.now) }
     {
         let Some((command, rest)) = split_word(line) else {
             return Ok(None);
@@ -42,7 +43,7 @@ impl<'a> Request<'a> {
 
     /// What `norm` and these words ask for.
     fn parse_norm(alloc: Global, words: &'a [u8]) -> Result<Option<Request<'a>>, AllocError>
-        ensures { IfOk result (λ request. option_map seen request ≡ norm_of words.now) }
+        ensures { IfOk result (λ request. option_map view request ≡ norm_of words.now) }
     {
         let Some((name, cell)) = split_word(words) else {
             return Ok(None);
@@ -58,7 +59,7 @@ impl<'a> Request<'a> {
 
     /// What `type` and this word ask for.
     fn parse_type(word: &'a [u8]) -> Option<Request<'a>>
-        ensures { option_map seen result ≡ option_map type_of (oid_of_word word.now) }
+        ensures { option_map view result ≡ option_map type_of (oid_of_word word.now) }
     {
         let oid = parse_oid(word)?;
         Some(Request::TypeOf(oid))
@@ -66,7 +67,7 @@ impl<'a> Request<'a> {
 
     /// What `lsn` and this text ask for.
     fn parse_lsn(text: &'a [u8]) -> Option<Request<'a>>
-        ensures { option_map seen result ≡ lsn_of_text text.now }
+        ensures { option_map view result ≡ lsn_of_text text.now }
     {
         match str::from_utf8(text) {
             Ok(text) => Some(Request::Lsn(text)),
@@ -78,7 +79,7 @@ impl<'a> Request<'a> {
 /// The cell that the word spells: `NULL`, `-` for no bytes, or an even, positive number of
 /// hexadecimal digits.
 fn parse_cell(alloc: Global, word: &[u8]) -> Result<Option<Option<Vec<u8>>>, AllocError>
-    ensures { IfOk result (λ cell. option_map seen_bytes cell ≡ cell_of_word word.now) }
+    ensures { IfOk result (λ cell. option_map cell_view cell ≡ cell_of_word word.now) }
 {
     match word {
         b"NULL" => Ok(Some(None)),

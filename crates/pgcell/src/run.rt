@@ -6,7 +6,8 @@
 ghost use Rattle.std.specs.Prelude.{◌≡◌, ◌≢◌, ℕ, ◌≤◌, [], ◌∷◌, ◌++◌, take, length, OnOk, OnErr, IfErr, IfSome, IfNone};
 ghost use Rattle.std.specs.Io.KnownBytes.{Appends, Keeps};
 ghost use Rattle.pgcell.specs.Lines.{lines_of, IsOneLine};
-ghost use Rattle.pgcell.specs.Run.{GainsAnswers, WritesAnswers, WritesPart, AnswersAll, AnswersSome, AnswersPart, AnswersGiven, TakesLines, TakesSome};
+ghost use Rattle.pgcell.specs.Run.{GainsAnswers, WritesAnswers, WritesPart, AnswersAll, AnswersSome};
+ghost use Rattle.pgcell.specs.Run.{AnswersPart, AnswersGiven, TakesLines, TakesSome};
 
 use crate::answer::answer;
 use crate::split::split_once;
@@ -42,7 +43,7 @@ pub fn run<R: Read, W: Write>(alloc: Global, input: &mut R, output: &mut W) -> R
         (W.contents output.old) (W.contents output.new)) }
     ensures read { IfErr result (λ e. e ≡ RunFault.Read → AnswersGiven (R.remaining input.old)
         (R.remaining input.new) (W.contents output.old) (W.contents output.new)) }
-    ensures cut { IfErr result (λ e. e ≡ RunFault.Write → AnswersPart (R.remaining input.old)
+    ensures partial { IfErr result (λ e. e ≡ RunFault.Write → AnswersPart (R.remaining input.old)
         (W.contents output.old) (W.contents output.new)) }
 {
     let mut line = Vec::new(alloc);
@@ -161,7 +162,7 @@ fn finish<W: Write>(
         (W.contents output.old) (W.contents output.new)) }
     ensures memory { IfErr result (λ e. e ≢ RunFault.Write
         → (e ≡ RunFault.Memory) × Keeps (W.contents output.old) (W.contents output.new)) }
-    ensures cut { IfErr result (λ e. e ≡ RunFault.Write
+    ensures partial { IfErr result (λ e. e ≡ RunFault.Write
         → WritesPart (lines_of line.now) (W.contents output.old) (W.contents output.new)) }
 {
     if line.is_empty() {

@@ -1,4 +1,4 @@
--- Lemmas on what is printed.
+-- Lemmas on answers' texts.
 use Rattle.std.proofs.Common.{◌≡◌, ℕ, List, ◌++◌, Option, Some, None, Result, Ok, Err, IfSome, ◌⊎◌, inl, inr, refl, sym}
 use Rattle.postgres_types.specs.Cells.{Cell}
 use Rattle.postgres_types.specs.Faults.{Outcome, Refusal, refusal_of}
@@ -6,7 +6,7 @@ use Rattle.postgres_types.specs.Appending.{Wire}
 use Rattle.postgres_types.specs.Rewriting.{Rewrites}
 use Rattle.pg_types.specs.declared.fault.Fault.{Fault}
 use Rattle.pg_types.specs.declared.format.IsNull.{IsNull}
-use Rattle.pgcell_norm.specs.Norm.{PrintsRefusal, WritesOf, printed}
+use Rattle.pgcell_norm.specs.Norm.{PrintsRefusal, WritesOf, norm_text}
 use Rattle.pgcell_norm.specs.Rewritten.{RewrittenTo}
 
 -- what rewriting a cell answers is one of the written forms that the cell is rewritten to
@@ -18,8 +18,8 @@ writes_rewritten reads wire cell old new (Err f) h = (h.0, refused (refusal_of f
   refused None h = tt
   refused (Some r) h = elim h [ inl read ↦ inl (r, read, refl) | inr value ↦ inr (value.0, value.1, sym value.2) ]
 
--- how a refusal is printed answers, where it is one of the written forms
+-- the text of a refusal answers, where it is one of the written forms
 pub refusal_answers : (P : Wire → Type 0) (refusal : Option Refusal) (old new : List ℕ) → IfSome refusal (λ r. P (Err r)) → PrintsRefusal refusal old new
-    → (text : List ℕ) × ((v : Wire) × P v × (text ≡ printed v)) × (new ≡ old ++ text)
+    → (text : List ℕ) × ((v : Wire) × P v × (text ≡ norm_text v)) × (new ≡ old ++ text)
 refusal_answers P None old new p prints = absurd prints
-refusal_answers P (Some r) old new p prints = (printed (Err r), (Err r, p, refl), prints)
+refusal_answers P (Some r) old new p prints = (norm_text (Err r), (Err r, p, refl), prints)

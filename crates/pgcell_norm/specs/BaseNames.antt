@@ -1,6 +1,6 @@
 -- The table of base names: what each stands for.
 use Rattle.std.specs.Prelude.{ℕ, Bool, false, List, Option, Some, None, codes, cond, map, String, Vec}
-use Rattle.postgres_types.specs.Content.{Content, BuiltInType, MadeType, SimpleKind}
+use Rattle.postgres_types.specs.Content.{Content, BuiltInType, UserDefinedType, SimpleKind}
 use Prim.Native.String.{String as Literal}
 use Rattle.std.specs.Int.{w8, w16, w32, w64}
 use Rattle.std.specs.Global.{Global}
@@ -8,14 +8,14 @@ use Rattle.std.specs.HashMap.{HashMap}
 use Rattle.std.specs.declared.hash.BuildHasherDefault.{BuildHasherDefault}
 use Rattle.std.specs.declared.hash.FoldHasher.{FoldHasher}
 use Rattle.postgres_types.specs.Bits.{ReadsBits, wire_bits}
-use Rattle.postgres_types.specs.Bytes.{ReadsBytes, wire_bytes}
+use Rattle.postgres_types.specs.Bytea.{ReadsBytes, wire_bytes}
 use Rattle.postgres_types.specs.Civil.{ReadsDate, ReadsDateTime, ReadsInstant, ReadsTime, wire_date, wire_datetime, wire_instant, wire_time}
 use Rattle.postgres_types.specs.Hstore.{ReadsHstore, owned_entry, wire_hstore}
-use Rattle.postgres_types.specs.Identifiers.{ReadsIdentifier, wire_identifier}
-use Rattle.postgres_types.specs.Moments.{ReadsTimestamp, nanos_of, wire_timestamp}
+use Rattle.postgres_types.specs.FixedBytes.{ReadsFixedBytes, wire_fixed_bytes}
+use Rattle.postgres_types.specs.Timestamps.{ReadsTimestamp, nanos_of, wire_timestamp}
 use Rattle.postgres_types.specs.Network.{ReadsAddress, ReadsCidr, ReadsInet, wire_address, wire_cidr, wire_inet}
 use Rattle.postgres_types.specs.Numbers.{ReadsBool, ReadsSigned, ReadsUnsigned, wire_bool, wire_signed, wire_unsigned}
-use Rattle.postgres_types.specs.Special.{ReadsSpecial, date_seen, timestamp_seen, wire_special}
+use Rattle.postgres_types.specs.Special.{ReadsSpecial, date_view, timestamp_view, wire_special}
 use Rattle.pg_types.specs.declared.types.built_in.BuiltIn.{BuiltIn as Row}
 use Rattle.pg_types.specs.declared.types.built_in.BuiltIn.TheVariants.{Bool as BoolRow, BoolArray, Char as CharRow, CharArray, Int2 as Int2Row, Int2Array, Int4 as Int4Row, Int4Array, Int8 as Int8Row, Int8Array, Oid as OidRow, OidArray, Text as TextRow, TextArray, Varchar as VarcharRow, VarcharArray, Bpchar as BpcharRow, BpcharArray, Name as NameRow, NameArray, Bytea as ByteaRow, ByteaArray, Bit as BitRow, BitArray, Varbit as VarbitRow, VarbitArray, Inet as InetRow, InetArray, Cidr as CidrRow, CidrArray, Macaddr as MacaddrRow, MacaddrArray, Uuid as UuidRow, UuidArray, PgLsn as PgLsnRow, PgLsnArray, Date as DateRow, DateArray, Time as TimeRow, TimeArray, Timestamp as TimestampRow, TimestampArray, Timestamptz as TimestamptzRow, TimestamptzArray, Unknown as UnknownRow, Int2Vector as Int2VectorRow, OidVector as OidVectorRow}
 use Rattle.pgcell_norm.specs.Forms.{has_type, same_word}
@@ -42,7 +42,7 @@ no_arrays own = entry own None
 
 -- a user-defined type of that name, of kind Simple and in the schema public
 abbrev pub user_type : Literal → ℕ → Content
-user_type name oid = MadeType (codes name) oid SimpleKind (codes "public")
+user_type name oid = UserDefinedType (codes name) oid SimpleKind (codes "public")
 
 -- a map of texts
 abbrev pub Map : Type 0
@@ -62,8 +62,8 @@ other_entry_of base =
     else if base is "inet" then built_in InetRow InetArray (RewrittenPlain ReadsInet wire_inet)
     else if base is "addr" then built_in InetRow InetArray (RewrittenPlain ReadsAddress wire_address)
     else if base is "cidr" then built_in CidrRow CidrArray (RewrittenPlain ReadsCidr wire_cidr)
-    else if base is "macaddr" then built_in MacaddrRow MacaddrArray (RewrittenPlain (ReadsIdentifier 6) (wire_identifier 6))
-    else if base is "uuid" then built_in UuidRow UuidArray (RewrittenPlain (ReadsIdentifier 16) (wire_identifier 16))
+    else if base is "macaddr" then built_in MacaddrRow MacaddrArray (RewrittenPlain (ReadsFixedBytes 6) (wire_fixed_bytes 6))
+    else if base is "uuid" then built_in UuidRow UuidArray (RewrittenPlain (ReadsFixedBytes 16) (wire_fixed_bytes 16))
     else if base is "pg_lsn" then built_in PgLsnRow PgLsnArray (RewrittenPlain (ReadsUnsigned w64) (wire_unsigned w64))
     else if base is "int2vector" then no_arrays (BuiltInType Int2VectorRow) (RewrittenAs (ReadsVec (λ _. ReadsSigned w16)) (wire_vec (λ _. wire_signed w16)))
     else if base is "oidvector" then no_arrays (BuiltInType OidVectorRow) (RewrittenAs (ReadsVec (λ _. ReadsUnsigned w32)) (wire_vec (λ _. wire_unsigned w32)))
@@ -74,13 +74,13 @@ other_entry_of base =
 unfoldable pub timestamp_entry_of : List ℕ → Entry
 timestamp_entry_of base =
     if base is "date" then built_in DateRow DateArray (RewrittenPlain ReadsDate wire_date)
-    else if base is "date_inf" then built_in DateRow DateArray (RewrittenPlain (ReadsSpecial w32 date_seen ReadsDate) (λ v. wire_special w32 wire_date (date_seen v)))
+    else if base is "date_inf" then built_in DateRow DateArray (RewrittenPlain (ReadsSpecial w32 date_view ReadsDate) (λ v. wire_special w32 wire_date (date_view v)))
     else if base is "time" then built_in TimeRow TimeArray (RewrittenPlain ReadsTime wire_time)
     else if base is "timestamp" then built_in TimestampRow TimestampArray (RewrittenPlain ReadsDateTime wire_datetime)
-    else if base is "timestamp_inf" then built_in TimestampRow TimestampArray (RewrittenPlain (ReadsSpecial w64 timestamp_seen ReadsDateTime) (λ v. wire_special w64 wire_datetime (timestamp_seen v)))
+    else if base is "timestamp_inf" then built_in TimestampRow TimestampArray (RewrittenPlain (ReadsSpecial w64 timestamp_view ReadsDateTime) (λ v. wire_special w64 wire_datetime (timestamp_view v)))
     else if base is "timestamptz" then built_in TimestamptzRow TimestamptzArray (RewrittenPlain ReadsInstant wire_instant)
     else if base is "unix" then built_in TimestampRow TimestampArray (RewrittenPlain (ReadsTimestamp nanos_of) (λ v. wire_timestamp (nanos_of v)))
-    else if base is "unix_inf" then built_in TimestampRow TimestampArray (RewrittenPlain (ReadsSpecial w64 timestamp_seen (ReadsTimestamp nanos_of)) (λ v. wire_special w64 (λ u. wire_timestamp (nanos_of u)) (timestamp_seen v)))
+    else if base is "unix_inf" then built_in TimestampRow TimestampArray (RewrittenPlain (ReadsSpecial w64 timestamp_view (ReadsTimestamp nanos_of)) (λ v. wire_special w64 (λ u. wire_timestamp (nanos_of u)) (timestamp_view v)))
     else other_entry_of base
 
 -- the entry of any base name, also of a number or a text

@@ -15,5 +15,5 @@ abbrev pub name_of : List ℕ → Option (List ℕ × Form)
 name_of word = if is_name (form_of word) then Some (form_of word) else None
 
 -- a name as the code holds it
-abbrev pub seen_name : Name → List ℕ × Form
-seen_name name = (name.base.now, name.form)
+abbrev pub name_view : Name → List ℕ × Form
+name_view name = (name.base.now, name.form)

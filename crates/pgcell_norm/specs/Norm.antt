@@ -14,28 +14,28 @@ use Rattle.pgcell_norm.specs.Forms.{type_in}
 use Rattle.pgcell_norm.specs.Rewritten.{Rewriting}
 use Rattle.pgcell_norm.specs.declared.names.Form.{Form}
 
--- how a written form is printed: `null`, `ok` and the bytes in hexadecimal, `-` where there are none, or `refused` and
+-- the text of a written form: `null`, `ok` and the bytes in hexadecimal, `-` where there are none, or `refused` and
 -- the number of the fault
-abbrev pub printed : Wire → List ℕ
-printed (Ok None) = codes "null"
-printed (Ok (Some [])) = codes "ok -"
-printed (Ok (Some (byte ∷ bytes))) = codes "ok " ++ encode_lower (byte ∷ bytes)
-printed (Err refusal) = codes "refused " ++ decimal (number_of refusal)
+abbrev pub norm_text : Wire → List ℕ
+norm_text (Ok None) = codes "null"
+norm_text (Ok (Some [])) = codes "ok -"
+norm_text (Ok (Some (byte ∷ bytes))) = codes "ok " ++ encode_lower (byte ∷ bytes)
+norm_text (Err refusal) = codes "refused " ++ decimal (number_of refusal)
 
--- a refusal was printed after what was there
+-- the text of a refusal was appended
 abbrev pub PrintsRefusal : Option Refusal → List ℕ → List ℕ → Type 0
 PrintsRefusal None old new = ⊥
-PrintsRefusal (Some refusal) old new = new ≡ old ++ printed (Err refusal)
+PrintsRefusal (Some refusal) old new = new ≡ old ++ norm_text (Err refusal)
 
 -- what a call answered and wrote is a written form of which P holds, unless memory ran out
 abbrev pub WritesOf : (Wire → Type 0) → List ℕ → List ℕ → Result IsNull Fault → Type 0
 WritesOf P old new (Ok null) = (w : Wire) × P w × Writes w old new (Ok null)
 WritesOf P old new (Err f) = (new ≡ old) × IfSome (refusal_of f) (λ r. P (Err r))
 
--- the text is how a cell is printed that was rewritten by a Postgres type; where there is none, no text is
+-- the text is that of a cell that was rewritten by a Postgres type; where there is none, no text is
 abbrev pub AnswersAt : Option Content → (Content → Cell → Wire → Type 0) → Cell → List ℕ → Type 0
 AnswersAt None rewritten cell text = ⊥
-AnswersAt (Some ty) rewritten cell text = (w : Wire) × rewritten ty cell w × (text ≡ printed w)
+AnswersAt (Some ty) rewritten cell text = (w : Wire) × rewritten ty cell w × (text ≡ norm_text w)
 
 -- the same in a form, by the one of a type and the type of its arrays that the form stands for
 abbrev pub AnswersIn : Content → Option Content → Rewriting → Form → Cell → List ℕ → Type 0

@@ -4,9 +4,9 @@ use Rattle.std.specs.Global.{Global}
 use Rattle.postgres_types.specs.Cells.{Cell}
 use Rattle.postgres_types.specs.Content.{Content}
 use Rattle.postgres_types.specs.Faults.{Outcome, Refusal}
-use Rattle.postgres_types.specs.ListReading.{ReadsList, ReadsMembers}
-use Rattle.postgres_types.specs.ListWriting.{wire_list}
-use Rattle.postgres_types.specs.Lists.{accepted_list, member_of}
+use Rattle.postgres_types.specs.ArrayReading.{ReadsList, ReadsByElement}
+use Rattle.postgres_types.specs.ArrayWriting.{wire_list}
+use Rattle.postgres_types.specs.ArrayTypes.{accepted_list, element_of}
 use Rattle.postgres_types.specs.Texts.{ReadsText, has_version, wire_text}
 use Rattle.postgres_types.specs.Appending.{Wire}
 use Rattle.postgres_types.specs.OptionReading.{ReadsOption}
@@ -25,7 +25,7 @@ RewrittenTo {A} reads wire cell w =
 
 -- what an array's cell gives: a list of what its elements give by their type
 abbrev pub ReadsVec : {A : Type 0} → (Content → Cell → Outcome A → Type 0) → Content → Cell → Outcome (Vec A Global) → Type 0
-ReadsVec reads ty = ReadsMembers (λ element. ReadsList (λ v. v.items) (reads element)) (member_of ty)
+ReadsVec reads ty = ReadsByElement (λ element. ReadsList (λ v. v.items) (reads element)) (element_of ty)
 
 -- what a list is written as
 abbrev pub wire_vec : {A : Type 0} → (Content → A → Wire) → Content → Vec A Global → Wire

@@ -30,7 +30,7 @@ pub struct Name<'a> {
 }
 
 impl Form {
-    /// The form of the name, and the base name in front of it.
+    /// The base name, and the form that follows it.
     fn parse(word: &[u8]) -> (&[u8], Form)
         ensures { (result.0.now, result.1) ≡ form_of word.now }
     {
@@ -64,11 +64,11 @@ impl Form {
 }
 
 impl<'a> Name<'a> {
-    ghost use Rattle.pgcell_norm.specs.Names.{name_of, seen_name};
+    ghost use Rattle.pgcell_norm.specs.Names.{name_of, name_view};
 
     /// The name that the word is, or `None` where it is none.
     pub fn parse(word: &'a [u8]) -> Option<Name<'a>>
-        ensures { option_map seen_name result ≡ name_of word.now }
+        ensures { option_map name_view result ≡ name_of word.now }
     {
         let (base, form) = Form::parse(word);
         let Ok(base) = str::from_utf8(base) else {

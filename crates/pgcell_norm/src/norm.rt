@@ -1,13 +1,13 @@
 //! The answer to `norm NAME CELL`.
 ghost use Rattle.std.specs.Prelude.{◌≡◌, ◌++◌, ℕ, List, IsTrue, OnOk, OnErr, IfOk, IfSome, Some, Ok, codes, option_map};
 ghost use Rattle.hex.specs.Hex.{encode_lower};
-ghost use Rattle.postgres_types.specs.Content.{MadeType, SimpleKind, content};
+ghost use Rattle.postgres_types.specs.Content.{UserDefinedType, SimpleKind, content};
 ghost use Rattle.postgres_types.specs.Cells.{cell_of};
 ghost use Rattle.postgres_types.specs.Faults.{refusal_of};
-ghost use Rattle.postgres_types.specs.Lists.{accepted_list};
+ghost use Rattle.postgres_types.specs.ArrayTypes.{accepted_list};
 ghost use Rattle.pgcell_norm.specs.BaseNames.{has_form, other_entry_of, timestamp_entry_of};
 ghost use Rattle.pgcell_norm.specs.Forms.{has_type};
-ghost use Rattle.pgcell_norm.specs.Norm.{AnswersEntry, AnswersIn, AnswersNorm, PrintsRefusal, WritesOf, printed};
+ghost use Rattle.pgcell_norm.specs.Norm.{AnswersEntry, AnswersIn, AnswersNorm, PrintsRefusal, WritesOf, norm_text};
 ghost use Rattle.pgcell_norm.specs.Rewritten.{RewrittenAs, accepted_as};
 
 use crate::base_names::{dates_and_times, numbers_and_texts, others};
@@ -111,7 +111,7 @@ fn norm_other(
 
 /// A user-defined type of that name, of kind Simple and in the schema public.
 fn user_type(alloc: Global, name: &str, oid: Oid) -> Result<Type, AllocError>
-    ensures { IfOk result (λ ty. content ty ≡ MadeType name.now oid SimpleKind (codes "public")) }
+    ensures { IfOk result (λ ty. content ty ≡ UserDefinedType name.now oid SimpleKind (codes "public")) }
 {
     let name = String::from_str(alloc, name)?;
     let schema = String::from_str(alloc, "public")?;
@@ -170,7 +170,7 @@ fn rewrite_as<'a, T: Paired<'a>>(
 
 /// Prints the bytes of a cell.
 fn print_bytes(bytes: &[u8], pending: &mut Vec<u8>) -> Result<(), AllocError>
-    ensures ok { OnOk result (pending.new.items ≡ pending.old.items ++ printed (Ok (Some bytes.now))) }
+    ensures ok { OnOk result (pending.new.items ≡ pending.old.items ++ norm_text (Ok (Some bytes.now))) }
     ensures err { OnErr result (pending.new.items ≡ pending.old.items) }
 {
     if bytes.is_empty() {

@@ -11,7 +11,7 @@ use Rattle.pg_types.specs.Faults.{Refusal, Outcome, refusal_of}
 use Rattle.pg_read.specs.Reading.{ReadsSingle}
 use Rattle.pg_write.specs.Writing.{Writes}
 use Rattle.postgres_types.specs.BackLaws.{kept}
-use Rattle.postgres_types.specs.ReadingBack.{IsLawful, MadeCell}
+use Rattle.postgres_types.specs.ReadingBack.{IsLawful, WritesCell}
 use Rattle.postgres_types.specs.Rewriting.{IsCellOf, IsRewrittenAsItself}
 
 module _ {A : Type 0} (same : A → A → Type 0) (reads : Cell → Outcome A → Type 0) (wire : A → Wire) (back : A → Outcome A → Type 0)
@@ -33,14 +33,14 @@ module _ {A : Type 0} (same : A → A → Type 0) (reads : Cell → Outcome A �
         subst (λ w. Writes w old new (Ok null)) (law.same_wire h.0 u (single d (Ok h.0) (Ok u) h.1 (kept same reads wire back law c u d read e)) ∙ e) h.2
     itself d e old new (Err f) h = (h.0, IfSome_then (refusal_of f) h.1 (not_refused d e))
 
-    -- the cell that was made is the written form of what was read, and reads as it
-    pub made : (v : A) (old new : List ℕ) (result : Result IsNull Fault) → reads c (Ok v) → Writes (wire u) old new result → MadeCell (IsCellOf reads wire v) old new result
-    made v old new (Ok No) h w = (w.0, w.2, cell_of_same v (Some w.0) h w.1)
-    made v old new (Ok Yes) h w = (w.1, cell_of_same v None h w.0)
-    made v old new (Err f) h w = tt
+    -- the cell that is written is the written form of what was read, and reads as it
+    pub written : (v : A) (old new : List ℕ) (result : Result IsNull Fault) → reads c (Ok v) → Writes (wire u) old new result → WritesCell (IsCellOf reads wire v) old new result
+    written v old new (Ok No) h w = (w.0, w.2, cell_of_same v (Some w.0) h w.1)
+    written v old new (Ok Yes) h w = (w.1, cell_of_same v None h w.0)
+    written v old new (Err f) h w = tt
 
     -- and is rewritten as itself
-    pub again : (old new : List ℕ) (result : Result IsNull Fault) → Writes (wire u) old new result → MadeCell (IsRewrittenAsItself reads wire) old new result
+    pub again : (old new : List ℕ) (result : Result IsNull Fault) → Writes (wire u) old new result → WritesCell (IsRewrittenAsItself reads wire) old new result
     again old new (Ok No) w = (w.0, w.2, itself (Some w.0) w.1)
     again old new (Ok Yes) w = (w.1, itself None w.0)
     again old new (Err f) w = tt

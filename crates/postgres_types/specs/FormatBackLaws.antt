@@ -11,13 +11,13 @@ use Rattle.pg_base.proofs.BitLemmas.{first_bits_packed, packed_len}
 use Rattle.pg_base.specs.Appending.{Wire, wire_of}
 use Rattle.pg_base.specs.Bits.{FormBits, ReadsBits, first_fault_bits, packed, wire_bits}
 use Rattle.pg_base.proofs.BitsLaws.{bits_grammar}
-use Rattle.pg_base.specs.Bytes.{FormBytes, ReadsBytes, first_fault_bytes, wire_bytes}
+use Rattle.pg_base.specs.Bytea.{FormBytes, ReadsBytes, first_fault_bytes, wire_bytes}
 use Rattle.pg_base.specs.Cells.{Cell, IsBe, be}
 use Rattle.pg_types.specs.Faults.{Outcome, Refusal}
 use Rattle.pg_base.specs.Formats.{IsGrammar}
 use Rattle.pg_base.proofs.FormatLaws.{bool_grammar, bytes_grammar, has_fitted, text_grammar}
-use Rattle.pg_base.specs.Identifiers.{FormIdentifier, ReadsIdentifier, wire_identifier}
-use Rattle.pg_base.proofs.IdentifiersLaws.{identifier_grammar}
+use Rattle.pg_base.specs.FixedBytes.{FormFixedBytes, ReadsFixedBytes, wire_fixed_bytes}
+use Rattle.pg_base.proofs.FixedBytesLaws.{fixed_bytes_grammar}
 use Rattle.pg_base.specs.Network.{FormAddress, FormCidr, FormInet, Network, ReadsAddress, ReadsCidr, ReadsInet, address_bits, first_fault_cidr, first_fault_inet, is_network, network_bytes, with_netmask, wire_address, wire_cidr, wire_inet}
 use Rattle.pg_base.proofs.NetworkLaws.{address_grammar, cidr_grammar, inet_grammar}
 use Rattle.pg_base.specs.Numbers.{FormBool, FormSigned, FormUnsigned, ReadsBool, ReadsSigned, ReadsUnsigned, first_fault_number, fits_signed, wire_bool, wire_signed, wire_unsigned}
@@ -121,9 +121,9 @@ pub bits_lawful : IsLawful (λ v w. v ≡ w) (ReadsBits (λ u. u)) wire_bits (Ba
 bits_lawful = plain_lawful (λ v. v) (FormBits (λ u. u)) first_fault_bits (bits_grammar (λ u. u)) wire_bits bits_written
 
 -- ---- identifiers
-identifier_written : (width : ℕ) (v : List ℕ) → WrittenAsBytes (ReadsIdentifier width) v (wire_identifier width v)
-identifier_written width v = written_if (ReadsIdentifier width) v (length v == width) _ _ (λ h. (refl, eqb-true (length v) width h))
+identifier_written : (width : ℕ) (v : List ℕ) → WrittenAsBytes (ReadsFixedBytes width) v (wire_fixed_bytes width v)
+identifier_written width v = written_if (ReadsFixedBytes width) v (length v == width) _ _ (λ h. (refl, eqb-true (length v) width h))
 
-pub identifier_lawful : (width : ℕ) → IsLawful (λ v w. v ≡ w) (ReadsIdentifier width) (wire_identifier width) (BackKept (λ v w. v ≡ w))
-identifier_lawful width =
-    plain_lawful (λ v. v) (FormIdentifier width) (first_fault_number width) (identifier_grammar width) (wire_identifier width) (identifier_written width)
+pub fixed_bytes_lawful : (width : ℕ) → IsLawful (λ v w. v ≡ w) (ReadsFixedBytes width) (wire_fixed_bytes width) (BackKept (λ v w. v ≡ w))
+fixed_bytes_lawful width =
+    plain_lawful (λ v. v) (FormFixedBytes width) (first_fault_number width) (fixed_bytes_grammar width) (wire_fixed_bytes width) (identifier_written width)

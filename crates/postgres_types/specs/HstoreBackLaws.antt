@@ -13,16 +13,16 @@ use Rattle.std.specs.Map.{lookup}
 use Rattle.std.specs.Ordering.{nat_cmp}
 use Rattle.std.specs.Str.{bytes_eq}
 use Rattle.pg_base.specs.Appending.{wire_of}
-use Rattle.pg_base.specs.Cells.{Cell, frame, joined}
+use Rattle.pg_base.specs.Cells.{Cell, frame, concat}
 use Rattle.pg_base.proofs.CountLaws.{count_is}
 use Rattle.pg_base.specs.Counts.{count_bytes}
 use Rattle.pg_base.proofs.FrameLaws.{frame_spells, parts_of}
-use Rattle.pg_base.specs.Hstore.{Entry, FormHstore, ReadsHstore, SameMap, SpellsEntries, entries_bytes, first_fault_hstore, hstore_bytes, in_key_order, last_value, or_this, owned_entry, placed, placed_by, value_at, wire_hstore}
+use Rattle.pg_base.specs.Hstore.{Entry, FormHstore, ReadsHstore, SameMap, SpellsEntries, entries_bytes, first_fault_hstore, hstore_bytes, in_key_order, last_value, or_this, owned_entry, insert_entry, insert_entry_by, value_at, wire_hstore}
 use Rattle.pg_base.proofs.HstoreLaws.{hstore_grammar}
 use Rattle.pg_base.specs.Options.{NoneOr}
-use Rattle.pg_write.proofs.Placing.{InOrder, in_order, in_order_lookup}
+use Rattle.pg_write.proofs.Insertion.{InOrder, in_order, in_order_lookup}
 use Rattle.pg_write.proofs.SameEntries.{none_above, sorted_same}
-use Rattle.postgres_types.specs.PlainLaws.{WrittenAsKept, cut_lawful}
+use Rattle.postgres_types.specs.PlainLaws.{WrittenAsKept, kept_lawful}
 use Rattle.postgres_types.specs.ReadingBack.{BackKept, IsLawful}
 
 abbrev Owned : Type 0
@@ -67,24 +67,24 @@ owned_texts : (es : List Owned) → AreTexts (map owned_entry es)
 owned_texts [] = tt
 owned_texts (e ∷ es) = ((IsUtf8-string_bytes e.0, owned_value e.1), owned_texts es)
 
-placed_by_texts : (o : Ordering) (e f : Entry) (fs rest : List Entry) → AreTexts (e ∷ f ∷ fs) → AreTexts rest → AreTexts (placed_by o e f fs rest)
-placed_by_texts Less e f fs rest h k = h
-placed_by_texts Equal e f fs rest h k = (h.0, h.1.1)
-placed_by_texts Greater e f fs rest h k = (h.1.0, k)
+insert_by_texts : (o : Ordering) (e f : Entry) (fs rest : List Entry) → AreTexts (e ∷ f ∷ fs) → AreTexts rest → AreTexts (insert_entry_by o e f fs rest)
+insert_by_texts Less e f fs rest h k = h
+insert_by_texts Equal e f fs rest h k = (h.0, h.1.1)
+insert_by_texts Greater e f fs rest h k = (h.1.0, k)
 
-placed_texts : (e : Entry) (fs : List Entry) → AreTexts (e ∷ fs) → AreTexts (placed e fs)
-placed_texts e [] h = h
-placed_texts e (f ∷ fs) h = placed_by_texts (slice_cmp nat_cmp e.0 f.0) e f fs (placed e fs) h (placed_texts e fs (h.0, h.1.1))
+insert_texts : (e : Entry) (fs : List Entry) → AreTexts (e ∷ fs) → AreTexts (insert_entry e fs)
+insert_texts e [] h = h
+insert_texts e (f ∷ fs) h = insert_by_texts (slice_cmp nat_cmp e.0 f.0) e f fs (insert_entry e fs) h (insert_texts e fs (h.0, h.1.1))
 
 ordered_texts : (es : List Entry) → AreTexts es → AreTexts (in_key_order es)
 ordered_texts [] h = tt
-ordered_texts (e ∷ es) h = placed_texts e (in_key_order es) (h.0, ordered_texts es h.1)
+ordered_texts (e ∷ es) h = insert_texts e (in_key_order es) (h.0, ordered_texts es h.1)
 
 -- the frames of texts spell the entries
 entries_spelled : (es : List Entry) (s : List ℕ) → AreTexts es → entries_bytes es ≡ Some s → SpellsEntries s es []
 entries_spelled [] s h e = cc
 entries_spelled (x ∷ xs) s h e =
-    let p = parts_of (joined (frame (Some x.0)) (frame x.1)) (entries_bytes xs) s e in
+    let p = parts_of (concat (frame (Some x.0)) (frame x.1)) (entries_bytes xs) s e in
     let q = parts_of (frame (Some x.0)) (frame x.1) p.0 p.2 in (
       p.0,
       p.1,
@@ -93,7 +93,7 @@ entries_spelled (x ∷ xs) s h e =
       entries_spelled xs p.1 h.1 p.3,
     )
 
--- and a count in front of them, and what has their values, the whole
+-- and a count prefix and them, and what has their values, the whole
 spelled : {A : Type 0} (value_at : A → List ℕ → Option Cell) (m : A) (es : List Entry) (b : List ℕ) → AreTexts es → ((q : List ℕ) → value_at m q ≡ last_value q es)
     → hstore_bytes es ≡ Some b → FormHstore value_at b m
 spelled value_at m es b h has e =
@@ -127,6 +127,6 @@ module _ {S : Type 0} where
 
   -- a map is lawful, and is read back as itself
   pub hstore_lawful : IsLawful (SameMap {S = S}) ReadsHstore (λ m. wire_hstore (map owned_entry m.entries)) (BackKept SameMap)
-  hstore_lawful = cut_lawful (FormHstore value_at) first_fault_hstore SameMap SameMap (λ m. wire_hstore (map owned_entry m.entries))
+  hstore_lawful = kept_lawful (FormHstore value_at) first_fault_hstore SameMap SameMap (λ m. wire_hstore (map owned_entry m.entries))
       (λ m n h. ap (λ es. wire_of (hstore_bytes es)) (same_entries m n h)) (λ l m n h k q. sym (h q) ∙ k q) (λ b m h q. refl)
       (λ m. map_kept m (hstore_bytes (entries_of m)) refl)

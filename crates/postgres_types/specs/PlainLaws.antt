@@ -17,41 +17,41 @@ WrittenAsKept form first_fault kept v (Err r) = Unit {0}
 
 -- over a plain format, and what is kept of a value
 module _ {A : Type 0} (form : List ℕ → A → Type 0) (first_fault : List ℕ → Option Refusal) (kept : A → A → Type 0) where
-  cut_same_back : (same : A → A → Type 0) → ((u v w : A) → same u v → kept u w → kept v w)
+  kept_same_back : (same : A → A → Type 0) → ((u v w : A) → same u v → kept u w → kept v w)
       → (u v : A) (o : Outcome A) → same u v → BackKept kept u o → BackKept kept v o
-  cut_same_back same respects u v (Ok w) h k = respects u v w h k
-  cut_same_back same respects u v (Err r) h k = k
+  kept_same_back same respects u v (Ok w) h k = respects u v w h k
+  kept_same_back same respects u v (Err r) h k = k
 
-  cut_from_bytes : (v : A) (x : Wire) → kept v v → WrittenAsKept form first_fault kept v x → WrittenAsBytes (ReadsPlain form first_fault) v x
-  cut_from_bytes v (Ok None) h k = k
-  cut_from_bytes v (Ok (Some b)) h k = k.1 v h
-  cut_from_bytes v (Err r) h k = tt
+  kept_from_bytes : (v : A) (x : Wire) → kept v v → WrittenAsKept form first_fault kept v x → WrittenAsBytes (ReadsPlain form first_fault) v x
+  kept_from_bytes v (Ok None) h k = k
+  kept_from_bytes v (Ok (Some b)) h k = k.1 v h
+  kept_from_bytes v (Err r) h k = tt
 
-  cut_back_reads : (v : A) (c : Cell) (o : Outcome A) → WrittenAsKept form first_fault kept v (Ok c) → BackKept kept v o → ReadsPlain form first_fault c o
-  cut_back_reads v None o h k = absurd h
-  cut_back_reads v (Some b) (Ok w) h k = h.1 w k
-  cut_back_reads v (Some b) (Err r) h k = absurd k
+  kept_back_reads : (v : A) (c : Cell) (o : Outcome A) → WrittenAsKept form first_fault kept v (Ok c) → BackKept kept v o → ReadsPlain form first_fault c o
+  kept_back_reads v None o h k = absurd h
+  kept_back_reads v (Some b) (Ok w) h k = h.1 w k
+  kept_back_reads v (Some b) (Err r) h k = absurd k
 
-  cut_reads_back : (v : A) (c : Cell) (o : Outcome A) → WrittenAsKept form first_fault kept v (Ok c) → ReadsPlain form first_fault c o → BackKept kept v o
-  cut_reads_back v None o h k = absurd h
-  cut_reads_back v (Some b) (Ok w) h k = h.2 w k
-  cut_reads_back v (Some b) (Err r) h k = no_fault (first_fault b) r h.0 k
+  kept_reads_back : (v : A) (c : Cell) (o : Outcome A) → WrittenAsKept form first_fault kept v (Ok c) → ReadsPlain form first_fault c o → BackKept kept v o
+  kept_reads_back v None o h k = absurd h
+  kept_reads_back v (Some b) (Ok w) h k = h.2 w k
+  kept_reads_back v (Some b) (Err r) h k = no_fault (first_fault b) r h.0 k
 
   -- a plain type is lawful, where each value is written as bytes that spell what is kept of it, and all of what bytes
   -- spell is kept
-  pub cut_lawful : (same : A → A → Type 0) (wire : A → Wire)
+  pub kept_lawful : (same : A → A → Type 0) (wire : A → Wire)
       → ((v w : A) → same v w → wire v ≡ wire w)
       → ((u v w : A) → same u v → kept u w → kept v w)
       → ((b : List ℕ) (v : A) → form b v → kept v v)
       → ((v : A) → WrittenAsKept form first_fault kept v (wire v))
       → IsLawful same (ReadsPlain form first_fault) wire (BackKept kept)
-  cut_lawful same wire same_wire respects whole written = record {
+  kept_lawful same wire same_wire respects whole written = record {
     same_wire = same_wire;
-    same_back = cut_same_back same respects;
-    from_bytes = λ b v h. cut_from_bytes v (wire v) (whole b v h) (written v);
+    same_back = kept_same_back same respects;
+    from_bytes = λ b v h. kept_from_bytes v (wire v) (whole b v h) (written v);
     from_null = λ v h. absurd h;
-    back_reads = λ v c o e. cut_back_reads v c o (subst (WrittenAsKept form first_fault kept v) e (written v));
-    reads_back = λ v c o e. cut_reads_back v c o (subst (WrittenAsKept form first_fault kept v) e (written v));
+    back_reads = λ v c o e. kept_back_reads v c o (subst (WrittenAsKept form first_fault kept v) e (written v));
+    reads_back = λ v c o e. kept_reads_back v c o (subst (WrittenAsKept form first_fault kept v) e (written v));
   }
 
 -- over a grammar of contents, and what contents are written as
@@ -67,6 +67,6 @@ module _ {A C : Type 0} (content_of : A → C) (form : List ℕ → C → Type 0
   -- read back as itself
   pub plain_lawful : (wire : C → Wire) → ((x : C) → WrittenAsBytes (ReadsPlain form first_fault) x (wire x))
       → IsLawful (λ v w. content_of v ≡ content_of w) (ReadsPlain (λ b v. form b (content_of v)) first_fault) (λ v. wire (content_of v)) (BackKept (λ v w. content_of v ≡ content_of w))
-  plain_lawful wire written = cut_lawful (λ b v. form b (content_of v)) first_fault (λ v w. content_of v ≡ content_of w)
+  plain_lawful wire written = kept_lawful (λ b v. form b (content_of v)) first_fault (λ v w. content_of v ≡ content_of w)
       (λ v w. content_of v ≡ content_of w) (λ v. wire (content_of v))
       (λ v w e. ap wire e) (λ u v w e k. sym e ∙ k) (λ b v h. refl) (λ v. all_kept v (wire (content_of v)) (written (content_of v)))

@@ -10,7 +10,7 @@ use Rattle.pg_types.specs.Faults.{Outcome}
 use Rattle.pg_base.specs.Formats.{IsWasNull}
 use Rattle.pg_base.specs.Special.{IsFiniteCell, ReadsSpecial, Special, pos_infinity, neg_infinity, value}
 use Rattle.pg_read.specs.BoxReading.{InBox}
-use Rattle.pg_read.specs.ListReading.{ReadsAll}
+use Rattle.pg_read.specs.ArrayReading.{ReadsAll}
 use Rattle.pg_read.specs.OptionReading.{IsNoneOutcome}
 
 -- ---- laws
@@ -77,8 +77,8 @@ BackBox inside wire back v outcome = IfNull (wire (inside v)) (IsWasNull outcome
 
 -- an infinity
 abbrev pub IsInfinityOutcome : {A B : Type 0} → (B → Special A) → Special A → Outcome B → Type 0
-IsInfinityOutcome seen infinity (Ok v) = seen v ≡ infinity
-IsInfinityOutcome seen infinity (Err r) = ⊥
+IsInfinityOutcome view infinity (Ok v) = view v ≡ infinity
+IsInfinityOutcome view infinity (Err r) = ⊥
 
 -- a value of which P holds, and no infinity
 abbrev pub OfValue : {A : Type 0} → (A → Type 0) → Special A → Type 0
@@ -88,21 +88,21 @@ OfValue P (value v) = P v
 
 -- Value of what the value inside is read back as, or its fault
 abbrev pub InValue : {A B : Type 0} → (B → Special A) → (Outcome A → Type 0) → Outcome B → Type 0
-InValue seen back (Ok s) = OfValue (λ v. back (Ok v)) (seen s)
-InValue seen back (Err r) = back (Err r)
+InValue view back (Ok s) = OfValue (λ v. back (Ok v)) (view s)
+InValue view back (Err r) = back (Err r)
 
 -- what a value is read back as: as its cell is read, where what the value inside is read back as stands for its reading.
 -- So it is WasNull where the cell is NULL, Size where it has another width, the infinity where it is one's, and otherwise
 -- Value of what the value inside is read back as, or its fault
 abbrev pub BackValue : {A B : Type 0} → Width → (B → Special A) → Wire → (Outcome A → Type 0) → Outcome B → Type 0
-BackValue w seen (Ok c) back outcome = ReadsSpecial w seen (λ _. back) c outcome
-BackValue w seen (Err r) back outcome = InValue seen back outcome
+BackValue w view (Ok c) back outcome = ReadsSpecial w view (λ _. back) c outcome
+BackValue w view (Err r) back outcome = InValue view back outcome
 
 -- an infinity as itself, and a value as its cell is read back
 abbrev pub BackSpecial : {A B : Type 0} → Width → (B → Special A) → (A → Wire) → (A → Outcome A → Type 0) → Special A → Outcome B → Type 0
-BackSpecial w seen wire back pos_infinity outcome = IsInfinityOutcome seen pos_infinity outcome
-BackSpecial w seen wire back neg_infinity outcome = IsInfinityOutcome seen neg_infinity outcome
-BackSpecial w seen wire back (value v) outcome = BackValue w seen (wire v) (back v) outcome
+BackSpecial w view wire back pos_infinity outcome = IsInfinityOutcome view pos_infinity outcome
+BackSpecial w view wire back neg_infinity outcome = IsInfinityOutcome view neg_infinity outcome
+BackSpecial w view wire back (value v) outcome = BackValue w view (wire v) (back v) outcome
 
 -- the list of what its elements are read back as, or the first refusal among them
 abbrev pub BackList : {A X : Type 0} → (X → List A) → (A → Outcome A → Type 0) → X → Outcome X → Type 0
@@ -111,8 +111,8 @@ BackList items back x (Err r) = ReadsAll back (items x) (Err r)
 
 -- ---- rewriting
 
--- the cell that was made is one of which P holds
-abbrev pub MadeCell : (Cell → Type 0) → List ℕ → List ℕ → Result IsNull Fault → Type 0
-MadeCell P old new (Ok No) = (b : List ℕ) × (new ≡ old ++ b) × P (Some b)
-MadeCell P old new (Ok Yes) = (new ≡ old) × P None
-MadeCell P old new (Err f) = Unit {0}
+-- P holds of the cell that was written
+abbrev pub WritesCell : (Cell → Type 0) → List ℕ → List ℕ → Result IsNull Fault → Type 0
+WritesCell P old new (Ok No) = (b : List ℕ) × (new ≡ old ++ b) × P (Some b)
+WritesCell P old new (Ok Yes) = (new ≡ old) × P None
+WritesCell P old new (Err f) = Unit {0}

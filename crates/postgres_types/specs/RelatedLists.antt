@@ -3,7 +3,7 @@ use Rattle.std.specs.Prelude.{◌≡◌, suc, List, [], ◌∷◌, length, Ok, E
 use Rattle.std.proofs.Common.{ap, inl, inr}
 use Rattle.pg_types.specs.Faults.{Outcome}
 use Rattle.pg_base.specs.Sameness.{SameList}
-use Rattle.pg_read.specs.ListReading.{ReadsAll}
+use Rattle.pg_read.specs.ArrayReading.{ReadsAll}
 
 module _ {C D : Type 0} (related : C → D → Type 0) where
   -- the lists are as long as each other

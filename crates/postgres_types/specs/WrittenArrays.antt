@@ -11,7 +11,7 @@ use Rattle.pg_base.specs.Counts.{IsCount, count_bytes}
 use Rattle.pg_types.specs.Faults.{Outcome, transmit}
 use Rattle.pg_base.proofs.FrameLaws.{parts_of}
 use Rattle.pg_base.specs.Sameness.{SameList}
-use Rattle.pg_write.specs.ListWriting.{element_cells, framed, in_front, with_frame, wire_array}
+use Rattle.pg_write.specs.ArrayWriting.{element_cells, element_frame_cell, cons_cell, with_frame, wire_array}
 
 -- the cells are those that the values are written as
 abbrev pub AllWritten : {A : Type 0} → (A → Wire) → List A → List Cell → Type 0
@@ -21,11 +21,11 @@ has_frame : (c d : Cell) (f : Option (List ℕ)) → with_frame c f ≡ Ok d →
 has_frame c d None e = cc
 has_frame c d (Some f) e = cc
 
-framed_cell : (w : Wire) (c : Cell) → framed w ≡ Ok c → w ≡ Ok c
-framed_cell (Ok d) c e = ap Ok (has_frame d c (frame d) e)
-framed_cell (Err r) c e = cc
+frame_after_cell : (w : Wire) (c : Cell) → element_frame_cell w ≡ Ok c → w ≡ Ok c
+frame_after_cell (Ok d) c e = ap Ok (has_frame d c (frame d) e)
+frame_after_cell (Err r) c e = cc
 
-in_front_of : (w : Wire) (r : Outcome (List Cell)) (cs : List Cell) → in_front w r ≡ Ok cs → (c : Cell) × (ds : List Cell) × (w ≡ Ok c) × (r ≡ Ok ds) × (cs ≡ c ∷ ds)
+in_front_of : (w : Wire) (r : Outcome (List Cell)) (cs : List Cell) → cons_cell w r ≡ Ok cs → (c : Cell) × (ds : List Cell) × (w ≡ Ok c) × (r ≡ Ok ds) × (cs ≡ c ∷ ds)
 in_front_of (Err x) r cs e = cc
 in_front_of (Ok c) (Err x) cs e = cc
 in_front_of (Ok c) (Ok ds) cs e = (c, ds, refl, refl, cc)
@@ -34,8 +34,8 @@ in_front_of (Ok c) (Ok ds) cs e = (c, ds, refl, refl, cc)
 pub elements_written : {A : Type 0} (wire : A → Wire) (vs : List A) (cs : List Cell) → element_cells wire vs ≡ Ok cs → AllWritten wire vs cs
 elements_written wire [] cs e = let none : cs ≡ [] = cc in subst (AllWritten wire []) (sym none) tt
 elements_written wire (v ∷ vs) cs e =
-    let p = in_front_of (framed (wire v)) (element_cells wire vs) cs e in
-    subst (AllWritten wire (v ∷ vs)) (sym p.4) (framed_cell (wire v) p.0 p.2, elements_written wire vs p.1 p.3)
+    let p = in_front_of (element_frame_cell (wire v)) (element_cells wire vs) cs e in
+    subst (AllWritten wire (v ∷ vs)) (sym p.4) (frame_after_cell (wire v) p.0 p.2, elements_written wire vs p.1 p.3)
 
 mapped : (f : List ℕ → List ℕ) (o : Option (List ℕ)) (s : List ℕ) → option_map f o ≡ Some s → (x : List ℕ) × (o ≡ Some x) × (s ≡ f x)
 mapped f None s e = cc

@@ -4,23 +4,23 @@ ghost use Rattle.std.specs.Int.{w32, w64};
 ghost use Rattle.pg_types.specs.declared.types.built_in.BuiltIn.TheVariants.{Date as DateRow};
 ghost use Rattle.pg_types.specs.Content.{Content, is_row};
 ghost use Rattle.pg_types.specs.Faults.{Outcome};
-ghost use Rattle.pg_base.specs.Moments.{accepted_moment};
+ghost use Rattle.pg_base.specs.Timestamps.{accepts_timestamps};
 ghost use Rattle.postgres_types.specs.ReadingBack.{IsLawful, KeepsFinite};
 
+mod arrays;
 mod bits;
 mod boxes;
 mod bytea;
 mod civil;
 mod hstore;
-mod identifiers;
-mod lists;
 mod lsn;
-mod moments;
 mod network;
 mod numbers;
 mod options;
 mod special;
 mod texts;
+mod unix_time;
+mod uuids;
 
 use pg_read::from_sql::FromSql;
 use pg_write::to_sql::ToSql;
@@ -55,6 +55,6 @@ pub trait Finite<'a>: Paired<'a> {
 
     /// Law: what is read from a TIMESTAMP or a TIMESTAMPTZ of 8 bytes that is no infinity is
     /// written as such a cell, or refused.
-    ghost moments: { (ty : Content) → IsTrue (accepted_moment ty) → IsTrue (Self.FromSql.accepted ty)
+    ghost timestamps: { (ty : Content) → IsTrue (accepts_timestamps ty) → IsTrue (Self.FromSql.accepted ty)
         → KeepsFinite w64 (Self.reads ty) (Self.wire ty) };
 }

@@ -1,6 +1,6 @@
 //! Reading a cell and writing it again.
 ghost use Rattle.std.specs.Prelude.{◌≡◌, Ok, Err, IsTrue, false, codes};
-ghost use Rattle.postgres_types.specs.ReadingBack.{MadeCell};
+ghost use Rattle.postgres_types.specs.ReadingBack.{WritesCell};
 ghost use Rattle.postgres_types.specs.Rewriting.{IsCellOf, IsRewrittenAsItself, Rewrites};
 ghost use Rattle.pg_types.specs.Content.{content, IsBuiltIn};
 ghost use Rattle.pg_types.specs.Faults.{NeverMemory, wrong_type};
@@ -29,15 +29,18 @@ pub fn rewrite<'a, T: Paired<'a>>(
 ) -> Result<IsNull, Fault>
     ensures refuses { T.FromSql.accepted (content ty.now) ≡ false
         → Writes (Err (wrong_type (content ty.now) (codes "rewrite"))) out.old.items out.new.items result }
-    ensures never_memory { T.FromSql.accepted (content ty.now) ≡ false → IsBuiltIn (content ty.now) → NeverMemory result }
+    ensures never_memory { T.FromSql.accepted (content ty.now) ≡ false → IsBuiltIn (content ty.now)
+        → NeverMemory result }
     ensures rewrites { IsTrue (T.FromSql.accepted (content ty.now))
         → Rewrites (T.reads (content ty.now)) (T.wire (content ty.now)) (cell_of raw.entry)
         out.old.items out.new.items result }
-    ensures made { IsTrue (T.FromSql.accepted (content ty.now))
+    ensures written { IsTrue (T.FromSql.accepted (content ty.now))
         → (v : T) → T.reads (content ty.now) (cell_of raw.entry) (Ok v)
-        → MadeCell (IsCellOf (T.reads (content ty.now)) (T.wire (content ty.now)) v) out.old.items out.new.items result }
+        → WritesCell (IsCellOf (T.reads (content ty.now))
+        (T.wire (content ty.now)) v) out.old.items out.new.items result }
     ensures again { IsTrue (T.FromSql.accepted (content ty.now))
-        → MadeCell (IsRewrittenAsItself (T.reads (content ty.now)) (T.wire (content ty.now))) out.old.items out.new.items result }
+        → WritesCell (IsRewrittenAsItself (T.reads (content ty.now))
+        (T.wire (content ty.now))) out.old.items out.new.items result }
 {
     if !<T as FromSql<'a>>::accepts(ty) {
         return Err(wrong_type(ty, "rewrite"));

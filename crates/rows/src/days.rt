@@ -33,7 +33,8 @@ impl<'a> FromSql<'a> for Days {
     ghost equivalence = { content_equivalence (λ v. v.0) };
 
     ghost single = { λ _ _. plain_single (λ v w. v.0 ≡ w.0) (λ b v. FormSigned w32 b v.0) (first_fault_number 4)
-        (record { passes = λ b v h. int4_grammar.passes b v.0 h; single = λ b v w h k. int4_grammar.single b v.0 w.0 h k }) };
+        (record { passes = λ b v h. int4_grammar.passes b v.0 h;
+            single = λ b v w h k. int4_grammar.single b v.0 w.0 h k }) };
 
     fn from_sql(_alloc: Global, _ty: &Type, raw: &'a [u8]) -> Result<Days, Fault> {
         Ok(Days(int4_from_sql(raw)?))
@@ -110,7 +111,8 @@ impl<'a> Paired<'a> for Days {
 
     ghost types = { λ _. refl };
 
-    ghost lawful = { λ _ _. plain_lawful (λ v. v.0) (FormSigned w32) (first_fault_number 4) int4_grammar (wire_signed w32) (signed_written w32) };
+    ghost lawful = { λ _ _. plain_lawful (λ v. v.0) (FormSigned w32) (first_fault_number 4) int4_grammar
+        (wire_signed w32) (signed_written w32) };
 }
 
 /// What is read from a finite cell is written as that cell.
@@ -120,7 +122,7 @@ impl<'a> Finite<'a> for Days {
 
     ghost dates = { λ _ _ _ b v. signed_finite w32 w32 b v.0 };
 
-    ghost moments = { λ _ _ _ b v. signed_finite w64 w32 b v.0 };
+    ghost timestamps = { λ _ _ _ b v. signed_finite w64 w32 b v.0 };
 }
 
 /// A type without values: every cell of DATE is refused.

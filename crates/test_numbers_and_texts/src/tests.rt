@@ -1,4 +1,4 @@
-mod bytes;
+mod bytea;
 mod memory;
 mod numbers;
 mod texts;

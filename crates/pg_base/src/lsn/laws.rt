@@ -20,8 +20,8 @@ pub fn position_order(a: &PgLsn, b: &PgLsn) -> Ordering
     a.cmp(b)
 }
 
-/// What is printed of a position is parsed to it.
-#[tactic(auto, using(crate::proofs::LsnLemmas::printed_parses))]
-pub fn printed_position_parses()
+/// The text of a position is parsed to the position.
+#[tactic(auto, using(crate::proofs::LsnLemmas::text_parses))]
+pub fn position_text_parses()
     ensures { (n : ℕ) → n < 2 ^ 64 → lsn_of (lsn_text n) ≡ Some n }
 {}

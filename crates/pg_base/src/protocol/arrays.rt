@@ -1,6 +1,7 @@
 //! Arrays.
 ghost use Rattle.std.specs.Prelude.{suc, zero, ◌≡◌, ◌≤◌, ◌*◌, length, map, IfOk};
-ghost use Rattle.pg_base.specs.Arrays.{SpellsDimensions, SpellsHead, TakesElement, dimension_checks, head_checks, array_bytes, array_head, flags_of, owned_cell};
+ghost use Rattle.pg_base.specs.Arrays.{SpellsDimensions, SpellsHead, TakesElement, dimension_checks};
+ghost use Rattle.pg_base.specs.Arrays.{head_checks, array_bytes, array_head, flags_of, owned_cell};
 ghost use Rattle.pg_base.specs.Counts.{ToRead};
 ghost use Rattle.pg_types.specs.Faults.{Answers, NeverMemory};
 ghost use Rattle.pg_base.specs.Formats.{Decodes, first_fault_of};
@@ -30,7 +31,7 @@ impl<'a> Model for ArrayCells<'a> {
 
 /// Reads the head of an array (`array_recv`): in 4 bytes each, big-endian, the number of
 /// dimensions, the flags, the OID of the elements' type, and for each dimension its length and its
-/// lower bound; the framed elements come after it. Without a dimension there are no elements.
+/// lower bound; the elements' frames come after it. Without a dimension there are no elements.
 ///
 /// The checks are made in this order: a truncated number of dimensions is `Size`, a negative one
 /// `Count`, truncated flags or a truncated OID `Size`, more than 1 dimension `Dimensions`, a
@@ -54,9 +55,10 @@ pub fn array_from_sql(_alloc: Global, raw: &[u8]) -> Result<ArrayCells<'_>, Faul
     split_dimension(bytes)
 }
 
-/// The cells after the one dimension in front.
+/// The cells of an array of one dimension, and what that dimension says.
 fn split_dimension(bytes: &[u8]) -> Result<ArrayCells<'_>, Fault>
-    ensures outcome { Answers (Decodes (SpellsDimensions (suc zero)) (λ s. first_fault_of (dimension_checks (suc zero) s)) bytes.now) result }
+    ensures outcome { Answers (Decodes (SpellsDimensions (suc zero))
+        (λ s. first_fault_of (dimension_checks (suc zero) s)) bytes.now) result }
     ensures never_memory { NeverMemory result }
 {
     if bytes.len() < 8 {
@@ -97,7 +99,7 @@ impl<'a> ArrayCells<'a> {
     }
 }
 
-/// The bytes in front of the cells' frames.
+/// The length of the head that is written.
 const HEAD_LEN: usize = 20;
 
 /// Appends an array of one dimension (`array_send`): in 4 bytes each, big-endian, the number 1
@@ -136,7 +138,7 @@ fn frames_len(cells: &[Option<Vec<u8>>]) -> Result<usize, Fault>
     Ok(len)
 }
 
-/// Appends what stands in front of the frames of so few cells. There is room for it.
+/// Appends the head. There is room for it.
 fn extend_by_head(lower_bound: i32, oid: Oid, cells: &[Option<Vec<u8>>], out: &mut BytesMut)
     requires few { length cells.now ≤ 2147483647 }
     requires room { 20 ≤ out.now.spare }

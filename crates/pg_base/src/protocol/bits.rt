@@ -1,6 +1,7 @@
 //! Lists of bits. They lie packed, the first on top of the first byte.
 ghost use Rattle.std.specs.Prelude.{◌≡◌, ◌≤◌, ◌+◌, ◌++◌, IfOk, drop, length};
-ghost use Rattle.pg_base.specs.Bits.{FormBits, bits_cell, bytes_for, first_bits, first_fault_bits, packed, pad_of, without_low};
+ghost use Rattle.pg_base.specs.Bits.{FormBits, bits_cell, bytes_for, first_bits, first_fault_bits, packed};
+ghost use Rattle.pg_base.specs.Bits.{pad_of, without_low};
 ghost use Rattle.pg_types.specs.Faults.{Answers, NeverMemory};
 ghost use Rattle.pg_base.specs.Formats.{Decodes};
 ghost use Rattle.pg_base.specs.Appending.{Appends};

@@ -1,18 +1,18 @@
-//! A number of 4 bytes in front of others, as counts and lengths stand, and the cells after
-//! lengths.
+//! Count and length prefixes, of 4 bytes, and the cells after lengths.
 ghost use Rattle.std.specs.Prelude.{◌∷◌, []};
 ghost use Rattle.std.specs.Int.{w32};
 ghost use Rattle.pg_base.specs.Cells.{IsBe, Spells, cell_of};
-ghost use Rattle.pg_base.specs.Counts.{InFront, IsCount, cell_checks, count_checks, has_number};
+ghost use Rattle.pg_base.specs.Counts.{StartsWith, IsCount, cell_checks, count_checks, has_number};
 ghost use Rattle.pg_types.specs.Faults.{Answers, NeverMemory, size};
 ghost use Rattle.pg_base.specs.Formats.{Decodes, first_fault_of};
 
 use super::numbers::int4_from_sql;
 use crate::fault::Fault;
 
-/// The number in front, and the bytes after it.
+/// The prefix, and the bytes after it.
 pub(super) fn split_number(bytes: &[u8]) -> Result<(i32, &[u8]), Fault>
-    ensures outcome { Answers (Decodes (InFront (IsBe w32)) (λ s. first_fault_of ((has_number s, size) ∷ [])) bytes.now) result }
+    ensures outcome { Answers (Decodes (StartsWith (IsBe w32))
+        (λ s. first_fault_of ((has_number s, size) ∷ [])) bytes.now) result }
     ensures never_memory { NeverMemory result }
 {
     if bytes.len() < 4 {
@@ -22,9 +22,9 @@ pub(super) fn split_number(bytes: &[u8]) -> Result<(i32, &[u8]), Fault>
     Ok((int4_from_sql(head)?, bytes))
 }
 
-/// The count in front, which is refused with `Count` where it is negative, and the bytes after it.
+/// The count prefix, which is refused with `Count` where it is negative, and the bytes after it.
 pub(super) fn split_count(bytes: &[u8]) -> Result<(usize, &[u8]), Fault>
-    ensures outcome { Answers (Decodes (InFront IsCount) (λ s. first_fault_of (count_checks s)) bytes.now) result }
+    ensures outcome { Answers (Decodes (StartsWith IsCount) (λ s. first_fault_of (count_checks s)) bytes.now) result }
     ensures never_memory { NeverMemory result }
 {
     let (count, bytes) = split_number(bytes)?;
@@ -34,9 +34,10 @@ pub(super) fn split_count(bytes: &[u8]) -> Result<(usize, &[u8]), Fault>
     Ok((count as usize, bytes))
 }
 
-/// The framed cell in front, of which every negative length is NULL, and the bytes after it.
+/// The first cell, of which every negative length is NULL, and the bytes after its frame.
 pub(super) fn split_cell(bytes: &[u8]) -> Result<(Option<&[u8]>, &[u8]), Fault>
-    ensures outcome { Answers (Decodes (InFront (λ s cell. Spells s (cell_of cell))) (λ s. first_fault_of (cell_checks s)) bytes.now) result }
+    ensures outcome { Answers (Decodes (StartsWith (λ s cell. Spells s (cell_of cell)))
+        (λ s. first_fault_of (cell_checks s)) bytes.now) result }
     ensures never_memory { NeverMemory result }
 {
     let (len, bytes) = split_number(bytes)?;

@@ -2,10 +2,11 @@
 ghost use Rattle.std.specs.Prelude.{◌≤◌, map, IfOk};
 ghost use Rattle.pg_base.specs.Appending.{Appends, Measures};
 ghost use Rattle.pg_base.specs.Cells.{cell_of, frame};
-ghost use Rattle.pg_base.specs.Counts.{InFront, ToRead, count_checks};
+ghost use Rattle.pg_base.specs.Counts.{StartsWith, ToRead, count_checks};
 ghost use Rattle.pg_types.specs.Faults.{Answers, NeverMemory};
 ghost use Rattle.pg_base.specs.Formats.{Decodes, first_fault_of};
-ghost use Rattle.pg_base.specs.Hstore.{SpellsCount, SpellsEntry, SpellsText, TakesEntry, entry_checks, hstore_bytes, lent_entry, value_checks};
+ghost use Rattle.pg_base.specs.Hstore.{SpellsCount, SpellsEntry, SpellsText, TakesEntry, entry_checks};
+ghost use Rattle.pg_base.specs.Hstore.{hstore_bytes, borrowed_entry, value_checks};
 
 use super::counts::{split_cell, split_count};
 use super::frames::{MAX_LEN, frame_len, frame_to_sql};
@@ -75,9 +76,10 @@ impl<'a> HstoreEntries<'a> {
     }
 }
 
-/// The entry in front, and the bytes after it.
+/// The first entry, and the bytes after it.
 fn split_entry(bytes: &[u8]) -> Result<(Entry<'_>, &[u8]), Fault>
-    ensures outcome { Answers (Decodes (InFront (λ s e. SpellsEntry s (lent_entry e))) (λ s. first_fault_of (entry_checks s)) bytes.now) result }
+    ensures outcome { Answers (Decodes (StartsWith (λ s e. SpellsEntry s (borrowed_entry e)))
+        (λ s. first_fault_of (entry_checks s)) bytes.now) result }
     ensures never_memory { NeverMemory result }
 {
     let (key, bytes) = split_text(bytes)?;
@@ -88,9 +90,10 @@ fn split_entry(bytes: &[u8]) -> Result<(Entry<'_>, &[u8]), Fault>
     Ok(((key, value), bytes))
 }
 
-/// The text in front, of which every negative length is NULL, and the bytes after it.
+/// The first text, of which every negative length is NULL, and the bytes after it.
 fn split_text(bytes: &[u8]) -> Result<(Option<&str>, &[u8]), Fault>
-    ensures outcome { Answers (Decodes (InFront (λ s text. SpellsText s (cell_of text))) (λ s. first_fault_of (value_checks s)) bytes.now) result }
+    ensures outcome { Answers (Decodes (StartsWith (λ s text. SpellsText s (cell_of text)))
+        (λ s. first_fault_of (value_checks s)) bytes.now) result }
     ensures never_memory { NeverMemory result }
 {
     let (cell, bytes) = split_cell(bytes)?;
@@ -109,7 +112,7 @@ pub fn hstore_to_sql(
     entries: &[(&str, Option<&str>)],
     out: &mut BytesMut,
 ) -> Result<(), Fault>
-    ensures { Appends (hstore_bytes (map lent_entry entries.now)) out.old out.new result }
+    ensures { Appends (hstore_bytes (map borrowed_entry entries.now)) out.old out.new result }
 {
     out.reserve(hstore_len(entries)?)?;
     int4_to_sql(alloc, entries.len() as i32, out)?;
@@ -129,7 +132,7 @@ fn text_frame_to_sql(alloc: Global, text: Option<&str>, out: &mut BytesMut) -> R
 
 /// How many bytes the entries take.
 fn hstore_len(entries: &[(&str, Option<&str>)]) -> Result<usize, Fault>
-    ensures { Measures (hstore_bytes (map lent_entry entries.now)) result }
+    ensures { Measures (hstore_bytes (map borrowed_entry entries.now)) result }
 {
     if entries.len() > MAX_LEN {
         return Err(Fault::Transmit);

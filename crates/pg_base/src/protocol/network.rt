@@ -1,9 +1,12 @@
-//! Internet addresses with their netmasks.
+//! Internet addresses with their netmasks, and MAC addresses.
 ghost use Rattle.std.specs.Prelude.{◌≡◌, ◌≢◌, ◌<◌, ◌⊎◌, ◌∷◌, Some, IfOk, IfErr, length};
 ghost use Rattle.pg_base.specs.Appending.{Appends};
 ghost use Rattle.pg_types.specs.Faults.{Answers, NeverMemory};
+ghost use Rattle.pg_base.specs.FixedBytes.{FormFixedBytes};
 ghost use Rattle.pg_base.specs.Formats.{Decodes};
-ghost use Rattle.pg_base.specs.Network.{FormInet, NetmaskFits, Network, address_len, address_octets, family_len, family_of, first_fault_inet, network_bytes, with_netmask};
+ghost use Rattle.pg_base.specs.Network.{FormInet, NetmaskFits, Network, address_len, address_octets};
+ghost use Rattle.pg_base.specs.Network.{family_len, family_of, first_fault_inet, network_bytes, with_netmask};
+ghost use Rattle.pg_base.specs.Numbers.{first_fault_number};
 ghost use Rattle.pg_types.specs.declared.fault.Fault.TheVariants.{Size};
 
 use crate::fault::Fault;
@@ -86,7 +89,8 @@ pub fn inet_from_sql(raw: &[u8]) -> Result<Inet, Fault>
 #[tactic(auto, using(crate::proofs::Octets::octets_back))]
 fn address_from_octets(family: u8, octets: &[u8]) -> Result<IpAddr, Fault>
     requires { (family ≡ 2) ⊎ (family ≡ 3) }
-    ensures address { IfOk result (λ a. (family_of a ≡ family) × (address_octets a ≡ octets.now) × (length octets.now ≡ address_len a)) }
+    ensures address { IfOk result (λ a. (family_of a ≡ family) × (address_octets a ≡ octets.now) ×
+        (length octets.now ≡ address_len a)) }
     ensures refused { IfErr result (λ f. (f ≡ Size) × (length octets.now ≢ family_len family)) }
 {
     if family == IPV4 {
@@ -131,5 +135,24 @@ fn octets_to_sql(family: u8, netmask: u8, octets: &[u8], out: &mut BytesMut) -> 
     out.reserve(4 + octets.len())?;
     out.extend_reserved(&[family, netmask, 0, octets.len() as u8]);
     out.extend_reserved(octets);
+    Ok(())
+}
+
+/// Reads MACADDR: 6 bytes (`macaddr_recv`). Any other length is `Size`.
+pub fn macaddr_from_sql(raw: &[u8]) -> Result<[u8; 6], Fault>
+    ensures outcome { Answers (Decodes (FormFixedBytes 6) (first_fault_number 6) raw.now) result }
+    ensures never_memory { NeverMemory result }
+{
+    match <[u8; 6]>::try_from(raw) {
+        Ok(bytes) => Ok(bytes),
+        Err(_) => Err(Fault::Size),
+    }
+}
+
+/// Appends MACADDR: 6 bytes (`macaddr_send`).
+pub fn macaddr_to_sql(_alloc: Global, v: [u8; 6], out: &mut BytesMut) -> Result<(), Fault>
+    ensures { Appends (Some v) out.old out.new result }
+{
+    out.extend_from_slice(&v)?;
     Ok(())
 }

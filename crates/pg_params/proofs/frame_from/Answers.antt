@@ -1,5 +1,5 @@
 use Rattle.std.proofs.Common.{◌≡◌, ◌<◌, ◌≤◌, ◌-◌, ◌+◌, drop, length, arith, refl, length-drop}
-use Rattle.pg_params.proofs.ParamFrames.{long_frame, made_frame}
+use Rattle.pg_params.proofs.ParamFrames.{long_frame, frame_bytes}
 use Rattle.pg_params.proofs.frame_from.Goals as goal
 
 pub returns-then-len-gt-MAX_LEN : goal.returns-then-len-gt-MAX_LEN
@@ -14,4 +14,4 @@ returns c =
     let len = c.len.result - c.args.start - 4 in
     let same : len ≡ length cell = omega (arith, c.len.ensures.value, length-drop (c.args.start + 4) c.args.out.now.items) in
     let few : length cell ≤ 2147483647 = omega (arith, same, c.if-len-gt-MAX_LEN.false) in
-    (_, made_frame cell len few same, c.set_len.ensures)
+    (_, frame_bytes cell len few same, c.set_len.ensures)

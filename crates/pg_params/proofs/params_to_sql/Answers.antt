@@ -8,8 +8,8 @@ loop-place-init g c = ([], [], refl, refl, sym (append-nil c.args.out.now.items)
 
 pub loop-place-preserved : goal.loop-place-preserved
 loop-place-preserved g c =
-    let framed = rw c.in_default.is at c.param_to_sql.ensures in
-    next_param (λ p. (goal.ToSql-dyn g (p.0.vtable, p.0.value)).ToSql.checked (content p.1) p.0.value) c.args.params.now c.args.types.now c.requires c.loop-place.place _ _ c.loop-place-test.true c.index-params-place.is c.index-types-place.is c.args.out.now.items c.loop-place.out.items c.param_to_sql.new.out.items c.loop-place.invariant framed
+    let element_frame_cell = rw c.in_default.is at c.param_to_sql.ensures in
+    next_param (λ p. (goal.ToSql-dyn g (p.0.vtable, p.0.value)).ToSql.checked (content p.1) p.0.value) c.args.params.now c.args.types.now c.requires c.loop-place.place _ _ c.loop-place-test.true c.index-params-place.is c.index-types-place.is c.args.out.now.items c.loop-place.out.items c.param_to_sql.new.out.items c.loop-place.invariant element_frame_cell
 
 pub returns-in-Err : goal.returns-in-Err
 returns-in-Err g c =

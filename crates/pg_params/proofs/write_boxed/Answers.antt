@@ -3,7 +3,7 @@ use Rattle.pg_types.specs.Content.{content}
 use Rattle.pg_write.specs.Writing.{Writes}
 use Rattle.pg_params.proofs.write_boxed.Goals as goal
 
--- the box's value is the one that the call is made of
+-- the box's value is the one that is written
 pub returns : goal.returns
 returns g c =
     let same = c.deref_box-1.ensures.1 in

@@ -1,7 +1,7 @@
 //! Reading dates with infinities.
 ghost use Rattle.std.specs.Prelude.{Some};
 ghost use Rattle.std.specs.Int.{w32};
-ghost use Rattle.pg_base.specs.Special.{FreeSpecial, ReadsSpecial, SameSpecial, accepted_date, date_seen};
+ghost use Rattle.pg_base.specs.Special.{FreeSpecial, ReadsSpecial, SameSpecial, accepted_date, date_view};
 ghost use Rattle.pg_base.proofs.SpecialLaws.{special_equivalence, inside_accepted};
 ghost use Rattle.pg_read.specs.ReadingLaws.{special_single};
 
@@ -17,17 +17,17 @@ use std::alloc::Global;
 /// `PosInfinity` and the least `NegInfinity`, whatever `T` says of them. Any other is `Value` of
 /// `T`'s value, or `T`'s fault. NULL is `WasNull`, whatever `T` says of it.
 impl<'a, T: FromSql<'a>> FromSql<'a> for Date<T> {
-    ghost same = { λ v w. SameSpecial T.same (date_seen v) (date_seen w) };
+    ghost same = { λ v w. SameSpecial T.same (date_view v) (date_view w) };
 
     ghost accepted = { accepted_date T.accepted };
 
-    ghost reads = { λ ty. ReadsSpecial w32 date_seen (T.reads ty) };
+    ghost reads = { λ ty. ReadsSpecial w32 date_view (T.reads ty) };
 
     ghost memory_free = { FreeSpecial w32 (λ b. T.memory_free (Some b)) };
 
-    ghost equivalence = { special_equivalence T.same T.equivalence date_seen };
+    ghost equivalence = { special_equivalence T.same T.equivalence date_view };
 
-    ghost single = { λ ty ok. special_single w32 date_seen T.same (T.reads ty) (T.single ty (inside_accepted _ _ ok)) };
+    ghost single = { λ ty ok. special_single w32 date_view T.same (T.reads ty) (T.single ty (inside_accepted _ _ ok)) };
 
     #[tactic(auto, using(pg_base::proofs::SpecialLemmas::finite_date))]
     fn from_sql(alloc: Global, ty: &PgType, raw: &'a [u8]) -> Result<Date<T>, Fault> {

@@ -1,12 +1,12 @@
 //! Reading timestamps with infinities.
 ghost use Rattle.std.specs.Prelude.{Some};
 ghost use Rattle.std.specs.Int.{w64};
-ghost use Rattle.pg_base.specs.Special.{FreeSpecial, ReadsSpecial, SameSpecial, accepted_timestamp, timestamp_seen};
+ghost use Rattle.pg_base.specs.Special.{FreeSpecial, ReadsSpecial, SameSpecial, accepted_timestamp, timestamp_view};
 ghost use Rattle.pg_base.proofs.SpecialLaws.{special_equivalence, inside_accepted};
 ghost use Rattle.pg_read.specs.ReadingLaws.{special_single};
 
 use crate::from_sql::FromSql;
-use pg_base::acceptance::is_moment;
+use pg_base::acceptance::is_timestamp;
 use pg_base::fault::Fault;
 use pg_base::protocol::timestamp_from_sql;
 use pg_base::special::Timestamp;
@@ -18,17 +18,18 @@ use std::alloc::Global;
 /// `T` says of them. Any other is `Value` of `T`'s value, or `T`'s fault. NULL is `WasNull`,
 /// whatever `T` says of it.
 impl<'a, T: FromSql<'a>> FromSql<'a> for Timestamp<T> {
-    ghost same = { λ v w. SameSpecial T.same (timestamp_seen v) (timestamp_seen w) };
+    ghost same = { λ v w. SameSpecial T.same (timestamp_view v) (timestamp_view w) };
 
     ghost accepted = { accepted_timestamp T.accepted };
 
-    ghost reads = { λ ty. ReadsSpecial w64 timestamp_seen (T.reads ty) };
+    ghost reads = { λ ty. ReadsSpecial w64 timestamp_view (T.reads ty) };
 
     ghost memory_free = { FreeSpecial w64 (λ b. T.memory_free (Some b)) };
 
-    ghost equivalence = { special_equivalence T.same T.equivalence timestamp_seen };
+    ghost equivalence = { special_equivalence T.same T.equivalence timestamp_view };
 
-    ghost single = { λ ty ok. special_single w64 timestamp_seen T.same (T.reads ty) (T.single ty (inside_accepted _ _ ok)) };
+    ghost single = { λ ty ok. special_single w64 timestamp_view T.same (T.reads ty)
+        (T.single ty (inside_accepted _ _ ok)) };
 
     #[tactic(auto, using(pg_base::proofs::SpecialLemmas::finite_timestamp))]
     fn from_sql(alloc: Global, ty: &PgType, raw: &'a [u8]) -> Result<Timestamp<T>, Fault> {
@@ -47,6 +48,6 @@ impl<'a, T: FromSql<'a>> FromSql<'a> for Timestamp<T> {
     }
 
     fn accepts(ty: &PgType) -> bool {
-        is_moment(ty) && T::accepts(ty)
+        is_timestamp(ty) && T::accepts(ty)
     }
 }

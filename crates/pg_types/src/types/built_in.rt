@@ -1,5 +1,5 @@
 ghost use Rattle.std.specs.Prelude.{◌≡◌, ◌≢◌, IfSome, IsNone};
-ghost use Rattle.pg_types.specs.BuiltInRows.{row_oid, row_name, row_member};
+ghost use Rattle.pg_types.specs.BuiltInRows.{row_oid, row_name, row_element};
 
 use super::Oid;
 
@@ -238,8 +238,8 @@ impl BuiltIn {
     }
 
     // The element type of an array type.
-    pub(super) fn member(self) -> Option<BuiltIn>
-        ensures { result ≡ row_member self }
+    pub(super) fn element(self) -> Option<BuiltIn>
+        ensures { result ≡ row_element self }
     {
         match self {
             BuiltIn::Int2Vector => Some(BuiltIn::Int2),

@@ -2,7 +2,7 @@
 ghost use Rattle.std.specs.Prelude.{◌≡◌, IfOk, IfErr, map, string_bytes};
 ghost use Rattle.pg_types.specs.declared.fault.Fault.TheVariants.{Memory};
 ghost use Rattle.pg_types.specs.Content.{SameField, content, kind_content, fields_content, field_name, field_type};
-ghost use Rattle.pg_types.specs.Seen.{seen};
+ghost use Rattle.pg_types.specs.KindRefs.{kind_ref_view};
 
 use super::PgType;
 use crate::fault::Fault;
@@ -71,26 +71,26 @@ impl Kind {
             Kind::Simple => Kind::Simple,
             Kind::Enum(labels) => Kind::Enum(clone_labels(alloc, labels.as_slice())?),
             Kind::Pseudo => Kind::Pseudo,
-            Kind::Array(member) => Kind::Array(member.try_clone()?),
-            Kind::Range(member) => Kind::Range(member.try_clone()?),
-            Kind::Multirange(member) => Kind::Multirange(member.try_clone()?),
-            Kind::Domain(member) => Kind::Domain(member.try_clone()?),
+            Kind::Array(inner) => Kind::Array(inner.try_clone()?),
+            Kind::Range(inner) => Kind::Range(inner.try_clone()?),
+            Kind::Multirange(inner) => Kind::Multirange(inner.try_clone()?),
+            Kind::Domain(inner) => Kind::Domain(inner.try_clone()?),
             Kind::Composite(fields) => Kind::Composite(clone_fields(alloc, fields.as_slice())?),
         })
     }
 
     #[tactic(auto, using(crate::proofs::Fields::composite_content))]
     pub(super) fn as_kind_ref(&self) -> KindRef<'_>
-        ensures { seen result ≡ kind_content self.now }
+        ensures { kind_ref_view result ≡ kind_content self.now }
     {
         match self {
             Kind::Simple => KindRef::Simple,
             Kind::Enum(labels) => KindRef::Enum(labels.as_slice()),
             Kind::Pseudo => KindRef::Pseudo,
-            Kind::Array(member) => KindRef::Array(Cow::Borrowed(member)),
-            Kind::Range(member) => KindRef::Range(Cow::Borrowed(member)),
-            Kind::Multirange(member) => KindRef::Multirange(Cow::Borrowed(member)),
-            Kind::Domain(member) => KindRef::Domain(Cow::Borrowed(member)),
+            Kind::Array(inner) => KindRef::Array(Cow::Borrowed(inner)),
+            Kind::Range(inner) => KindRef::Range(Cow::Borrowed(inner)),
+            Kind::Multirange(inner) => KindRef::Multirange(Cow::Borrowed(inner)),
+            Kind::Domain(inner) => KindRef::Domain(Cow::Borrowed(inner)),
             Kind::Composite(fields) => KindRef::Composite(fields.as_slice()),
         }
     }

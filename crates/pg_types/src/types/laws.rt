@@ -3,12 +3,12 @@ ghost use Rattle.std.specs.Prelude.{◌≡◌, ◌↔◌, IsTrue, map};
 ghost use Rattle.pg_types.specs.Constants.{array_rows, base_rows};
 ghost use Rattle.pg_types.specs.Content.{BuiltInType, SameField, content, kind_content};
 ghost use Rattle.pg_types.specs.Digest.{digest};
-ghost use Rattle.pg_types.specs.Seen.{seen};
+ghost use Rattle.pg_types.specs.KindRefs.{kind_ref_view};
 
 use super::{Field, Kind, KindRef, PgType};
 use std::hash::{DefaultHasher, Hash, Hasher};
 
-/// Whether two types are equal: the same built-in type, or made of equal parts.
+/// Whether two types are equal: the same built-in type, or user-defined types of equal parts.
 #[tactic(auto, using(crate::proofs::DerivedTypes::same_from_eq, crate::proofs::DerivedTypes::eq_from_same))]
 pub fn same_type(a: &PgType, b: &PgType) -> bool
     ensures { IsTrue result ↔ (content a.now ≡ content b.now) }
@@ -25,9 +25,9 @@ pub fn same_kind(k: &Kind, l: &Kind) -> bool
 }
 
 /// Whether two views of kinds are equal: the same variant of equal parts, borrowed or owned.
-#[tactic(auto, using(crate::proofs::DerivedTypes::same_seen_from_eq, crate::proofs::DerivedTypes::eq_from_same_seen))]
+#[tactic(auto, using(crate::proofs::DerivedTypes::kind_ref_from_eq, crate::proofs::DerivedTypes::eq_from_kind_ref))]
 pub fn same_kind_ref(v: &KindRef<'_>, w: &KindRef<'_>) -> bool
-    ensures { IsTrue result ↔ (seen v.now ≡ seen w.now) }
+    ensures { IsTrue result ↔ (kind_ref_view v.now ≡ kind_ref_view w.now) }
 {
     *v == *w
 }
@@ -72,9 +72,10 @@ pub fn fields_hash_alike(f: &Field, g: &Field) -> bool
 
 /// Whether two views of kinds are hashed alike, as equal ones always are.
 pub fn kind_refs_hash_alike(v: &KindRef<'_>, w: &KindRef<'_>) -> bool
-    ensures alike { (seen v.now ≡ seen w.now) → IsTrue result }
+    ensures alike { (kind_ref_view v.now ≡ kind_ref_view w.now) → IsTrue result }
     ensures hashed { IsTrue result ↔
-        (digest (⟦<KindRef<'static> as Hash>⟧.hash_input v.now) ≡ digest (⟦<KindRef<'static> as Hash>⟧.hash_input w.now)) }
+        (digest (⟦<KindRef<'static> as Hash>⟧.hash_input v.now) ≡ digest
+        (⟦<KindRef<'static> as Hash>⟧.hash_input w.now)) }
 {
     hash_of(v) == hash_of(w)
 }

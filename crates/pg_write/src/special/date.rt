@@ -2,7 +2,7 @@
 ghost use Rattle.std.specs.Prelude.{true, codes, refl};
 ghost use Rattle.std.specs.Int.{w32};
 ghost use Rattle.pg_types.specs.declared.format.Format.TheVariants.{Binary};
-ghost use Rattle.pg_base.specs.Special.{InfinityOr, accepted_date, date_seen, wire_special};
+ghost use Rattle.pg_base.specs.Special.{InfinityOr, accepted_date, date_view, wire_special};
 ghost use Rattle.pg_write.specs.Writing.{checked_by};
 
 use crate::to_sql::{ToSql, wrong_type};
@@ -22,13 +22,14 @@ impl<T: ToSql> ToSql for Date<T> {
 
     ghost name = { codes "Date" };
 
-    ghost wire = { λ ty v. wire_special w32 (T.wire ty) (date_seen v) };
+    ghost wire = { λ ty v. wire_special w32 (T.wire ty) (date_view v) };
 
-    ghost checked = { λ ty v. checked_by (accepted_date T.accepted ty) ty (codes "Date") (wire_special w32 (T.wire ty) (date_seen v)) };
+    ghost checked = { λ ty v. checked_by (accepted_date T.accepted ty) ty (codes "Date")
+        (wire_special w32 (T.wire ty) (date_view v)) };
 
     ghost format = { λ _ _. Binary };
 
-    ghost by_room = { λ v. InfinityOr T.by_room (date_seen v) };
+    ghost by_room = { λ v. InfinityOr T.by_room (date_view v) };
 
     ghost refuses_memory_free = { true };
 

@@ -2,12 +2,12 @@
 ghost use Rattle.std.specs.Prelude.{true, codes, refl};
 ghost use Rattle.std.specs.Int.{w64};
 ghost use Rattle.pg_types.specs.declared.format.Format.TheVariants.{Binary};
-ghost use Rattle.pg_base.specs.Special.{InfinityOr, accepted_timestamp, timestamp_seen, wire_special};
+ghost use Rattle.pg_base.specs.Special.{InfinityOr, accepted_timestamp, timestamp_view, wire_special};
 ghost use Rattle.pg_write.specs.Writing.{checked_by};
 
 use crate::to_sql::{ToSql, wrong_type};
 use bytes::BytesMut;
-use pg_base::acceptance::is_moment;
+use pg_base::acceptance::is_timestamp;
 use pg_base::fault::Fault;
 use pg_base::format::{Format, IsNull};
 use pg_base::protocol::timestamp_to_sql;
@@ -23,13 +23,14 @@ impl<T: ToSql> ToSql for Timestamp<T> {
 
     ghost name = { codes "Timestamp" };
 
-    ghost wire = { λ ty v. wire_special w64 (T.wire ty) (timestamp_seen v) };
+    ghost wire = { λ ty v. wire_special w64 (T.wire ty) (timestamp_view v) };
 
-    ghost checked = { λ ty v. checked_by (accepted_timestamp T.accepted ty) ty (codes "Timestamp") (wire_special w64 (T.wire ty) (timestamp_seen v)) };
+    ghost checked = { λ ty v. checked_by (accepted_timestamp T.accepted ty) ty (codes "Timestamp")
+        (wire_special w64 (T.wire ty) (timestamp_view v)) };
 
     ghost format = { λ _ _. Binary };
 
-    ghost by_room = { λ v. InfinityOr T.by_room (timestamp_seen v) };
+    ghost by_room = { λ v. InfinityOr T.by_room (timestamp_view v) };
 
     ghost refuses_memory_free = { true };
 
@@ -44,7 +45,7 @@ impl<T: ToSql> ToSql for Timestamp<T> {
     }
 
     fn accepts(ty: &PgType) -> bool {
-        is_moment(ty) && T::accepts(ty)
+        is_timestamp(ty) && T::accepts(ty)
     }
 
     fn to_sql_checked(

@@ -19,5 +19,6 @@ impl<'a, T: Paired<'a>> Paired<'a> for Box<T> {
 impl<'a, T: Finite<'a>> Finite<'a> for Box<T> {
     ghost dates = { λ ty date ok. box_finite (λ v. v.value) w32 (T.reads ty) (T.wire ty) (T.dates ty date ok) };
 
-    ghost moments = { λ ty moment ok. box_finite (λ v. v.value) w64 (T.reads ty) (T.wire ty) (T.moments ty moment ok) };
+    ghost timestamps = { λ ty timestamp ok. box_finite (λ v. v.value) w64 (T.reads ty) (T.wire ty)
+        (T.timestamps ty timestamp ok) };
 }

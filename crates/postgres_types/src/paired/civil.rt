@@ -4,8 +4,10 @@ ghost use Rattle.std.specs.Prelude.{◌≡◌, refl};
 ghost use Rattle.std.specs.Int.{w32, w64};
 ghost use Rattle.jiff.specs.Words.{civil_nanos, epoch_day};
 ghost use Rattle.pg_base.specs.Civil.{instant_nanos};
-ghost use Rattle.postgres_types.specs.MomentBack.{KeptMicros, KeptMicrosOfDay};
-ghost use Rattle.postgres_types.specs.MomentBackLaws.{date_finite, date_lawful, datetime_finite, datetime_lawful, instant_finite, instant_lawful, time_lawful};
+ghost use Rattle.postgres_types.specs.TimestampBack.{KeptMicros, KeptMicrosOfDay};
+ghost use Rattle.postgres_types.specs.TimestampBackLaws.{date_finite, date_lawful, datetime_finite};
+ghost use Rattle.postgres_types.specs.TimestampBackLaws.{datetime_lawful, instant_finite, instant_lawful};
+ghost use Rattle.postgres_types.specs.TimestampBackLaws.{time_lawful};
 ghost use Rattle.postgres_types.specs.ReadingBack.{BackKept};
 
 use crate::paired::{Finite, Paired};
@@ -25,7 +27,7 @@ impl<'a> Paired<'a> for Date {
 impl<'a> Finite<'a> for Date {
     ghost dates = { λ _ _ _. date_finite w32 };
 
-    ghost moments = { λ _ _ _. date_finite w64 };
+    ghost timestamps = { λ _ _ _. date_finite w64 };
 }
 
 /// A time is read back truncated to whole microseconds, toward midnight.
@@ -51,7 +53,7 @@ impl<'a> Paired<'a> for DateTime {
 impl<'a> Finite<'a> for DateTime {
     ghost dates = { λ _ _ _. datetime_finite w32 };
 
-    ghost moments = { λ _ _ _. datetime_finite w64 };
+    ghost timestamps = { λ _ _ _. datetime_finite w64 };
 }
 
 /// An instant is read back truncated to whole microseconds, toward 2000-01-01 00:00:00 UTC on both
@@ -68,5 +70,5 @@ impl<'a> Paired<'a> for Timestamp {
 impl<'a> Finite<'a> for Timestamp {
     ghost dates = { λ _ _ _. instant_finite w32 };
 
-    ghost moments = { λ _ _ _. instant_finite w64 };
+    ghost timestamps = { λ _ _ _. instant_finite w64 };
 }

@@ -1,10 +1,10 @@
 //! Addresses are read back as themselves.
 ghost use Rattle.std.specs.Prelude.{◌≡◌, refl};
-ghost use Rattle.postgres_types.specs.FormatBackLaws.{address_lawful, cidr_lawful, inet_lawful};
+ghost use Rattle.postgres_types.specs.FormatBackLaws.{address_lawful, cidr_lawful, fixed_bytes_lawful, inet_lawful};
 ghost use Rattle.postgres_types.specs.ReadingBack.{BackKept};
 
 use crate::paired::Paired;
-use pg_base::network::{IpCidr, IpInet};
+use pg_base::network::{IpCidr, IpInet, MacAddress};
 use std::net::IpAddr;
 
 /// An address is read back as itself: it is written with a netmask of all its bits, which reading
@@ -33,4 +33,13 @@ impl<'a> Paired<'a> for IpCidr {
     ghost types = { λ _. refl };
 
     ghost lawful = { λ _ _. cidr_lawful };
+}
+
+/// A MAC address is read back as itself.
+impl<'a> Paired<'a> for MacAddress {
+    ghost back = { λ _. BackKept (λ v w. v ≡ w) };
+
+    ghost types = { λ _. refl };
+
+    ghost lawful = { λ _ _. fixed_bytes_lawful 6 };
 }

@@ -19,5 +19,5 @@ impl<'a, T: Paired<'a>> Paired<'a> for Option<T> {
 impl<'a, T: Finite<'a>> Finite<'a> for Option<T> {
     ghost dates = { λ ty date ok. option_finite w32 (T.reads ty) (T.wire ty) (T.dates ty date ok) };
 
-    ghost moments = { λ ty moment ok. option_finite w64 (T.reads ty) (T.wire ty) (T.moments ty moment ok) };
+    ghost timestamps = { λ ty timestamp ok. option_finite w64 (T.reads ty) (T.wire ty) (T.timestamps ty timestamp ok) };
 }

@@ -4,8 +4,8 @@ ghost use Rattle.std.proofs.Common.{ap};
 ghost use Rattle.std.specs.Int.{w32, w64};
 ghost use Rattle.pg_types.specs.declared.types.built_in.BuiltIn.TheVariants.{Date as DateRow};
 ghost use Rattle.pg_types.specs.Content.{is_row};
-ghost use Rattle.pg_base.specs.Moments.{accepted_moment};
-ghost use Rattle.pg_base.specs.Special.{date_seen, timestamp_seen};
+ghost use Rattle.pg_base.specs.Timestamps.{accepts_timestamps};
+ghost use Rattle.pg_base.specs.Special.{date_view, timestamp_view};
 ghost use Rattle.pg_base.proofs.SpecialLaws.{inside_accepted};
 ghost use Rattle.postgres_types.specs.ReadingBack.{BackSpecial};
 ghost use Rattle.postgres_types.specs.SpecialBackLaws.{not_both, row_accepted, special_finite, special_lawful};
@@ -17,34 +17,38 @@ use pg_base::special::{Date, Timestamp};
 /// as NULL, `Size` where the cell has not 4 bytes, the infinity where it is one's, and otherwise as
 /// `Value` of what the value inside is read back as, or that one's fault.
 impl<'a, T: Finite<'a>> Paired<'a> for Date<T> {
-    ghost back = { λ ty v. BackSpecial w32 date_seen (T.wire ty) (T.back ty) (date_seen v) };
+    ghost back = { λ ty v. BackSpecial w32 date_view (T.wire ty) (T.back ty) (date_view v) };
 
     ghost types = { λ ty. ap (λ inside. is_row DateRow ty && inside) (T.types ty) };
 
-    ghost lawful = { λ ty ok. special_lawful w32 date_seen T.same (T.reads ty) (T.wire ty) (T.back ty) (T.lawful ty (inside_accepted _ _ ok))
+    ghost lawful = { λ ty ok. special_lawful w32 date_view T.same (T.reads ty) (T.wire ty) (T.back ty)
+        (T.lawful ty (inside_accepted _ _ ok))
         (T.dates ty (row_accepted _ _ ok) (inside_accepted _ _ ok)) };
 }
 
 /// Finite bytes give no infinity, but `Value` of a value that stays finite.
 impl<'a, T: Finite<'a>> Finite<'a> for Date<T> {
-    ghost dates = { λ ty date ok. special_finite w32 date_seen (T.reads ty) (T.wire ty) (T.dates ty date (inside_accepted _ _ ok)) };
+    ghost dates = { λ ty date ok. special_finite w32 date_view (T.reads ty) (T.wire ty)
+        (T.dates ty date (inside_accepted _ _ ok)) };
 
-    ghost moments = { λ ty moment ok. absurd (not_both ty (row_accepted _ _ ok) moment) };
+    ghost timestamps = { λ ty timestamp ok. absurd (not_both ty (row_accepted _ _ ok) timestamp) };
 }
 
 /// Read back as a `Date` is, with a cell of 8 bytes in place of 4.
 impl<'a, T: Finite<'a>> Paired<'a> for Timestamp<T> {
-    ghost back = { λ ty v. BackSpecial w64 timestamp_seen (T.wire ty) (T.back ty) (timestamp_seen v) };
+    ghost back = { λ ty v. BackSpecial w64 timestamp_view (T.wire ty) (T.back ty) (timestamp_view v) };
 
-    ghost types = { λ ty. ap (λ inside. accepted_moment ty && inside) (T.types ty) };
+    ghost types = { λ ty. ap (λ inside. accepts_timestamps ty && inside) (T.types ty) };
 
-    ghost lawful = { λ ty ok. special_lawful w64 timestamp_seen T.same (T.reads ty) (T.wire ty) (T.back ty) (T.lawful ty (inside_accepted _ _ ok))
-        (T.moments ty (row_accepted _ _ ok) (inside_accepted _ _ ok)) };
+    ghost lawful = { λ ty ok. special_lawful w64 timestamp_view T.same (T.reads ty) (T.wire ty) (T.back ty)
+        (T.lawful ty (inside_accepted _ _ ok))
+        (T.timestamps ty (row_accepted _ _ ok) (inside_accepted _ _ ok)) };
 }
 
 /// Finite bytes give no infinity, but `Value` of a value that stays finite.
 impl<'a, T: Finite<'a>> Finite<'a> for Timestamp<T> {
     ghost dates = { λ ty date ok. absurd (not_both ty date (row_accepted _ _ ok)) };
 
-    ghost moments = { λ ty moment ok. special_finite w64 timestamp_seen (T.reads ty) (T.wire ty) (T.moments ty moment (inside_accepted _ _ ok)) };
+    ghost timestamps = { λ ty timestamp ok. special_finite w64 timestamp_view (T.reads ty) (T.wire ty)
+        (T.timestamps ty timestamp (inside_accepted _ _ ok)) };
 }

@@ -181,16 +181,16 @@ fn dates_are_compared(_rt: HostRuntime) -> Result<(), Fail> {
     for (left, right, equal) in EQUAL_DATES {
         same(same_date(&left, &right), equal)?;
     }
-    let copied = DAY;
-    same(DAY, copied)?;
+    let copy = DAY;
+    same(DAY, copy)?;
     same(DAY.clone()?, DAY)
 }
 
 #[test]
 fn timestamps_are_compared(_rt: HostRuntime) -> Result<(), Fail> {
     let time = Timestamp::Value(unix(1, 0)?);
-    let copied = time;
-    same(time, copied)?;
+    let copy = time;
+    same(time, copy)?;
     same(time.clone()?, time)?;
     let start: Timestamp<UnixTime> = Timestamp::NegInfinity;
     holds(same_timestamp(&start, &start.clone()?), "the same infinity")?;

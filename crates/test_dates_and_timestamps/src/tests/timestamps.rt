@@ -1,6 +1,6 @@
 //! Timestamps as `UnixTime`.
 
-use pg_base::unix_time::laws::{moment_order, same_moment};
+use pg_base::unix_time::laws::{unix_time_order, same_unix_time};
 use postgres_types::private::BytesMut;
 use postgres_types::protocol::{timestamp_from_sql, timestamp_to_sql};
 use postgres_types::{Type, UnixTime};
@@ -107,8 +107,8 @@ fn timestamps_are_ordered(_rt: HostRuntime) -> Result<(), Fail> {
     for ((secs, nanos), (later_secs, later_nanos)) in ORDERED {
         let (time, later) = (unix(secs, nanos)?, unix(later_secs, later_nanos)?);
         holds(later > time, "later")?;
-        same(moment_order(&time, &later), Ordering::Less)?;
-        holds(!same_moment(&time, &later), "another timestamp")?;
+        same(unix_time_order(&time, &later), Ordering::Less)?;
+        holds(!same_unix_time(&time, &later), "another timestamp")?;
         same(time.clone()?, time)?;
     }
     Ok(())

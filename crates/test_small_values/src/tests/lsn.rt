@@ -1,6 +1,6 @@
 //! Log positions: their texts, their order and their cells.
 
-use pg_base::lsn::laws::{position_order, printed_position_parses, same_position};
+use pg_base::lsn::laws::{position_order, position_text_parses, same_position};
 use postgres_types::protocol::{lsn_from_sql, lsn_to_sql};
 use postgres_types::{PgLsn, Type};
 use rows::code::{SIZE, USER, WAS_NULL};
@@ -8,7 +8,7 @@ use rows::{appends, debugs, displays, holds, parses, reads, refuses, same, write
 use std::cmp::Ordering;
 use std::test::Fail;
 
-/// A text, the position that it is parsed to, and the text that is printed of that.
+/// A text, the position that it is parsed to, and the text of that.
 const POSITIONS: [(&str, u64, &str); 9] = [
     ("16/B374D848", 0x16_B374_D848, "16/B374D848"),
     ("16/b374d848", 0x16_B374_D848, "16/B374D848"),
@@ -66,7 +66,7 @@ fn positions_are_printed(rt: HostRuntime) -> Result<(), Fail> {
         displays(rt.alloc(), &PgLsn::from(number), printed)?;
         debugs(rt.alloc(), &PgLsn::from(number), printed)?;
     }
-    printed_position_parses();
+    position_text_parses();
     Ok(())
 }
 

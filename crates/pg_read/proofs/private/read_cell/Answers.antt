@@ -10,5 +10,5 @@ returns c =
     let cell = c.split_at.result.0.now in
     let rest = c.split_at.result.1.now in
     let is : c.in_ok-len.len ≡ pos (length cell) = omega (arith, ints) in
-    let cut : c.read_be_i32.new.buf.now ≡ cell ++ rest = grind (arith, common_steps) in
-    taken c.args.buf.now.now number.0 c.read_be_i32.new.buf.now cell rest c.in_ok-len.len number.1 number.2 is cut
+    let truncated : c.read_be_i32.new.buf.now ≡ cell ++ rest = grind (arith, common_steps) in
+    taken c.args.buf.now.now number.0 c.read_be_i32.new.buf.now cell rest c.in_ok-len.len number.1 number.2 is truncated

@@ -3,9 +3,9 @@ use Rattle.postgres_types.specs.Lsn.{lsn_of}
 use Rattle.pgcell.proofs.Outcomes.{on_ok}
 use Rattle.pgcell_norm.proofs.Outcomes.{ok_weaker}
 use Rattle.pgcell.proofs.Printing.{answers_line}
-use Rattle.pgcell.specs.Answer.{AnswersType, printed_lsn}
+use Rattle.pgcell.specs.Answer.{AnswersType, lsn_answer}
 use Rattle.pgcell_norm.specs.Norm.{AnswersNorm}
-use Rattle.pgcell.specs.Request.{norm, type_of, lsn, seen_bytes}
+use Rattle.pgcell.specs.Request.{norm, type_of, lsn, cell_view}
 use Rattle.pgcell.proofs.answer.answer.Goals as goal
 
 pub returns-in-None-clause-ok : goal.returns-in-None-clause-ok
@@ -20,7 +20,7 @@ returns-in-None-clause-ok c =
 pub returns-in-Some-Norm-clause-ok : goal.returns-in-Some-Norm-clause-ok
 returns-in-Some-Norm-clause-ok c =
     let name = c.in-Some-Norm.name in
-    let cell = seen_bytes c.in-Some-Norm.cell in
+    let cell = cell_view c.in-Some-Norm.cell in
     let old = c.args.pending.now.items in
     let new = c.norm.new.pending.items in
     let asked = rw c.in-Some-Norm.field-0-is at (rw c.in-Some-Norm.is at c.in_ok-parse.ensures) in
@@ -40,7 +40,7 @@ returns-in-Some-TypeOf-clause-ok c =
 pub returns-in-Some-Lsn-clause-ok : goal.returns-in-Some-Lsn-clause-ok
 returns-in-Some-Lsn-clause-ok c =
     let position = c.in-Some-Lsn.text.now in
-    let answer = printed_lsn (lsn_of position) in
+    let answer = lsn_answer (lsn_of position) in
     let asked = rw c.in-Some-Lsn.field-0-is at (rw c.in-Some-Lsn.is at c.in_ok-parse.ensures) in
     ok_weaker {P = c.show_lsn.new.pending.items ≡ c.args.pending.now.items ++ answer} c.show_lsn.result
     (λ printed. (answer, answers_line c.args.line.now (Some (lsn position)) answer asked refl, printed)) c.show_lsn.ensures.ok

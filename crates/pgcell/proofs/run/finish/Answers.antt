@@ -19,8 +19,8 @@ returns-clause-ok g c =
     let text : Answered (c.args.line.now ∷ []) c.as_slice.result.now = rw c.as_slice.ensures.value (gained (c.args.line.now ∷ []) _ _ put c.requires.empty) in
     rw (last_line c.args.line.now c.requires.one_line some) (ok_weaker c.write_whole.result (λ w. (c.as_slice.result.now, text, w)) c.write_whole.ensures.ok)
 
-pub returns-clause-cut : goal.returns-clause-cut
-returns-clause-cut g c =
+pub returns-clause-partial : goal.returns-clause-partial
+returns-clause-partial g c =
     let some : length c.args.line.now ≡ 0 → ⊥ = grind (arith, nat_tests, c.if-is_empty.ensures) in
     let put = ok_of c.answer_line.result _ c.answer_line.ensures.ok c.if-is_err.ensures.value in
     let text : Answered (c.args.line.now ∷ []) c.as_slice.result.now = rw c.as_slice.ensures.value (gained (c.args.line.now ∷ []) _ _ put c.requires.empty) in

@@ -3,7 +3,7 @@ use Rattle.std.specs.Io.KnownBytes.{Appends, Consumes, IsAtEnd}
 use Rattle.pgcell.specs.declared.run.RunFault.TheVariants.{Write, Memory}
 use Rattle.pgcell.proofs.Outcomes.{err_always, err_weaker, err_known, ok_of, err_of}
 use Rattle.pgcell_norm.proofs.Outcomes.{ok_weaker}
-use Rattle.pgcell.proofs.Steps.{takes_either, under_way-kept, under_way-some, under_way-all, under_way-taken, under_way-stopped, under_way-cut, under_way-unfinished, under_way-end_cut}
+use Rattle.pgcell.proofs.Steps.{takes_either, under_way-kept, under_way-some, under_way-all, under_way-taken, under_way-stopped, under_way-partial, under_way-unfinished, under_way-end_partial}
 use Rattle.pgcell.proofs.run.run.Goals as goal
 
 pub returns-in-Err-2-clause-whole : goal.returns-in-Err-2-clause-whole
@@ -34,15 +34,15 @@ returns-then-n-eq0-clause-read g c =
     let is_memory : e ≡ Memory = (p not_write).0 in
     absurd cc) c.finish.ensures.memory
 
-pub returns-then-n-eq0-clause-cut : goal.returns-then-n-eq0-clause-cut
-returns-then-n-eq0-clause-cut g c =
+pub returns-then-n-eq0-clause-partial : goal.returns-then-n-eq0-clause-partial
+returns-then-n-eq0-clause-partial g c =
     let b = g.R.Read.remaining c.reads.input in
     let d = g.R.Read.remaining c.read.new.self in
     let nothing : Consumes b d [] = rw c.if-n-eq0.true at c.in-Ok.ensures.bytes.0 in
     let end : IsAtEnd d = c.in-Ok.ensures.bytes.1 c.if-n-eq0.true (omega arith) in
     err_weaker c.finish.result (λ e p is.
     let part = rw c.as_slice.ensures.value at p is in
-    under_way-end_cut _ b d _ _ _ _ c.reads.invariant.2 nothing end part) c.finish.ensures.cut
+    under_way-end_partial _ b d _ _ _ _ c.reads.invariant.2 nothing end part) c.finish.ensures.partial
 
 pub returns-in_err-write_whole-clause-read : goal.returns-in_err-write_whole-clause-read
 returns-in_err-write_whole-clause-read g c =
@@ -51,13 +51,13 @@ returns-in_err-write_whole-clause-read g c =
     let same : e ≡ c.in_err-write_whole.field-0.0 = p in
     absurd cc) c.from_residual.ensures.1
 
-pub returns-in_err-write_whole-clause-cut : goal.returns-in_err-write_whole-clause-cut
-returns-in_err-write_whole-clause-cut g c =
+pub returns-in_err-write_whole-clause-partial : goal.returns-in_err-write_whole-clause-partial
+returns-in_err-write_whole-clause-partial g c =
     let t = takes_either c.take_block-taken.result _ _ _ _ c.take_block-taken.ensures.ok c.take_block-taken.ensures.err in
     let w = c.in_err-write_whole.ensures.err in
     let part : Appends (g.W.Write.contents c.reads.output) (g.W.Write.contents c.write_whole.new.output) (take w.0 c.take_block-taken.new.pending.items)
     = rw c.as_slice-in-reads.ensures.value at w.2 in
-    err_always c.from_residual.result (λ e is. under_way-cut _ _ _ _ _ _ _ _ _ _ _ c.reads.invariant.2 c.in-Ok.ensures.bytes.0 t c.reads.invariant.1 part)
+    err_always c.from_residual.result (λ e is. under_way-partial _ _ _ _ _ _ _ _ _ _ _ c.reads.invariant.2 c.in-Ok.ensures.bytes.0 t c.reads.invariant.1 part)
 
 pub returns-then-is_err-clause-whole : goal.returns-then-is_err-clause-whole
 returns-then-is_err-clause-whole g c =

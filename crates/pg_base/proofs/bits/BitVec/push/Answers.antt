@@ -6,7 +6,7 @@ use Rattle.pg_types.specs.declared.fault.Fault.TheVariants.{Memory}
 use Rattle.pg_types.specs.Faults.{refusal_of}
 use Rattle.std.proofs.lemmas.Bool.Decides.{nat_tests}
 use Rattle.pg_base.specs.Bits.{Pushes, first_bits, most_bits}
-use Rattle.pg_base.proofs.BitLemmas.{byte_read, byte_behind, first_bits_len, is_put, room_in_last, pushed_view, pushed_tidy, next_view, next_tidy}
+use Rattle.pg_base.proofs.BitLemmas.{byte_read, trailing_byte, first_bits_len, is_put, room_in_last, pushed_view, pushed_tidy, next_view, next_tidy}
 use Rattle.pg_base.proofs.bits.BitVec.push.Goals as goal
 use Rattle.pg_base.proofs.bits.BitVec.push.Goals.{then-place-eq0+in_ok-push, else-place-eq0}
 
@@ -30,10 +30,10 @@ returns-in_err-push c =
     c.from_residual.ensures.1
 
 pub index-requires : goal.index-requires
-index-requires c = byte_behind c.self.inside.len c.self.inside.bytes c.self.invariant c.if-place-eq0.false
+index-requires c = trailing_byte c.self.inside.len c.self.inside.bytes c.self.invariant c.if-place-eq0.false
 
 pub index_mut-requires : goal.index_mut-requires
-index_mut-requires c = byte_behind c.self.inside.len c.self.inside.bytes c.self.invariant c.if-place-eq0.false
+index_mut-requires c = trailing_byte c.self.inside.len c.self.inside.bytes c.self.invariant c.if-place-eq0.false
 
 pub invariant_of-self-2 : goal.invariant_of-self-2
 invariant_of-self-2 c =
@@ -44,7 +44,7 @@ invariant_of-self-2 c =
           rw (w.self-inside-is, w.in_ok-push.ensures.items)
           (next_tidy n b.items c.self.invariant w.with_bit.result c.args.bit w.if-place-eq0.true w.with_bit.ensures w.with_bit.type_inv)
       | else-place-eq0 w ↦
-          let read = byte_read b (n / 8) w.index.result.now (byte_behind n b c.self.invariant w.if-place-eq0.false) w.index.ensures in
+          let read = byte_read b (n / 8) w.index.result.now (trailing_byte n b c.self.invariant w.if-place-eq0.false) w.index.ensures in
           let put = is_put b.items (n / 8) (n % 8) w.with_bit-else-place-eq0.result w.index.result.now c.args.bit read w.with_bit-else-place-eq0.ensures in
           rw w.self-inside-is
           (pushed_tidy n b.items c.self.invariant b.items w.with_bit-else-place-eq0.result c.args.bit (room_in_last n b.items c.self.invariant w.if-place-eq0.false) put
@@ -62,7 +62,7 @@ returns c =
           rw (w.self-inside-is, w.in_ok-push.ensures.items)
           (next_view n b.items c.self.invariant w.with_bit.result bit w.if-place-eq0.true w.with_bit.ensures w.with_bit.type_inv)
       | else-place-eq0 w ↦
-          let read = byte_read b (n / 8) w.index.result.now (byte_behind n b c.self.invariant w.if-place-eq0.false) w.index.ensures in
+          let read = byte_read b (n / 8) w.index.result.now (trailing_byte n b c.self.invariant w.if-place-eq0.false) w.index.ensures in
           let put = is_put b.items (n / 8) (n % 8) w.with_bit-else-place-eq0.result w.index.result.now bit read w.with_bit-else-place-eq0.ensures in
           rw w.self-inside-is
           (pushed_view n b.items c.self.invariant b.items w.with_bit-else-place-eq0.result bit (room_in_last n b.items c.self.invariant w.if-place-eq0.false) put

@@ -4,7 +4,7 @@ use Rattle.std.specs.Int.{w32}
 use Rattle.pg_base.specs.Appending.{Extends}
 use Rattle.pg_base.specs.Arrays.{array_bytes, array_head, owned_cell}
 use Rattle.pg_base.specs.Cells.{frames}
-use Rattle.pg_base.proofs.Joined.{appends_reserved, extends_both}
+use Rattle.pg_base.proofs.Concat.{appends_reserved, extends_both}
 use Rattle.pg_base.proofs.protocol.arrays.array_to_sql.Goals as goal
 
 pub returns : goal.returns

@@ -5,7 +5,7 @@ use Rattle.bytes.specs.Filled.{Filled}
 use Rattle.pg_base.specs.Appending.{Extends}
 use Rattle.pg_base.specs.Arrays.{array_head, flags_of, owned_cell}
 use Rattle.pg_base.specs.Cells.{be}
-use Rattle.pg_base.proofs.Joined.{extended, extends_both, short_count}
+use Rattle.pg_base.proofs.Concat.{extended, extends_both, short_count}
 use Rattle.pg_base.proofs.protocol.arrays.extend_by_head.Goals as goal
 
 -- these bytes, under another name

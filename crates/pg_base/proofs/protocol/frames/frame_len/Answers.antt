@@ -1,7 +1,7 @@
 use Rattle.std.proofs.Common.{negsuc, refl}
 use Rattle.std.specs.Int.{w32}
 use Rattle.pg_base.specs.Cells.{be}
-use Rattle.pg_base.proofs.Joined.{short_frame}
+use Rattle.pg_base.proofs.Concat.{short_frame}
 use Rattle.pg_base.proofs.protocol.frames.frame_len.Goals as goal
 
 pub returns-in_default-clause-len : goal.returns-in_default-clause-len

@@ -1,6 +1,6 @@
 use Rattle.std.proofs.Common.{◌+◌, ◌≤◌, ◌++◌, List, ℕ, length, ap, ◌∙◌, arith, append_assoc, length-append}
 use Rattle.pg_base.proofs.HstoreLengths.{has_room, entries_next}
-use Rattle.pg_base.proofs.Joined.{no_refusal, appended}
+use Rattle.pg_base.proofs.Concat.{no_refusal, appended}
 use Rattle.pg_base.proofs.protocol.hstore.hstore_to_sql.Goals as goal
 
 pub returns-in_err-text_frame_to_sql : goal.returns-in_err-text_frame_to_sql

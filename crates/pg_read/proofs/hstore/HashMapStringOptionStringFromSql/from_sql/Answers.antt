@@ -3,7 +3,7 @@ use Rattle.std.proofs.lemmas.Map.Text.{hash_map_updates_text}
 use Rattle.std.proofs.lemmas.Option.{IfSome_then}
 use Rattle.std.proofs.lemmas.Result.{err_from_is_err_and}
 use Rattle.pg_types.specs.Faults.{refusal_of}
-use Rattle.pg_base.specs.Hstore.{Entry, lent_entry}
+use Rattle.pg_base.specs.Hstore.{Entry, borrowed_entry}
 use Rattle.pg_base.proofs.HstoreLaws.{entry_fault, read_next}
 use Rattle.pg_read.proofs.LastEntries.{put_in}
 use Rattle.pg_read.proofs.hstore.HashMapStringOptionStringFromSql.from_sql.Goals as goal
@@ -18,7 +18,7 @@ returns-in_err-key-clause-outcome g c =
 pub loop-entry-preserved : goal.loop-entry-preserved
 loop-entry-preserved g c =
     let so_far = c.loop-entry.invariant in
-    let entry : Entry = lent_entry (c.in_ok-key.key, c.in_ok-key.value) in
+    let entry : Entry = borrowed_entry (c.in_ok-key.key, c.in_ok-key.value) in
     let taken = rw c.in_ok-key.was at c.in-Some.ensures in
     let puts = hash_map_updates_text (string_bytes c.in_ok-key-2.key) c.loop-entry.map c.insert.new.self _ c.in_ok-insert.ensures.updates in (
       so_far.0 ++ entry ∷ [],

@@ -1,0 +1,63 @@
+//! Writing timestamps.
+ghost use Rattle.std.specs.Prelude.{true, codes, refl};
+ghost use Rattle.pg_types.specs.declared.format.Format.TheVariants.{Binary};
+ghost use Rattle.pg_base.specs.Timestamps.{accepts_timestamps, nanos_of, wire_timestamp};
+ghost use Rattle.pg_write.specs.Writing.{checked_by};
+
+use crate::to_sql::{ToSql, wrong_type};
+use bytes::BytesMut;
+use pg_base::acceptance::is_timestamp;
+use pg_base::fault::Fault;
+use pg_base::format::{Format, IsNull};
+use pg_base::protocol::timestamp_to_sql;
+use pg_base::types::PgType;
+use pg_base::unix_time::UnixTime;
+use std::alloc::Global;
+
+/// TIMESTAMP, TIMESTAMPTZ: 8 bytes, big-endian, in two's complement, the microseconds from
+/// 2000-01-01 00:00:00 UTC, truncated toward it (`timestamp_send`, `timestamptz_send`). Where they
+/// leave 8 bytes the timestamp is `Transmit`.
+impl ToSql for UnixTime {
+    ghost accepted = { accepts_timestamps };
+
+    ghost name = { codes "UnixTime" };
+
+    ghost wire = { λ _ v. wire_timestamp (nanos_of v) };
+
+    ghost checked = { λ ty v. checked_by (accepts_timestamps ty) ty (codes "UnixTime") (wire_timestamp (nanos_of v)) };
+
+    ghost format = { λ _ _. Binary };
+
+    ghost by_room = { λ _. Unit {0} };
+
+    ghost refuses_memory_free = { true };
+
+    fn to_sql(&self, alloc: Global, _ty: &PgType, out: &mut BytesMut) -> Result<IsNull, Fault> {
+        let micros = self.to_postgres_micros().ok_or(Fault::Transmit)?;
+        timestamp_to_sql(alloc, micros, out)?;
+        Ok(IsNull::No)
+    }
+
+    fn accepts(ty: &PgType) -> bool {
+        is_timestamp(ty)
+    }
+
+    fn to_sql_checked(
+        &self,
+        alloc: Global,
+        ty: &PgType,
+        out: &mut BytesMut,
+    ) -> Result<IsNull, Fault> {
+        if Self::accepts(ty) {
+            self.to_sql(alloc, ty, out)
+        } else {
+            Err(wrong_type(ty, "UnixTime"))
+        }
+    }
+
+    fn encode_format(&self, _ty: &PgType) -> Format {
+        Format::Binary
+    }
+
+    ghost checks = { λ _ _. refl };
+}

@@ -1,0 +1,62 @@
+//! Writing UUIDs.
+ghost use Rattle.std.specs.Prelude.{true, codes, refl};
+ghost use Rattle.pg_types.specs.declared.format.Format.TheVariants.{Binary};
+ghost use Rattle.pg_types.specs.declared.types.built_in.BuiltIn.TheVariants.{Uuid as UuidRow};
+ghost use Rattle.pg_types.specs.Content.{is_row};
+ghost use Rattle.pg_base.specs.FixedBytes.{wire_fixed_bytes};
+ghost use Rattle.pg_write.specs.Writing.{checked_by};
+
+use crate::to_sql::{ToSql, wrong_type};
+use bytes::BytesMut;
+use pg_base::fault::Fault;
+use pg_base::format::{Format, IsNull};
+use pg_base::protocol::uuid_to_sql;
+use pg_base::types::PgType;
+use std::alloc::Global;
+use uuid::Uuid;
+
+/// UUID: 16 bytes, in the order of its text (`uuid_send`).
+impl ToSql for Uuid {
+    ghost accepted = { is_row UuidRow };
+
+    ghost name = { codes "Uuid" };
+
+    ghost wire = { λ _ v. wire_fixed_bytes 16 v };
+
+    ghost checked = { λ ty v. checked_by (is_row UuidRow ty) ty (codes "Uuid") (wire_fixed_bytes 16 v) };
+
+    ghost format = { λ _ _. Binary };
+
+    ghost by_room = { λ _. Unit {0} };
+
+    ghost refuses_memory_free = { true };
+
+    fn to_sql(&self, alloc: Global, _ty: &PgType, out: &mut BytesMut) -> Result<IsNull, Fault> {
+        uuid_to_sql(alloc, self.into_bytes(), out)?;
+        Ok(IsNull::No)
+    }
+
+    #[tactic(auto, using(pg_types::proofs::DerivedTypes::eq_content))]
+    fn accepts(ty: &PgType) -> bool {
+        *ty == PgType::UUID
+    }
+
+    fn to_sql_checked(
+        &self,
+        alloc: Global,
+        ty: &PgType,
+        out: &mut BytesMut,
+    ) -> Result<IsNull, Fault> {
+        if Self::accepts(ty) {
+            self.to_sql(alloc, ty, out)
+        } else {
+            Err(wrong_type(ty, "Uuid"))
+        }
+    }
+
+    fn encode_format(&self, _ty: &PgType) -> Format {
+        Format::Binary
+    }
+
+    ghost checks = { λ _ _. refl };
+}

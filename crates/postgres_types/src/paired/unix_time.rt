@@ -1,0 +1,27 @@
+//! Timestamps are read back truncated to microseconds.
+ghost use Rattle.std.specs.Prelude.{refl};
+ghost use Rattle.std.specs.Int.{w32, w64};
+ghost use Rattle.pg_base.specs.Timestamps.{nanos_of};
+ghost use Rattle.postgres_types.specs.TimestampBack.{KeptMicros};
+ghost use Rattle.postgres_types.specs.TimestampBackLaws.{timestamp_finite, timestamp_lawful};
+ghost use Rattle.postgres_types.specs.ReadingBack.{BackKept};
+
+use crate::paired::{Finite, Paired};
+use pg_base::unix_time::UnixTime;
+
+/// A timestamp is read back truncated to whole microseconds, toward 2000-01-01 00:00:00 UTC on both
+/// sides.
+impl<'a> Paired<'a> for UnixTime {
+    ghost back = { λ _. BackKept (KeptMicros nanos_of) };
+
+    ghost types = { λ _. refl };
+
+    ghost lawful = { λ _ _. timestamp_lawful nanos_of };
+}
+
+/// What is read from a count that is no infinity is written as that count.
+impl<'a> Finite<'a> for UnixTime {
+    ghost dates = { λ _ _ _. timestamp_finite nanos_of w32 };
+
+    ghost timestamps = { λ _ _ _. timestamp_finite nanos_of w64 };
+}
