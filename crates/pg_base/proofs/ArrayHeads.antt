@@ -9,10 +9,12 @@ use Rattle.pg_types.specs.Faults.{Answers, refusal_of}
 use Rattle.pg_base.specs.Formats.{Decodes, first_fault_of}
 
 -- what the one dimension gives, the head gives
-pub one_dimension : (b h m x s : List ℕ) (d : ℕ) (r : Result ToRead Fault) → b ≡ h ++ m → IsCount h d → d ≡ 1 → m ≡ x ++ s → length x ≡ 8
+pub one_dimension : (b h m x s : List ℕ) (d : ℕ) (r : Result ToRead Fault) → b ≡ h ++ m → IsCount h d → d ≡ 1 → m ≡ x
+    ++ s → length x ≡ 8
     → Answers (Decodes (SpellsDimensions (suc zero)) (λ s. first_fault_of (dimension_checks (suc zero) s)) s) r
     → Answers (Decodes SpellsHead (λ b. first_fault_of (head_checks b)) b) r
 one_dimension b h m x s d (Ok cells) e is one parts skipped p =
     (1, h, x, s, e ∙ ap (λ t. h ++ t) parts, subst (IsCount h) one is, skipped, p)
 one_dimension b h m x s d (Err f) e is one parts skipped p =
-    IfSome_then (refusal_of f) p (λ r q. dimension_fault b h x s 1 r (e ∙ ap (λ t. h ++ t) parts) (subst (IsCount h) one is) skipped q)
+    IfSome_then (refusal_of f) p (λ r q. dimension_fault b h x s 1 r (e ∙ ap (λ t. h ++ t) parts)
+        (subst (IsCount h) one is) skipped q)

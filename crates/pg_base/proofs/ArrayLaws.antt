@@ -26,10 +26,12 @@ after_head b = after_dimensions (count_or_zero (number_in b)) (drop 8 (drop 4 b)
 drop_part : (k : ℕ) (x s : List ℕ) → length x ≡ k → drop k (x ++ s) ≡ s
 drop_part k x s e = ap (λ n. drop n (x ++ s)) (sym e) ∙ drop-append_seam x s
 
-long_whole : (s l x rest : List ℕ) (n : ℕ) → s ≡ l ++ (x ++ rest) → IsCount l n → length x ≡ 4 → nat_le 8 (length s) ≡ true
+long_whole : (s l x rest : List ℕ) (n : ℕ) → s ≡ l ++ (x ++ rest) → IsCount l n → length x ≡ 4 → nat_le 8 (length s)
+    ≡ true
 long_whole s l x rest n e p h =
     let four : length l ≡ 4 = be-length w32 l (pos n) p in
-    let all : length s ≡ 8 + length rest = omega (arith, ap length e, length-append l (x ++ rest), length-append x rest, four, h) in
+    let all : length s ≡ 8 + length rest =
+        omega (arith, ap length e, length-append l (x ++ rest), length-append x rest, four, h) in
     grind (arith, nat_tests)
 
 long_enough : (x s : List ℕ) → length x ≡ 8 → nat_le 8 (length (x ++ s)) ≡ true
@@ -44,12 +46,15 @@ record AreDimensions (d : ℕ) (s : List ℕ) (r : ToRead) : Type 0 where
 
 dimensions_then : (d : ℕ) (s : List ℕ) (r : ToRead) → SpellsDimensions d s r → AreDimensions d s r
 dimensions_then zero s r p =
-    record { passes = refl; behind = ap₂ (λ (n : ℕ) (x : List ℕ). let r : ToRead = record { left = n; bytes = x } in r) (sym p.0) p.1 }
+    record { passes = refl; behind = ap₂ (λ (n : ℕ) (x : List ℕ). let r : ToRead = record { left = n; bytes = x } in r)
+        (sym p.0) p.1 }
 dimensions_then (suc zero) s r p =
     let number = number_then s p.0 (p.1 ++ r.bytes) (pos r.left) p.2 p.3 in
     record {
       passes = rw (long_whole s p.0 p.1 r.bytes r.left p.2 p.3 p.4, number.number) refl;
-      behind = rw (number.number, number.rest) (ap (λ (x : List ℕ). let q : ToRead = record { left = r.left; bytes = x } in q) (drop_part 4 p.1 r.bytes p.4));
+      behind = rw (number.number, number.rest)
+          (ap (λ (x : List ℕ). let q : ToRead = record { left = r.left; bytes = x } in q)
+          (drop_part 4 p.1 r.bytes p.4));
     }
 dimensions_then (suc (suc d)) s r p = absurd p
 
@@ -85,10 +90,12 @@ pub head_single : (b : List ℕ) (r q : ToRead) → SpellsHead b r → SpellsHea
 head_single b r q p k = sym (head_then b r p).behind ∙ (head_then b q k).behind
 
 -- bytes are one array's
-pub body_single : (b : List ℕ) (n m : ℕ) (cs ds : List Cell) (u w : List ℕ) → ArrayBody b n cs u → ArrayBody b m ds w → (n ≡ m) × (cs ≡ ds) × (u ≡ w)
+pub body_single : (b : List ℕ) (n m : ℕ) (cs ds : List Cell) (u w : List ℕ) → ArrayBody b n cs u → ArrayBody b m ds w
+    → (n ≡ m) × (cs ≡ ds) × (u ≡ w)
 body_single b n m cs ds u w p q =
     let e = head_single b (record { left = n; bytes = p.0 }) (record { left = m; bytes = q.0 }) p.1 q.1 in
     let many : n ≡ m = ap (λ (r : ToRead). r.left) e in
     let rest : p.0 ≡ q.0 = ap (λ (r : ToRead). r.bytes) e in
-    let row = cells_single p.0 n cs ds u w p.2 (subst (λ x. CellsInRow x n ds w) (sym rest) (subst (λ x. CellsInRow q.0 x ds w) (sym many) q.2)) in
+    let row = cells_single p.0 n cs ds u w p.2
+        (subst (λ x. CellsInRow x n ds w) (sym rest) (subst (λ x. CellsInRow q.0 x ds w) (sym many) q.2)) in
     (many, row.0, row.1)

@@ -1,5 +1,6 @@
 -- Lemmas on cells of bits.
-use Rattle.std.proofs.Common.{◌≡◌, ℕ, ◌+◌, ◌<◌, ◌≤◌, pos, true, false, nat_le, Some, None, List, ◌++◌, length, refl, ap, sym, subst, ◌∙◌, arith, Result, Ok, Err, IsErr}
+use Rattle.std.proofs.Common.{◌≡◌, ℕ, ◌+◌, ◌<◌, ◌≤◌, pos, true, false, nat_le, Some, None, List, ◌++◌, length, refl}
+use Rattle.std.proofs.Common.{ap, sym, subst, ◌∙◌, arith, Result, Ok, Err, IsErr}
 use Rattle.std.specs.Prelude.{⊤}
 use Rattle.std.specs.Result.{IsErrAnd}
 use Rattle.std.specs.Int.{w32}
@@ -15,14 +16,16 @@ use Rattle.pg_base.proofs.BitLemmas.{first_bits_len, packed_len}
 
 -- ---- reading
 -- a count, and as many bytes as so many bits take, spell the first bits
-pub spelt : (b head rest : List ℕ) (n : ℕ) → b ≡ head ++ rest → IsCount head n → length rest ≡ bytes_for n → FormBits (λ v. v) b (first_bits n rest)
+pub spelt : (b head rest : List ℕ) (n : ℕ) → b ≡ head ++ rest → IsCount head n → length rest ≡ bytes_for n
+    → FormBits (λ v. v) b (first_bits n rest)
 spelt b head rest n e is whole =
     let m : n ≡ length (first_bits n rest) = sym (first_bits_len n rest) in
     (head, rest, e, subst (λ x. IsCount head x) m is, whole ∙ ap bytes_for m, ap (λ x. first_bits x rest) m)
 
 -- ---- writing
 -- the bytes of a cell
-cell_within : (n : ℕ) (p : List ℕ) → n ≤ 2147483647 → bits_cell (first_bits n p) ≡ Some (be w32 (pos n) ++ packed (first_bits n p))
+cell_within : (n : ℕ) (p : List ℕ) → n ≤ 2147483647 → bits_cell (first_bits n p)
+    ≡ Some (be w32 (pos n) ++ packed (first_bits n p))
 cell_within n p h =
     let within : nat_le n 2147483647 ≡ true = grind (arith, nat_tests) in
     rw (first_bits_len n p, within) refl
@@ -36,13 +39,17 @@ packed_as_many : (n : ℕ) (p : List ℕ) → length p ≡ bytes_for n → lengt
 packed_as_many n p whole = packed_len (first_bits n p) ∙ ap bytes_for (first_bits_len n p) ∙ sym whole
 
 -- the cell was appended
-pub appended : (n : ℕ) (p : List ℕ) (old new : Filled) → n ≤ 2147483647 → length p ≡ bytes_for n → new.items ≡ old.items ++ (be w32 (pos n) ++ packed (first_bits n p)) → old.spare ≤ new.spare + (4 + length p) → Appends (bits_cell (first_bits n p)) old new (Ok tt)
+pub appended : (n : ℕ) (p : List ℕ) (old new : Filled) → n ≤ 2147483647 → length p ≡ bytes_for n → new.items
+    ≡ old.items ++ (be w32 (pos n) ++ packed (first_bits n p)) → old.spare ≤ new.spare + (4 + length p)
+    → Appends (bits_cell (first_bits n p)) old new (Ok tt)
 appended n p old new h whole items spare =
     let many = packed_as_many n p whole in
     rw (cell_within n p h) (items, omega arith)
 
 -- there was no room for it
-pub refused : (n : ℕ) (p : List ℕ) (old new : Filled) (r : Result ⊤ Fault) → n ≤ 2147483647 → length p ≡ bytes_for n → IsErr r → IsErrAnd r (λ f. f ≡ Memory) → new.items ≡ old.items → old.spare < 4 + length p → old.spare ≤ new.spare → Appends (bits_cell (first_bits n p)) old new r
+pub refused : (n : ℕ) (p : List ℕ) (old new : Filled) (r : Result ⊤ Fault) → n ≤ 2147483647 → length p ≡ bytes_for n
+    → IsErr r → IsErrAnd r (λ f. f ≡ Memory) → new.items ≡ old.items → old.spare < 4 + length p → old.spare ≤ new.spare
+    → Appends (bits_cell (first_bits n p)) old new r
 refused n p old new (Ok done) h whole is and items room more = absurd (cc)
 refused n p old new (Err f) h whole is and items room more =
     let many = packed_as_many n p whole in

@@ -19,7 +19,8 @@ bits_single b s t p q n m e f is it =
     let same : pos n ≡ pos m = sym one.number ∙ two.number in
     (cc, sym one.rest ∙ two.rest)
 
-pub bits_grammar : {A : Type 0} (bits_of : A → List Bool) → IsGrammar (λ v w. bits_of v ≡ bits_of w) (FormBits bits_of) first_fault_bits
+pub bits_grammar : {A : Type 0} (bits_of : A → List Bool)
+    → IsGrammar (λ v w. bits_of v ≡ bits_of w) (FormBits bits_of) first_fault_bits
 bits_grammar bits_of = record {
   passes = λ b v h. bits_pass b h.0 h.1 (length (bits_of v)) h.2 h.3 h.4;
   single = λ b v w h k.

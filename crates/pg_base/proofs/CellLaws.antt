@@ -1,11 +1,13 @@
 -- Laws of cells in a row.
-use Rattle.std.specs.Prelude.{◌≡◌, ℕ, zero, suc, ◌+◌, ℤ, pos, negsuc, List, [], ◌∷◌, ◌++◌, length, drop, Some, None, true, nat_le, refl}
+use Rattle.std.specs.Prelude.{◌≡◌, ℕ, zero, suc, ◌+◌, ℤ, pos, negsuc, List, [], ◌∷◌, ◌++◌, length, drop, Some, None}
+use Rattle.std.specs.Prelude.{true, nat_le, refl}
 use Rattle.std.proofs.Common.{sym, ◌∙◌, ap, ap₂, subst, arith, append_assoc, append-nil, inl, inr}
 use Rattle.std.proofs.Math.Dec.{leb-zero}
 use Rattle.std.proofs.Math.Seq.{take-append_seam, drop-append_seam}
 use Rattle.std.proofs.lemmas.Bool.Decides.{nat_tests}
 use Rattle.std.proofs.lemmas.List.{length-append}
-use Rattle.pg_base.specs.Cells.{Cell, Spells, SpellsNone, SpellsAll, CellsInRow, frame, frames, FramesSingle, FramePrefixesSingle}
+use Rattle.pg_base.specs.Cells.{Cell, Spells, SpellsNone, SpellsAll, CellsInRow, frame, frames, FramesSingle}
+use Rattle.pg_base.specs.Cells.{FramePrefixesSingle}
 use Rattle.pg_base.proofs.CountLaws.{IsNumberThen, number_then}
 use Rattle.pg_base.specs.Counts.{has_number, number_in, has_cell, bytes_in, after_cell, cell_checks}
 use Rattle.pg_types.specs.Faults.{Refusal, size}
@@ -70,7 +72,8 @@ cell_passes s u c p = rw (p.has, p.whole) refl
 -- where a check fails, the first cell is truncated
 pub no_cell : (s : List ℕ) (r : Refusal) → first_fault_of (cell_checks s) ≡ Some r → SpellsNone s
 no_cell s r e t rest c is spells =
-    let none : None ≡ Some r = sym (cell_passes (t ++ rest) rest c (cell_then t rest c spells)) ∙ ap (λ x. first_fault_of (cell_checks x)) (sym is) ∙ e in
+    let none : None ≡ Some r = sym (cell_passes (t ++ rest) rest c (cell_then t rest c spells))
+        ∙ ap (λ x. first_fault_of (cell_checks x)) (sym is) ∙ e in
     let no : ⊥ = cc in no
 
 -- bytes begin with one cell
@@ -81,7 +84,8 @@ cell_single t u s w c d e p q =
     (sym one.cell ∙ ap cell_in e ∙ two.cell, sym one.rest ∙ ap after_cell e ∙ two.rest)
 
 -- and with one row of cells
-pub cells_single : (s : List ℕ) (n : ℕ) (cs ds : List Cell) (u w : List ℕ) → CellsInRow s n cs u → CellsInRow s n ds w → (cs ≡ ds) × (u ≡ w)
+pub cells_single : (s : List ℕ) (n : ℕ) (cs ds : List Cell) (u w : List ℕ) → CellsInRow s n cs u → CellsInRow s n ds w
+    → (cs ≡ ds) × (u ≡ w)
 cells_single s n [] [] u w p q = (refl, sym p.0 ∙ q.0)
 cells_single s n [] (d ∷ ds) u w p q =
     elim p.2 [ inl z ↦ absurd (omega (arith, q.1, z)) | inr z ↦ absurd (z q.0.0 q.0.1 d (sym p.0 ∙ q.0.2) q.0.3) ]
@@ -90,8 +94,10 @@ cells_single s n (c ∷ cs) [] u w p q =
 cells_single s zero (c ∷ cs) (d ∷ ds) u w p q = absurd (omega (arith, p.1))
 cells_single s (suc n) (c ∷ cs) (d ∷ ds) u w p q =
     let first = cell_single p.0.0 p.0.1 q.0.0 q.0.1 c d (sym p.0.2 ∙ q.0.2) p.0.3 q.0.3 in
-    let h : CellsInRow p.0.1 n cs u = (p.0.4, omega (arith, p.1), elim p.2 [ inl z ↦ inl (omega (arith, z)) | inr z ↦ inr z ]) in
-    let k : CellsInRow q.0.1 n ds w = (q.0.4, omega (arith, q.1), elim q.2 [ inl z ↦ inl (omega (arith, z)) | inr z ↦ inr z ]) in
+    let h : CellsInRow p.0.1 n cs u = (p.0.4, omega
+        (arith, p.1), elim p.2 [ inl z ↦ inl (omega (arith, z)) | inr z ↦ inr z ]) in
+    let k : CellsInRow q.0.1 n ds w = (q.0.4, omega
+        (arith, q.1), elim q.2 [ inl z ↦ inl (omega (arith, z)) | inr z ↦ inr z ]) in
     let later = cells_single p.0.1 n cs ds u w h (subst (λ x. CellsInRow x n ds w) (sym first.1) k) in
     (ap₂ (λ (x : Cell) (xs : List Cell). x ∷ xs) first.0 later.0, later.1)
 
@@ -100,7 +106,8 @@ pub frames_spell : (cs : List Cell) (b s : List ℕ) → frames cs ≡ Some b �
 frames_spell [] b s e = let none : b ≡ [] = cc in ap (λ x. x ++ s) none
 frames_spell (c ∷ cs) b s e =
     let parts = parts_of (frame c) (frames cs) b e in
-    (parts.0, parts.1 ++ s, ap (λ x. x ++ s) parts.4 ∙ append_assoc parts.0 parts.1 s, frame_spells c parts.0 parts.2, frames_spell cs parts.1 s parts.3)
+    (parts.0, parts.1 ++ s, ap (λ x. x ++ s) parts.4
+        ∙ append_assoc parts.0 parts.1 s, frame_spells c parts.0 parts.2, frames_spell cs parts.1 s parts.3)
 
 -- and alone where nothing does
 pub frames_alone : (cs : List Cell) (b : List ℕ) → frames cs ≡ Some b → SpellsAll b cs []
@@ -114,10 +121,12 @@ frames_in_row cs b s e = (frames_spell cs b s e, omega arith, inl refl)
 pub frames_single : FramesSingle
 frames_single cs ds b e f =
     let none : SpellsNone [] = no_cell [] size refl in
-    (cells_single b (length cs + length ds) cs ds [] [] (frames_alone cs b e, omega arith, inr none) (frames_alone ds b f, omega arith, inr none)).0
+    (cells_single b (length cs + length ds) cs ds [] [] (frames_alone cs b e, omega arith, inr none)
+        (frames_alone ds b f, omega arith, inr none)).0
 
 -- nor, whatever comes after them, of other cells that are as many
 pub frame_prefixes_single : FramePrefixesSingle
 frame_prefixes_single cs ds a b s t many e f is =
-    let other : CellsInRow (a ++ s) (length cs) ds t = (subst (λ x. SpellsAll x ds t) (sym is) (frames_spell ds b t f), omega (arith, many), inl (sym many)) in
+    let other : CellsInRow (a ++ s) (length cs) ds t =
+        (subst (λ x. SpellsAll x ds t) (sym is) (frames_spell ds b t f), omega (arith, many), inl (sym many)) in
     cells_single (a ++ s) (length cs) cs ds s t (frames_in_row cs a s e) other

@@ -1,5 +1,7 @@
 -- Bytes begin with a row of cells that is as long as it can be.
-use Rattle.std.proofs.Common.{◌≡◌, ℕ, zero, suc, ◌<◌, ◌≤◌, ℤ, pos, negsuc, List, [], ◌++◌, ◌∷◌, length, take, drop, get_or, Some, None, refl, sym, ◌∙◌, ap, arith, subst, inl, inr, take-append-drop, to_z, length-take, Fits, get_or-take}
+use Rattle.std.proofs.Common.{◌≡◌, ℕ, zero, suc, ◌<◌, ◌≤◌, ℤ, pos, negsuc, List, [], ◌++◌, ◌∷◌, length, take, drop}
+use Rattle.std.proofs.Common.{get_or, Some, None, refl, sym, ◌∙◌, ap, arith, subst, inl, inr, take-append-drop}
+use Rattle.std.proofs.Common.{to_z, length-take, Fits, get_or-take}
 use Rattle.std.specs.Prelude.{◌⊎◌, ◌+◌, false, nat_le}
 use Rattle.std.specs.Int.{w32, from_be_bytes, to_be_bytes}
 use Rattle.std.proofs.lemmas.Bool.Decides.{nat_tests}
@@ -29,7 +31,8 @@ less_or_not a b = grind arith
 four_bytes : (h : List ℕ) → AreBytes h → length h ≡ 4 → (z : ℤ) × IsBe w32 h z
 four_bytes h b l =
     let fits : Fits w32 (from_be_bytes w32 h) = omega (arith, b 0, b 1, b 2, b 3) in
-    (to_z w32 (from_be_bytes w32 h), (sfits_to_z fits, sym (be_bytes_4 h (from_be_bytes w32 h) l b refl) ∙ ap (to_be_bytes w32) (sym (of_z-to_z fits))))
+    (to_z w32 (from_be_bytes w32 h), (sfits_to_z fits, sym (be_bytes_4 h (from_be_bytes w32 h) l b refl)
+        ∙ ap (to_be_bytes w32) (sym (of_z-to_z fits))))
 
 -- with fewer than four bytes the length is truncated
 truncated_length : (s : List ℕ) → length s < 4 → SpellsNone s
@@ -55,7 +58,8 @@ next_at s h m (pos n) e p = elim (less_or_not (length m) n) [
 ]
 
 trailing_bytes : (s h m : List ℕ) → s ≡ h ++ m → AreBytes s → AreBytes m
-trailing_bytes s h m e b i = subst (λ x. x < 256) (ap (λ x. get_or x (length h + i) 0) e ∙ get_or-append-add h m i 0) (b (length h + i))
+trailing_bytes s h m e b i = subst (λ x. x < 256) (ap (λ x. get_or x (length h + i) 0) e ∙ get_or-append-add h m i 0)
+    (b (length h + i))
 
 bytes_before : (s : List ℕ) (n : ℕ) → AreBytes s → AreBytes (take n s)
 bytes_before s n b i = elim (less_or_not i n) [
@@ -77,18 +81,21 @@ cells_exist s zero b = ([], s, (refl, omega arith, inl refl))
 cells_exist s (suc n) b = elim (next s b) [
   | inl p ↦
       let r = cells_exist p.1 n (trailing_bytes s p.0 p.1 p.3 b) in
-      (p.2 ∷ r.0, r.1, ((p.0, p.1, p.3, p.4, r.2.0), omega (arith, r.2.1), elim r.2.2 [ inl e ↦ inl (ap suc e) | inr h ↦ inr h ]))
+      (p.2 ∷ r.0, r.1, ((p.0, p.1, p.3, p.4, r.2.0), omega
+          (arith, r.2.1), elim r.2.2 [ inl e ↦ inl (ap suc e) | inr h ↦ inr h ]))
   | inr h ↦ ([], s, (refl, omega arith, inr h))
 ]
 
 -- what stands after a head is bytes
 dimension_bytes : (d : ℕ) (s : List ℕ) (r : ToRead) → SpellsDimensions d s r → AreBytes s → AreBytes r.bytes
 dimension_bytes zero s r p b = subst AreBytes p.1 b
-dimension_bytes (suc zero) s r p b = trailing_bytes (p.1 ++ r.bytes) p.1 r.bytes refl (trailing_bytes s p.0 (p.1 ++ r.bytes) p.2 b)
+dimension_bytes (suc zero) s r p b =
+    trailing_bytes (p.1 ++ r.bytes) p.1 r.bytes refl (trailing_bytes s p.0 (p.1 ++ r.bytes) p.2 b)
 dimension_bytes (suc (suc d)) s r p b = absurd p
 
 pub head_bytes : (b : List ℕ) (r : ToRead) → SpellsHead b r → AreBytes b → AreBytes r.bytes
-head_bytes b r p h = dimension_bytes p.0 p.3 r p.7 (trailing_bytes (p.2 ++ p.3) p.2 p.3 refl (trailing_bytes b p.1 (p.2 ++ p.3) p.4 h))
+head_bytes b r p h = dimension_bytes p.0 p.3 r p.7
+    (trailing_bytes (p.2 ++ p.3) p.2 p.3 refl (trailing_bytes b p.1 (p.2 ++ p.3) p.4 h))
 
 -- and so is what stands after cells
 pub row_bytes : (s u : List ℕ) (cs : List Cell) → SpellsAll s cs u → AreBytes s → AreBytes u

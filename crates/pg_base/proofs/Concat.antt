@@ -1,5 +1,7 @@
 -- Bytes that are there, one after another.
-use Rattle.std.proofs.Common.{◌≡◌, ◌≤◌, ◌+◌, ◌++◌, ℕ, List, [], length, map, Option, Some, None, Bool, true, false, cond, nat_le, pos, Ok, Err, refl, sym, ap, ◌∙◌, subst, arith, append_assoc, append-nil, length-append}
+use Rattle.std.proofs.Common.{◌≡◌, ◌≤◌, ◌+◌, ◌++◌, ℕ, List, [], length, map, Option, Some, None, Bool, true, false}
+use Rattle.std.proofs.Common.{cond, nat_le, pos, Ok, Err, refl, sym, ap, ◌∙◌, subst, arith, append_assoc}
+use Rattle.std.proofs.Common.{append-nil, length-append}
 use Rattle.std.specs.Bool.{⊤}
 use Rattle.std.proofs.lemmas.Bool.Decides.{nat_tests}
 use Rattle.std.proofs.lemmas.List.{length-map}
@@ -31,12 +33,14 @@ pub sum_len : (t x y : List ℕ) → t ≡ x ++ y → length t ≡ length x + le
 sum_len t x y e = subst (λ (s : List ℕ). length s ≡ length x + length y) (sym e) (length-append x y)
 
 -- an appender does not refuse bytes that have room
-pub no_refusal : (w : Bytes) (b : List ℕ) (old new : Filled) (fault : Fault) → w ≡ Some b → length b ≤ old.spare → Appends w old new (Err fault) → ⊥
+pub no_refusal : (w : Bytes) (b : List ℕ) (old new : Filled) (fault : Fault) → w ≡ Some b → length b ≤ old.spare
+    → Appends w old new (Err fault) → ⊥
 no_refusal None b old new fault e h a = let no : ⊥ = cc in no
 no_refusal (Some x) b old new fault e h a = let same : x ≡ b = cc in omega (arith, a.2, ap length same)
 
 -- and takes no more room than they do
-pub appended : {u : ⊤} (w : Bytes) (b : List ℕ) (old new : Filled) → w ≡ Some b → Appends w old new (Ok u) → (new.items ≡ old.items ++ b) × (old.spare ≤ new.spare + length b)
+pub appended : {u : ⊤} (w : Bytes) (b : List ℕ) (old new : Filled) → w ≡ Some b → Appends w old new (Ok u)
+    → (new.items ≡ old.items ++ b) × (old.spare ≤ new.spare + length b)
 appended w b old new e a = subst (λ (w : Bytes). Extends w old new) e a
 
 pub none_of : (o : Bytes) → ((t : List ℕ) → o ≡ Some t → ⊥) → o ≡ None
@@ -48,25 +52,29 @@ cond_passes true b e = refl
 cond_passes false b e = let no : ⊥ = cc in absurd no
 
 -- a short text has a frame
-pub short_frame : (x : List ℕ) → length x ≤ 2147483647 → (b : List ℕ) × (frame (Some x) ≡ Some b) × (length b ≡ 4 + length x)
+pub short_frame : (x : List ℕ) → length x ≤ 2147483647 → (b : List ℕ) × (frame (Some x) ≡ Some b)
+    × (length b ≡ 4 + length x)
 short_frame x h =
     let fits : nat_le (length x) 2147483647 ≡ true = grind (arith, nat_tests) in
     let b : List ℕ = be w32 (pos (length x)) ++ x in
     (b, cond_passes (nat_le (length x) 2147483647) b fits, omega (arith, length-append (be w32 (pos (length x))) x))
 
 -- so many have a count
-pub short_count : {X Y : Type 0} (f : X → Y) (xs : List X) → length xs ≤ 2147483647 → count_bytes (length (map f xs)) ≡ Some (be w32 (pos (length xs)))
+pub short_count : {X Y : Type 0} (f : X → Y) (xs : List X) → length xs ≤ 2147483647 → count_bytes (length (map f xs))
+    ≡ Some (be w32 (pos (length xs)))
 short_count f xs h =
     let same : length (map f xs) ≡ length xs = length-map xs f in
     let fits : nat_le (length xs) 2147483647 ≡ true = grind (arith, nat_tests) in
     ap count_bytes same ∙ cond_passes (nat_le (length xs) 2147483647) (be w32 (pos (length xs))) fits
 
 -- bytes for which there was room
-pub extended : (b : List ℕ) (old new : Filled) → new.items ≡ old.items ++ b → new.spare + length b ≡ old.spare → Extends (Some b) old new
+pub extended : (b : List ℕ) (old new : Filled) → new.items ≡ old.items ++ b → new.spare + length b ≡ old.spare
+    → Extends (Some b) old new
 extended b old new is left = (is, omega (arith, left))
 
 -- the first bytes were appended, and then the second
-pub extends_both : (a b : Bytes) (old mid new : Filled) → Extends a old mid → Extends b mid new → Extends (concat a b) old new
+pub extends_both : (a b : Bytes) (old mid new : Filled) → Extends a old mid → Extends b mid new
+    → Extends (concat a b) old new
 extends_both None b old mid new h k = absurd h
 extends_both (Some a) None old mid new h k = absurd k
 extends_both (Some a) (Some b) old mid new h k = (
@@ -81,12 +89,14 @@ room_for_first (Some a) None room h = absurd h
 room_for_first (Some a) (Some b) room h = omega (arith, h, length-append a b)
 
 -- and when the first were appended there is room for the second
-pub room_for_second : (a b : Bytes) (old mid : Filled) → HasRoomFor (concat a b) old.spare → Extends a old mid → HasRoomFor b mid.spare
+pub room_for_second : (a b : Bytes) (old mid : Filled) → HasRoomFor (concat a b) old.spare → Extends a old mid
+    → HasRoomFor b mid.spare
 room_for_second None b old mid h k = absurd h
 room_for_second (Some a) None old mid h k = absurd h
 room_for_second (Some a) (Some b) old mid h k = omega (arith, h, k.1, length-append a b)
 
 -- bytes that are appended to a buffer in which room was reserved
-pub appends_reserved : {u : ⊤} (w : Bytes) (old mid new : Filled) → mid.items ≡ old.items → old.spare ≤ mid.spare → Extends w mid new → Appends w old new (Ok u)
+pub appends_reserved : {u : ⊤} (w : Bytes) (old mid new : Filled) → mid.items ≡ old.items → old.spare ≤ mid.spare
+    → Extends w mid new → Appends w old new (Ok u)
 appends_reserved None old mid new is more h = absurd h
 appends_reserved (Some b) old mid new is more h = (h.0 ∙ ap (λ s. s ++ b) is, omega (arith, more, h.1))

@@ -1,12 +1,14 @@
 -- Laws of formats: which of them are grammars.
-use Rattle.std.specs.Prelude.{◌≡◌, ◌++◌, [], ◌∷◌, Some, ℕ, suc, zero, ◌<◌, ◌^◌, ◌-◌, ◌==◌, ℤ, pos, negsuc, List, length, None, Bool, true, false, not, FitsSigned, refl}
+use Rattle.std.specs.Prelude.{◌≡◌, ◌++◌, [], ◌∷◌, Some, ℕ, suc, zero, ◌<◌, ◌^◌, ◌-◌, ◌==◌, ℤ, pos, negsuc, List}
+use Rattle.std.specs.Prelude.{length, None, Bool, true, false, not, FitsSigned, refl}
 use Rattle.std.proofs.Common.{sym, ◌∙◌, ap, subst, arith, cond, drop}
 use Rattle.std.proofs.Math.Facts.{Fits-of_z}
 use Rattle.std.proofs.lemmas.Bool.{eq-eqb, lt-ltb, ltb-true}
 use Rattle.std.proofs.lemmas.Int.{to_z-of_z}
 use Rattle.std.proofs.lemmas.Nat.{from_be_bytes-to_be_bytes_2, from_be_bytes-to_be_bytes_4, from_be_bytes-to_be_bytes_8}
 use Rattle.std.proofs.lemmas.Str.{is_utf8-from_IsUtf8}
-use Rattle.std.specs.Int.{Width, w8, w16, w32, w64, w128, byte_len, bytes_high_first, cast_unsigned, cast_signed, to_be_bytes, from_be_bytes}
+use Rattle.std.specs.Int.{Width, w8, w16, w32, w64, w128, byte_len, bytes_high_first, cast_unsigned, cast_signed}
+use Rattle.std.specs.Int.{to_be_bytes, from_be_bytes}
 use mir.Val.{bits, hbits}
 use Rattle.pg_base.specs.Bytea.{FormBytes, first_fault_bytes}
 use Rattle.pg_base.specs.Cells.{be, signed_in, IsBe, IsBeUnsigned}
@@ -16,7 +18,8 @@ use Rattle.pg_base.specs.Numbers.{FormSigned, FormUnsigned, FormBool, first_faul
 use Rattle.pg_base.specs.Texts.{FormText, first_fault_text}
 
 -- checks that pass leave the answer to the later ones
-passed_by : (t : Bool) (r : Refusal) (xs ys : Checks) → ((first_fault_of xs ≡ None) → first_fault_of (xs ++ ys) ≡ first_fault_of ys)
+passed_by : (t : Bool) (r : Refusal) (xs ys : Checks)
+    → ((first_fault_of xs ≡ None) → first_fault_of (xs ++ ys) ≡ first_fault_of ys)
     → cond t (first_fault_of xs) (Some r) ≡ None → cond t (first_fault_of (xs ++ ys)) (Some r) ≡ first_fault_of ys
 passed_by true r xs ys later e = later e
 passed_by false r xs ys later e = let no : ⊥ = cc in absurd no
@@ -26,7 +29,8 @@ checks_passed [] ys e = refl
 checks_passed (x ∷ xs) ys e = passed_by x.0 x.1 xs ys (checks_passed xs ys) e
 
 -- and the first that fails is the first of more
-failed_by : (t : Bool) (r s : Refusal) (xs ys : Checks) → ((first_fault_of xs ≡ Some s) → first_fault_of (xs ++ ys) ≡ Some s)
+failed_by : (t : Bool) (r s : Refusal) (xs ys : Checks)
+    → ((first_fault_of xs ≡ Some s) → first_fault_of (xs ++ ys) ≡ Some s)
     → cond t (first_fault_of xs) (Some r) ≡ Some s → cond t (first_fault_of (xs ++ ys)) (Some r) ≡ Some s
 failed_by true r s xs ys later e = later e
 failed_by false r s xs ys later e = e
@@ -111,16 +115,21 @@ bool_grammar = record {
   single = λ b v w h k. let same : h.0 ≡ k.0 = cc (h.1, k.1) in h.2 ∙ ap (λ n. not (n == 0)) same ∙ sym k.2;
 }
 
-text_passes : {A : Type 0} (bytes_of : A → List ℕ) (versioned : Bool) (b : List ℕ) (v : A) → FormText bytes_of versioned b v → first_fault_text versioned b ≡ None
+text_passes : {A : Type 0} (bytes_of : A → List ℕ) (versioned : Bool) (b : List ℕ) (v : A)
+    → FormText bytes_of versioned b v → first_fault_text versioned b ≡ None
 text_passes bytes_of false b v h = ap (first_fault_text false) h.1 ∙ (rw (is_utf8-from_IsUtf8 (bytes_of v) h.0) refl)
 text_passes bytes_of true b v h = ap (first_fault_text true) h.1 ∙ (rw (is_utf8-from_IsUtf8 (bytes_of v) h.0) refl)
 
-text_single : {A : Type 0} (bytes_of : A → List ℕ) (versioned : Bool) (b : List ℕ) (v w : A) → FormText bytes_of versioned b v → FormText bytes_of versioned b w → bytes_of v ≡ bytes_of w
+text_single : {A : Type 0} (bytes_of : A → List ℕ) (versioned : Bool) (b : List ℕ) (v w : A)
+    → FormText bytes_of versioned b v → FormText bytes_of versioned b w → bytes_of v ≡ bytes_of w
 text_single bytes_of false b v w h k = sym h.1 ∙ k.1
 text_single bytes_of true b v w h k = ap (drop 1) (sym h.1 ∙ k.1)
 
-pub text_grammar : {A : Type 0} (bytes_of : A → List ℕ) (versioned : Bool) → IsGrammar (λ v w. bytes_of v ≡ bytes_of w) (FormText bytes_of versioned) (first_fault_text versioned)
-text_grammar bytes_of versioned = record { passes = text_passes bytes_of versioned; single = text_single bytes_of versioned }
+pub text_grammar : {A : Type 0} (bytes_of : A → List ℕ) (versioned : Bool)
+    → IsGrammar (λ v w. bytes_of v ≡ bytes_of w) (FormText bytes_of versioned) (first_fault_text versioned)
+text_grammar bytes_of versioned = record
+    { passes = text_passes bytes_of versioned; single = text_single bytes_of versioned }
 
-pub bytes_grammar : {A : Type 0} (bytes_of : A → List ℕ) → IsGrammar (λ v w. bytes_of v ≡ bytes_of w) (FormBytes bytes_of) first_fault_bytes
+pub bytes_grammar : {A : Type 0} (bytes_of : A → List ℕ)
+    → IsGrammar (λ v w. bytes_of v ≡ bytes_of w) (FormBytes bytes_of) first_fault_bytes
 bytes_grammar bytes_of = record { passes = λ b v h. refl; single = λ b v w h k. h ∙ sym k }

@@ -1,5 +1,6 @@
 -- Laws of frames.
-use Rattle.std.specs.Prelude.{◌≡◌, ◌<◌, ◌^◌, ℕ, ℤ, pos, negsuc, List, ◌++◌, length, Option, Some, None, Bool, true, false, nat_le, FitsSigned, refl}
+use Rattle.std.specs.Prelude.{◌≡◌, ◌<◌, ◌^◌, ℕ, ℤ, pos, negsuc, List, ◌++◌, length, Option, Some, None, Bool, true}
+use Rattle.std.specs.Prelude.{false, nat_le, FitsSigned, refl}
 use Rattle.std.proofs.Common.{sym, ◌∙◌, ap, subst, arith, cond, append_assoc}
 use Rattle.std.proofs.lemmas.Bool.{leb-true}
 use Rattle.std.proofs.lemmas.Bool.Decides.{nat_tests}
@@ -36,7 +37,8 @@ bytes-frame k b e =
     (be w32 (pos (length b)), p.1, (fits_length (length b) p.0, refl))
 
 -- a length that was taken, and the cell after it, spell the cell
-pub taken : (old h mid cell rest : List ℕ) (n : ℤ) → old ≡ h ++ mid → IsBe w32 h n → n ≡ pos (length cell) → mid ≡ cell ++ rest
+pub taken : (old h mid cell rest : List ℕ) (n : ℤ) → old ≡ h ++ mid → IsBe w32 h n → n ≡ pos (length cell) → mid ≡ cell
+    ++ rest
     → (s : List ℕ) × (old ≡ s ++ rest) × Spells s (Some cell)
 taken old h mid cell rest n e p is m = (
   h ++ cell,
@@ -53,7 +55,8 @@ frame_spells None s e =
 frame_spells (Some b) s e = e
 
 -- where a concatenation is there, both its parts are
-pub parts_of : (a b : Option (List ℕ)) (t : List ℕ) → concat a b ≡ Some t → (x y : List ℕ) × (a ≡ Some x) × (b ≡ Some y) × (t ≡ x ++ y)
+pub parts_of : (a b : Option (List ℕ)) (t : List ℕ) → concat a b ≡ Some t → (x y : List ℕ) × (a ≡ Some x)
+    × (b ≡ Some y) × (t ≡ x ++ y)
 parts_of None b t e = let no : ⊥ = cc in absurd no
 parts_of (Some x) None t e = let no : ⊥ = cc in absurd no
 parts_of (Some x) (Some y) t e = (x, y, refl, refl, cc)

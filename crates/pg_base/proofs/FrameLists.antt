@@ -1,5 +1,6 @@
 -- The frames of cells, one after another.
-use Rattle.std.proofs.Common.{◌≡◌, ◌<◌, ◌+◌, ◌++◌, ℕ, List, [], ◌∷◌, length, map, take, drop, get_or, Option, Some, None, true, false, ◌||◌, is_none, is_some, Vec, Global, refl, sym, ap, ◌∙◌, subst}
+use Rattle.std.proofs.Common.{◌≡◌, ◌<◌, ◌+◌, ◌++◌, ℕ, List, [], ◌∷◌, length, map, take, drop, get_or, Option, Some}
+use Rattle.std.proofs.Common.{None, true, false, ◌||◌, is_none, is_some, Vec, Global, refl, sym, ap, ◌∙◌, subst}
 use Rattle.std.proofs.lemmas.List.{take_more, map-append, take-append-drop}
 use Rattle.bytes.specs.Filled.{Filled}
 use Rattle.pg_base.specs.Appending.{Extends, HasRoomFor}
@@ -9,7 +10,8 @@ use Rattle.pg_base.proofs.Concat.{extends_both, concat-assoc, concat-nil, nil-co
 
 pub frames-append : (cs ds : List Cell) → frames (cs ++ ds) ≡ concat (frames cs) (frames ds)
 frames-append [] ds = sym (nil-concat (frames ds))
-frames-append (c ∷ cs) ds = ap (concat (frame c)) (frames-append cs ds) ∙ sym (concat-assoc (frame c) (frames cs) (frames ds))
+frames-append (c ∷ cs) ds = ap (concat (frame c)) (frames-append cs ds)
+    ∙ sym (concat-assoc (frame c) (frames cs) (frames ds))
 
 pub owned_null : (bytes : Option (Vec ℕ Global)) → is_some bytes ≡ false → is_none (owned_cell bytes) ≡ true
 owned_null None h = refl
@@ -35,31 +37,42 @@ module _ {X : Type 0} (view : X → Cell) (xs : List X) (i : ℕ) (x : X) (h : i
   behind = map view (drop (i + 1) xs)
 
   more : map view (take (i + 1) xs) ≡ before ++ here ∷ []
-  more = ap (map view) (take_more xs i x h) ∙ map-append view (take i xs) (get_or xs i x ∷ []) ∙ ap (λ y. before ++ view y ∷ []) (sym is)
+  more = ap (map view) (take_more xs i x h) ∙ map-append view (take i xs) (get_or xs i x ∷ [])
+      ∙ ap (λ y. before ++ view y ∷ []) (sym is)
 
   whole : map view xs ≡ (before ++ here ∷ []) ++ behind
-  whole = ap (map view) (sym (take-append-drop (i + 1) xs)) ∙ map-append view (take (i + 1) xs) (drop (i + 1) xs) ∙ ap (λ l. l ++ behind) more
+  whole = ap (map view) (sym (take-append-drop (i + 1) xs)) ∙ map-append view (take (i + 1) xs) (drop (i + 1) xs)
+      ∙ ap (λ l. l ++ behind) more
 
   frames_more : frames (map view (take (i + 1) xs)) ≡ concat (frames before) (frame here)
-  frames_more = ap frames more ∙ frames-append before (here ∷ []) ∙ ap (concat (frames before)) (concat-nil (frame here))
+  frames_more = ap frames more ∙ frames-append before (here ∷ [])
+      ∙ ap (concat (frames before)) (concat-nil (frame here))
 
   frames_whole : frames (map view xs) ≡ concat (concat (frames before) (frame here)) (frames behind)
   frames_whole =
       ap frames whole ∙ frames-append (before ++ here ∷ []) behind
-      ∙ ap (λ b. concat b (frames behind)) (frames-append before (here ∷ []) ∙ ap (concat (frames before)) (concat-nil (frame here)))
+      ∙ ap (λ b. concat b (frames behind))
+          (frames-append before (here ∷ []) ∙ ap (concat (frames before)) (concat-nil (frame here)))
 
   -- what is left of room for all frames has room for the next
-  pub next_room : (start now : Filled) → HasRoomFor (frames (map view xs)) start.spare → Extends (frames before) start now → HasRoomFor (frame here) now.spare
+  pub next_room : (start now : Filled) → HasRoomFor (frames (map view xs)) start.spare
+      → Extends (frames before) start now → HasRoomFor (frame here) now.spare
   next_room start now room so_far =
-      let all : HasRoomFor (concat (concat (frames before) (frame here)) (frames behind)) start.spare = subst (λ b. HasRoomFor b start.spare) frames_whole room in
-      room_for_second (frames before) (frame here) start now (room_for_first (concat (frames before) (frame here)) (frames behind) start.spare all) so_far
+      let all : HasRoomFor (concat (concat (frames before) (frame here)) (frames behind)) start.spare =
+          subst (λ b. HasRoomFor b start.spare) frames_whole room in
+      room_for_second (frames before) (frame here) start now
+          (room_for_first (concat (frames before) (frame here)) (frames behind) start.spare all) so_far
 
   -- one more frame was appended
-  pub next_frame : (start now new : Filled) → Extends (frames before) start now → Extends (frame here) now new → Extends (frames (map view (take (i + 1) xs))) start new
-  next_frame start now new so_far next = subst (λ b. Extends b start new) (sym frames_more) (extends_both (frames before) (frame here) start now new so_far next)
+  pub next_frame : (start now new : Filled) → Extends (frames before) start now → Extends (frame here) now new
+      → Extends (frames (map view (take (i + 1) xs))) start new
+  next_frame start now new so_far next =
+      subst (λ b. Extends b start new) (sym frames_more)
+      (extends_both (frames before) (frame here) start now new so_far next)
 
   -- one more frame was counted
-  pub next_bytes : (bs b : List ℕ) → frames before ≡ Some bs → frame here ≡ Some b → frames (map view (take (i + 1) xs)) ≡ Some (bs ++ b)
+  pub next_bytes : (bs b : List ℕ) → frames before ≡ Some bs → frame here ≡ Some b
+      → frames (map view (take (i + 1) xs)) ≡ Some (bs ++ b)
   next_bytes bs b so_far next = frames_more ∙ rw (so_far, next) refl
 
   -- where a cell has no frame, there are none of all

@@ -1,5 +1,6 @@
 -- The bits of an address after its first ones.
-use Rattle.std.proofs.Common.{◌≡◌, ◌∙◌, ℕ, zero, suc, ◌+◌, ◌-◌, ◌*◌, ◌/◌, ◌%◌, ◌^◌, ◌<◌, ◌≤◌, ◌==◌, nat_lt, List, [], ◌∷◌, length, refl, ap, arith, inl, inr, add-one, lt-ltb, le-ltb, eq-eqb, ne_eqb}
+use Rattle.std.proofs.Common.{◌≡◌, ◌∙◌, ℕ, zero, suc, ◌+◌, ◌-◌, ◌*◌, ◌/◌, ◌%◌, ◌^◌, ◌<◌, ◌≤◌, ◌==◌, nat_lt, List}
+use Rattle.std.proofs.Common.{[], ◌∷◌, length, refl, ap, arith, inl, inr, add-one, lt-ltb, le-ltb, eq-eqb, ne_eqb}
 use Rattle.std.specs.Prelude.{not}
 use Rattle.std.specs.Int.{w32, w128, from_be_bytes, trailing_zeros}
 use Rattle.std.specs.Int.Digits.{number_from_digits}
@@ -48,7 +49,8 @@ divided-zeros d n zero h divided = omega arith
 divided-zeros zero n (suc k) h divided = absurd (omega arith)
 divided-zeros (suc d) n (suc k) h divided =
     let whole = halved n k in
-    above (n % 2) (count_trailing_zeros d (n / 2)) k (omega arith) (divided-zeros d (n / 2) k (omega arith) (omega arith))
+    above (n % 2) (count_trailing_zeros d (n / 2)) k (omega arith)
+        (divided-zeros d (n / 2) k (omega arith) (omega arith))
 
 -- n has fewer zeros at its end than that exactly where 2 ^ (d - len) does not divide it
 module _ (d n len : ℕ) where
@@ -74,13 +76,15 @@ length-octets_of [] = refl
 length-octets_of (s ∷ segments) = omega (arith, length-octets_of segments)
 
 -- the zeros at an IPv4 address's end tell whether it has host bits
-pub v4_host_part : (a : Ipv4Addr) (len : ℕ) → length (ipv4_octets a) ≡ 4 → nat_lt (len + trailing_zeros w32 (ipv4_bits a)) 32 ≡ not (host_part (ipv4_octets a) len == 0)
+pub v4_host_part : (a : Ipv4Addr) (len : ℕ) → length (ipv4_octets a) ≡ 4
+    → nat_lt (len + trailing_zeros w32 (ipv4_bits a)) 32 ≡ not (host_part (ipv4_octets a) len == 0)
 unfolding ipv4_bits
 v4_host_part a len h =
     ends 32 (ipv4_bits a) len ∙ (rw (number-4 (ipv4_octets a) h, h) refl)
 
 -- and at an IPv6 address's end
-pub v6_host_part : (a : Ipv6Addr) (len : ℕ) → length (ipv6_segments a) ≡ 8 → nat_lt (len + trailing_zeros w128 (ipv6_bits a)) 128 ≡ not (host_part (ipv6_octets a) len == 0)
+pub v6_host_part : (a : Ipv6Addr) (len : ℕ) → length (ipv6_segments a) ≡ 8
+    → nat_lt (len + trailing_zeros w128 (ipv6_bits a)) 128 ≡ not (host_part (ipv6_octets a) len == 0)
 unfolding ipv6_bits
 v6_host_part a len h =
     let sixteen : length (ipv6_octets a) ≡ 16 = length-octets_of (ipv6_segments a) ∙ ap (λ k. 2 * k) h in

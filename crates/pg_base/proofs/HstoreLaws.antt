@@ -1,5 +1,6 @@
 -- Hstore is a grammar: its bytes spell one map, and pass every check.
-use Rattle.std.specs.Prelude.{◌≡◌, ℕ, zero, suc, ℤ, pos, negsuc, List, [], ◌∷◌, ◌++◌, ◌+◌, length, take, drop, Option, Some, None, Bool, true, false, nat_le, IsUtf8, refl}
+use Rattle.std.specs.Prelude.{◌≡◌, ℕ, zero, suc, ℤ, pos, negsuc, List, [], ◌∷◌, ◌++◌, ◌+◌, length, take, drop}
+use Rattle.std.specs.Prelude.{Option, Some, None, Bool, true, false, nat_le, IsUtf8, refl}
 use Rattle.std.proofs.Common.{sym, ◌∙◌, ap, ap₂, arith, append_assoc}
 use Rattle.std.proofs.Math.Dec.{leb-zero}
 use Rattle.std.proofs.lemmas.List.{length-append}
@@ -9,10 +10,12 @@ use Rattle.pg_base.specs.Cells.{Cell}
 use Rattle.pg_types.specs.Faults.{Refusal, size, utf8, key_length}
 use Rattle.pg_base.proofs.CellLaws.{IsCellThen, bytes_or_none, cell_by, cell_in, cell_then}
 use Rattle.pg_base.proofs.CountLaws.{number_then}
-use Rattle.pg_base.specs.Counts.{checks_of_next, next_checks, ToRead, after_cell, bytes_in, has_number, not_negative, number_in, count_or_zero}
+use Rattle.pg_base.specs.Counts.{checks_of_next, next_checks, ToRead, after_cell, bytes_in, has_number}
+use Rattle.pg_base.specs.Counts.{not_negative, number_in, count_or_zero}
 use Rattle.pg_base.proofs.FormatLaws.{check_failed, checks_passed}
 use Rattle.pg_base.specs.Formats.{IsGrammar, first_fault_of}
-use Rattle.pg_base.specs.Hstore.{Entry, SpellsText, SpellsEntry, SpellsEntries, SpellsCount, FormHstore, key_checks, value_checks, entry_checks, entries_checks, first_fault_hstore, last_value}
+use Rattle.pg_base.specs.Hstore.{Entry, SpellsText, SpellsEntry, SpellsEntries, SpellsCount, FormHstore, key_checks}
+use Rattle.pg_base.specs.Hstore.{value_checks, entry_checks, entries_checks, first_fault_hstore, last_value}
 use Rattle.pg_base.specs.Options.{NoneOr}
 use Rattle.pg_base.specs.Sameness.{IsEquivalence}
 
@@ -33,21 +36,28 @@ some_not_negative (pos n) y x e = refl
 some_not_negative (negsuc n) y x e = let no : ⊥ = cc in absurd no
 
 key_passes : (s x u : List ℕ) → IsCellThen s (Some x) u → IsUtf8 x → first_fault_of (key_checks s) ≡ None
-key_passes s x u p h = rw (p.has, some_not_negative (number_in s) (bytes_in s) x p.cell, p.whole, p.bytes, is_utf8-from_IsUtf8 x h) refl
+key_passes s x u p h = rw (p.has, some_not_negative (number_in s)
+    (bytes_in s) x p.cell, p.whole, p.bytes, is_utf8-from_IsUtf8 x h) refl
 
 -- the first fault of a text is that of a key
 key_fault_by : (t : Bool) (n : ℤ) (d : List ℕ) (r : Refusal)
-    → first_fault_of ((t, size) ∷ (nat_le (count_or_zero n) (length d), size) ∷ (is_utf8 (take (count_or_zero n) d), utf8) ∷ []) ≡ Some r
-    → first_fault_of ((t, size) ∷ (not_negative n, key_length) ∷ (nat_le (count_or_zero n) (length d), size) ∷ (is_utf8 (take (count_or_zero n) d), utf8) ∷ []) ≡ Some r
+    → first_fault_of ((t, size) ∷ (nat_le (count_or_zero n) (length d), size)
+        ∷ (is_utf8 (take (count_or_zero n) d), utf8) ∷ []) ≡ Some r
+    → first_fault_of ((t, size) ∷ (not_negative n, key_length) ∷ (nat_le (count_or_zero n) (length d), size)
+        ∷ (is_utf8 (take (count_or_zero n) d), utf8) ∷ []) ≡ Some r
 key_fault_by false n d r e = e
 key_fault_by true (pos n) d r e = e
-key_fault_by true (negsuc n) d r e = let none : None ≡ Some r = sym (rw (leb-zero (length d), is_utf8-from_IsUtf8 [] IsUtf8-nil) refl) ∙ e in let no : ⊥ = cc in absurd no
+key_fault_by true (negsuc n) d r e = let none : None ≡ Some r =
+    sym (rw (leb-zero (length d), is_utf8-from_IsUtf8 [] IsUtf8-nil) refl) ∙ e in let no : ⊥ = cc in absurd no
 
-pub key_fault : (s : List ℕ) (r : Refusal) → first_fault_of (value_checks s) ≡ Some r → first_fault_of (entry_checks s) ≡ Some r
-key_fault s r e = check_failed (key_checks s) (value_checks (after_cell s)) r (key_fault_by (has_number s) (number_in s) (drop 4 s) r e)
+pub key_fault : (s : List ℕ) (r : Refusal) → first_fault_of (value_checks s) ≡ Some r → first_fault_of (entry_checks s)
+    ≡ Some r
+key_fault s r e = check_failed (key_checks s) (value_checks (after_cell s)) r
+    (key_fault_by (has_number s) (number_in s) (drop 4 s) r e)
 
 -- after a sound key the first fault is the value's
-pub value_fault : (t u x : List ℕ) (r : Refusal) → SpellsText t (Some x) → first_fault_of (value_checks u) ≡ Some r → first_fault_of (entry_checks (t ++ u)) ≡ Some r
+pub value_fault : (t u x : List ℕ) (r : Refusal) → SpellsText t (Some x) → first_fault_of (value_checks u) ≡ Some r
+    → first_fault_of (entry_checks (t ++ u)) ≡ Some r
 value_fault t u x r p e =
     let after = cell_then t u (Some x) p.0 in
     checks_passed (key_checks (t ++ u)) (value_checks (after_cell (t ++ u))) (key_passes (t ++ u) x u after p.1)
@@ -82,16 +92,19 @@ unfolding and_more
 and_more-is [] n = omega arith
 and_more-is (e ∷ es) n = omega (arith, and_more-is es n)
 
-passed : (s rest : List ℕ) (es : List Entry) (n : ℕ) → SpellsEntries s es rest → first_fault_of (entries_checks (and_more es n) s) ≡ first_fault_of (entries_checks n rest)
+passed : (s rest : List ℕ) (es : List Entry) (n : ℕ) → SpellsEntries s es rest
+    → first_fault_of (entries_checks (and_more es n) s) ≡ first_fault_of (entries_checks n rest)
 unfolding and_more
 passed s rest [] n p = ap (λ x. first_fault_of (entries_checks n x)) p
 passed s rest (e ∷ es) n p =
     let first = entry_then p.0 p.1 e p.3 in
-    rw p.2 (checks_passed (entry_checks (p.0 ++ p.1)) (entries_checks (and_more es n) (after_cell (after_cell (p.0 ++ p.1)))) first.passes
+    rw p.2 (checks_passed (entry_checks (p.0 ++ p.1))
+        (entries_checks (and_more es n) (after_cell (after_cell (p.0 ++ p.1)))) first.passes
     ∙ ap (λ x. first_fault_of (entries_checks (and_more es n) x)) first.rest ∙ passed p.1 rest es n p.4)
 
 -- what is checked after sound entries is what is checked of the rest
-entries_pass : (s rest : List ℕ) (es : List Entry) (n m : ℕ) → SpellsEntries s es rest → length es + n ≡ m → first_fault_of (entries_checks m s) ≡ first_fault_of (entries_checks n rest)
+entries_pass : (s rest : List ℕ) (es : List Entry) (n m : ℕ) → SpellsEntries s es rest → length es + n ≡ m
+    → first_fault_of (entries_checks m s) ≡ first_fault_of (entries_checks n rest)
 entries_pass s rest es n m p e =
     ap (λ k. first_fault_of (entries_checks k s)) (sym e ∙ sym (and_more-is es n)) ∙ passed s rest es n p
 
@@ -105,10 +118,12 @@ unfolding entries_in
 entries_are s rest [] p = refl
 entries_are s rest (e ∷ es) p =
     let first = entry_then p.0 p.1 e p.3 in
-    rw p.2 (ap₂ (λ (x : Entry) (xs : List Entry). x ∷ xs) first.entry (ap (entries_in (length es)) first.rest ∙ entries_are p.1 rest es p.4))
+    rw p.2 (ap₂ (λ (x : Entry) (xs : List Entry). x ∷ xs) first.entry
+        (ap (entries_in (length es)) first.rest ∙ entries_are p.1 rest es p.4))
 
 -- bytes spell one list of entries
-entries_single : (b s u : List ℕ) (es fs : List Entry) → SpellsCount b (record { left = length es; bytes = s }) → SpellsEntries s es []
+entries_single : (b s u : List ℕ) (es fs : List Entry) → SpellsCount b (record { left = length es; bytes = s })
+    → SpellsEntries s es []
     → SpellsCount b (record { left = length fs; bytes = u }) → SpellsEntries u fs [] → es ≡ fs
 entries_single b s u es fs c p d q =
     let one = number_then b c.0 s (pos (length es)) c.1 c.2 in
@@ -117,21 +132,26 @@ entries_single b s u es fs c p d q =
     sym (entries_are s [] es p) ∙ ap₂ entries_in same (sym one.rest ∙ two.rest) ∙ entries_are u [] fs q
 
 -- after a sound count, the first fault is that of the entries
-counted : (b : List ℕ) (r : ToRead) → SpellsCount b r → first_fault_hstore b ≡ first_fault_of (entries_checks r.left r.bytes)
+counted : (b : List ℕ) (r : ToRead) → SpellsCount b r → first_fault_hstore b
+    ≡ first_fault_of (entries_checks r.left r.bytes)
 counted b r c =
     let one = number_then b c.0 r.bytes (pos r.left) c.1 c.2 in
     rw (one.has, one.number, one.rest) refl
 
-form_passes : (b s : List ℕ) (es : List Entry) → SpellsCount b (record { left = length es; bytes = s }) → SpellsEntries s es [] → first_fault_hstore b ≡ None
-form_passes b s es c p = counted b (record { left = length es; bytes = s }) c ∙ entries_pass s [] es 0 (length es) p (omega arith)
+form_passes : (b s : List ℕ) (es : List Entry) → SpellsCount b (record { left = length es; bytes = s })
+    → SpellsEntries s es [] → first_fault_hstore b ≡ None
+form_passes b s es c p = counted b (record { left = length es; bytes = s }) c
+    ∙ entries_pass s [] es 0 (length es) p (omega arith)
 
-pub hstore_grammar : {A : Type 0} (value_at : A → List ℕ → Option Cell) → IsGrammar (λ m n. (q : List ℕ) → value_at m q ≡ value_at n q) (FormHstore value_at) first_fault_hstore
+pub hstore_grammar : {A : Type 0} (value_at : A → List ℕ → Option Cell)
+    → IsGrammar (λ m n. (q : List ℕ) → value_at m q ≡ value_at n q) (FormHstore value_at) first_fault_hstore
 hstore_grammar value_at = record {
   passes = λ b m h. form_passes b h.1 h.0 h.2 h.3;
   single = λ b m n h k. λ q. h.4 q ∙ ap (last_value q) (entries_single b h.1 k.1 h.0 k.0 h.2 h.3 k.2 k.3) ∙ sym (k.4 q);
 }
 
-next_fault : (n : ℕ) (s : List ℕ) (r : Refusal) → first_fault_of (checks_of_next entry_checks n s) ≡ Some r → first_fault_of (entries_checks n s) ≡ Some r
+next_fault : (n : ℕ) (s : List ℕ) (r : Refusal) → first_fault_of (checks_of_next entry_checks n s) ≡ Some r
+    → first_fault_of (entries_checks n s) ≡ Some r
 next_fault zero s r e = e
 next_fault (suc n) s r e = check_failed (entry_checks s) (entries_checks n (after_cell (after_cell s))) r e
 
@@ -141,17 +161,21 @@ pub record HaveBeenRead (start : ToRead) (es : List Entry) (now : ToRead) : Type
   pub spelled : SpellsEntries start.bytes es now.bytes
 
 -- the next fault is then the first
-pub entry_fault : (b : List ℕ) (start now : ToRead) (es : List Entry) (r : Refusal) → SpellsCount b start → HaveBeenRead start es now
+pub entry_fault : (b : List ℕ) (start now : ToRead) (es : List Entry) (r : Refusal) → SpellsCount b start
+    → HaveBeenRead start es now
     → first_fault_of (next_checks entry_checks now) ≡ Some r → first_fault_hstore b ≡ Some r
 entry_fault b start now es r c h e =
-    counted b start c ∙ entries_pass start.bytes now.bytes es now.left start.left h.spelled h.so_many ∙ next_fault now.left now.bytes r e
+    counted b start c ∙ entries_pass start.bytes now.bytes es now.left start.left h.spelled h.so_many
+        ∙ next_fault now.left now.bytes r e
 
-one_more : (s t u : List ℕ) (es : List Entry) (e : Entry) (rest : List ℕ) → SpellsEntries s es rest → rest ≡ t ++ u → SpellsEntry t e → SpellsEntries s (es ++ e ∷ []) u
+one_more : (s t u : List ℕ) (es : List Entry) (e : Entry) (rest : List ℕ) → SpellsEntries s es rest → rest ≡ t ++ u
+    → SpellsEntry t e → SpellsEntries s (es ++ e ∷ []) u
 one_more s t u [] e rest p is h = (t, u, p ∙ is, h, refl)
 one_more s t u (x ∷ xs) e rest p is h = (p.0, p.1, p.2, p.3, one_more p.1 t u xs e rest p.4 is h)
 
 -- the next entry is one more
-pub read_next : (start now next : ToRead) (es : List Entry) (e : Entry) (t : List ℕ) → HaveBeenRead start es now → next.left + 1 ≡ now.left → now.bytes ≡ t ++ next.bytes → SpellsEntry t e
+pub read_next : (start now next : ToRead) (es : List Entry) (e : Entry) (t : List ℕ) → HaveBeenRead start es now
+    → next.left + 1 ≡ now.left → now.bytes ≡ t ++ next.bytes → SpellsEntry t e
     → HaveBeenRead start (es ++ e ∷ []) next
 read_next start now next es e t h n is p = record {
   so_many = omega (arith, h.so_many, length-append es (e ∷ []));
@@ -159,7 +183,8 @@ read_next start now next es e t h n is p = record {
 }
 
 -- to have the same at each key is an equivalence
-pub value_equivalence : {A : Type 0} (value_at : A → List ℕ → Option Cell) → IsEquivalence (λ m n. (q : List ℕ) → value_at m q ≡ value_at n q)
+pub value_equivalence : {A : Type 0} (value_at : A → List ℕ → Option Cell)
+    → IsEquivalence (λ m n. (q : List ℕ) → value_at m q ≡ value_at n q)
 value_equivalence value_at = record {
   reflexive = λ m q. refl;
   symmetric = λ m n h q. sym (h q);

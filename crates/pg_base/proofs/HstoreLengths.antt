@@ -1,5 +1,7 @@
 -- The bytes of entries, one after another.
-use Rattle.std.proofs.Common.{◌≡◌, ◌≤◌, ◌<◌, ◌+◌, ◌++◌, ℕ, List, [], ◌∷◌, length, map, take, take_all, drop, get_or, Option, Some, None, Bool, true, false, cond, nat_le, pos, refl, sym, ap, ◌∙◌, subst, arith, append_assoc}
+use Rattle.std.proofs.Common.{◌≡◌, ◌≤◌, ◌<◌, ◌+◌, ◌++◌, ℕ, List, [], ◌∷◌, length, map, take, take_all, drop, get_or}
+use Rattle.std.proofs.Common.{Option, Some, None, Bool, true, false, cond, nat_le, pos, refl, sym, ap, ◌∙◌, subst}
+use Rattle.std.proofs.Common.{arith, append_assoc}
 use Rattle.std.specs.Borrow.{Bor}
 use Rattle.std.proofs.lemmas.List.{take_more, map-append, take-append-drop}
 use Rattle.std.specs.Int.{w32}
@@ -19,7 +21,8 @@ entries-append (x ∷ xs) ys =
     ap (concat first) (entries-append xs ys) ∙ sym (concat-assoc first (entries_bytes xs) (entries_bytes ys))
 
 -- one more entry
-entries-push : (xs : List Entry) (e : Entry) (bs f g : List ℕ) → entries_bytes xs ≡ Some bs → frame (Some e.0) ≡ Some f → frame e.1 ≡ Some g
+entries-push : (xs : List Entry) (e : Entry) (bs f g : List ℕ) → entries_bytes xs ≡ Some bs → frame (Some e.0) ≡ Some f
+    → frame e.1 ≡ Some g
     → entries_bytes (xs ++ e ∷ []) ≡ Some (bs ++ (f ++ g))
 entries-push xs e bs f g xs_are key value =
     entries-append xs (e ∷ []) ∙ ap (concat (entries_bytes xs)) (concat-nil (concat (frame (Some e.0)) (frame e.1)))
@@ -27,12 +30,16 @@ entries-push xs e bs f g xs_are key value =
 
 -- the entry at a place, what comes before it, and what comes after it
 entry_at : (es : List BorrowedEntry) (i : ℕ) (d : BorrowedEntry) → i < length es
-    → map borrowed_entry es ≡ map borrowed_entry (take i es) ++ borrowed_entry (get_or es i d) ∷ map borrowed_entry (drop (i + 1) es)
+    → map borrowed_entry es ≡ map borrowed_entry (take i es) ++ borrowed_entry (get_or es i d)
+        ∷ map borrowed_entry (drop (i + 1) es)
 entry_at es i d h =
-    let whole : es ≡ (take i es ++ get_or es i d ∷ []) ++ drop (i + 1) es = sym (take-append-drop (i + 1) es) ∙ ap (λ l. l ++ drop (i + 1) es) (take_more es i d h) in
-    ap (map borrowed_entry) (whole ∙ append_assoc (take i es) (get_or es i d ∷ []) (drop (i + 1) es)) ∙ map-append borrowed_entry (take i es) (get_or es i d ∷ drop (i + 1) es)
+    let whole : es ≡ (take i es ++ get_or es i d ∷ []) ++ drop (i + 1) es = sym (take-append-drop (i + 1) es)
+        ∙ ap (λ l. l ++ drop (i + 1) es) (take_more es i d h) in
+    ap (map borrowed_entry) (whole ∙ append_assoc (take i es) (get_or es i d ∷ []) (drop (i + 1) es))
+        ∙ map-append borrowed_entry (take i es) (get_or es i d ∷ drop (i + 1) es)
 
-pub entries_next : (es : List BorrowedEntry) (i : ℕ) (d : BorrowedEntry) (bs f g : List ℕ) → i < length es → entries_bytes (map borrowed_entry (take i es)) ≡ Some bs
+pub entries_next : (es : List BorrowedEntry) (i : ℕ) (d : BorrowedEntry) (bs f g : List ℕ) → i < length es
+    → entries_bytes (map borrowed_entry (take i es)) ≡ Some bs
     → frame (Some (get_or es i d).0.now) ≡ Some f → frame (cell_of (get_or es i d).1) ≡ Some g
     → entries_bytes (map borrowed_entry (take (i + 1) es)) ≡ Some (bs ++ (f ++ g))
 entries_next es i d bs f g h so_far key value =
@@ -49,13 +56,15 @@ pub record HasEntry (e : Entry) (bs total : List ℕ) : Type 0 where
   pub value_is : frame e.1 ≡ Some value
   pub fits : length bs + (length key + length value) ≤ length total
 
-pub has_entry : (es : List BorrowedEntry) (i : ℕ) (d : BorrowedEntry) (bs total : List ℕ) → i < length es → entries_bytes (map borrowed_entry (take i es)) ≡ Some bs
+pub has_entry : (es : List BorrowedEntry) (i : ℕ) (d : BorrowedEntry) (bs total : List ℕ) → i < length es
+    → entries_bytes (map borrowed_entry (take i es)) ≡ Some bs
     → entries_bytes (map borrowed_entry es) ≡ Some total → HasEntry (borrowed_entry (get_or es i d)) bs total
 has_entry es i d bs total h so_far all =
     let e : Entry = borrowed_entry (get_or es i d) in
     let before : List Entry = map borrowed_entry (take i es) in
     let behind : List Entry = map borrowed_entry (drop (i + 1) es) in
-    let split = parts_of (entries_bytes before) (entries_bytes (e ∷ behind)) total (sym (entries-append before (e ∷ behind)) ∙ ap entries_bytes (sym (entry_at es i d h)) ∙ all) in
+    let split = parts_of (entries_bytes before) (entries_bytes (e ∷ behind)) total
+        (sym (entries-append before (e ∷ behind)) ∙ ap entries_bytes (sym (entry_at es i d h)) ∙ all) in
     let here = parts_of (concat (frame (Some e.0)) (frame e.1)) (entries_bytes behind) split.1 split.3 in
     let texts = parts_of (frame (Some e.0)) (frame e.1) here.0 here.2 in
     let same : Some bs ≡ Some split.0 = sym so_far ∙ split.2 in
@@ -66,7 +75,8 @@ has_entry es i d bs total h so_far all =
       value = texts.1;
       key_is = texts.2;
       value_is = texts.3;
-      fits = omega (arith, bs_len, sum_len total split.0 split.1 split.4, sum_len split.1 here.0 here.1 here.4, sum_len here.0 texts.0 texts.1 texts.4);
+      fits = omega (arith, bs_len, sum_len total split.0 split.1 split.4, sum_len split.1 here.0 here.1 here.4, sum_len
+          here.0 texts.0 texts.1 texts.4);
     }
 
 count_of : (t : Bool) (b x : List ℕ) → cond t (Some b) None ≡ Some x → x ≡ b
@@ -74,7 +84,8 @@ count_of true b x e = cc
 count_of false b x e = let no : ⊥ = cc in absurd no
 
 -- all bytes are the count's four and the entries'
-whole_parts : (es : List Entry) (b : List ℕ) → hstore_bytes es ≡ Some b → (t : List ℕ) × (entries_bytes es ≡ Some t) × (length b ≡ 4 + length t)
+whole_parts : (es : List Entry) (b : List ℕ) → hstore_bytes es ≡ Some b → (t : List ℕ) × (entries_bytes es ≡ Some t)
+    × (length b ≡ 4 + length t)
 whole_parts es b e =
     let n : ℕ = length es in
     let parts = parts_of (count_bytes n) (entries_bytes es) b e in
@@ -90,22 +101,27 @@ pub record HasRoom (e : Entry) (room : ℕ) : Type 0 where
   pub value_is : frame e.1 ≡ Some value
   pub fits : length key + length value ≤ room
 
-pub has_room : (es : List BorrowedEntry) (i : ℕ) (d : BorrowedEntry) (bs b : List ℕ) (start now : ℕ) → i < length es → entries_bytes (map borrowed_entry (take i es)) ≡ Some bs
-    → hstore_bytes (map borrowed_entry es) ≡ Some b → start ≤ now + length bs → length b ≤ start + 4 → HasRoom (borrowed_entry (get_or es i d)) now
+pub has_room : (es : List BorrowedEntry) (i : ℕ) (d : BorrowedEntry) (bs b : List ℕ) (start now : ℕ) → i < length es
+    → entries_bytes (map borrowed_entry (take i es)) ≡ Some bs
+    → hstore_bytes (map borrowed_entry es) ≡ Some b → start ≤ now + length bs → length b ≤ start + 4
+        → HasRoom (borrowed_entry (get_or es i d)) now
 has_room es i d bs b start now h so_far all taken enough =
     let whole = whole_parts (map borrowed_entry es) b all in
     let has = has_entry es i d bs whole.0 h so_far whole.1 in
-    record { key = has.key; value = has.value; key_is = has.key_is; value_is = has.value_is; fits = omega (arith, has.fits, whole.2) }
+    record { key = has.key; value = has.value; key_is = has.key_is; value_is = has.value_is; fits =
+        omega (arith, has.fits, whole.2) }
 
 -- where an entry has no bytes, there are none of all
-pub key_none : (es : List BorrowedEntry) (i : ℕ) (d : BorrowedEntry) (bs : List ℕ) → i < length es → entries_bytes (map borrowed_entry (take i es)) ≡ Some bs
+pub key_none : (es : List BorrowedEntry) (i : ℕ) (d : BorrowedEntry) (bs : List ℕ) → i < length es
+    → entries_bytes (map borrowed_entry (take i es)) ≡ Some bs
     → frame (Some (get_or es i d).0.now) ≡ None → hstore_bytes (map borrowed_entry es) ≡ None
 key_none es i d bs h so_far none = none_of (hstore_bytes (map borrowed_entry es)) (λ t e.
     let parts = parts_of (count_bytes (length (map borrowed_entry es))) (entries_bytes (map borrowed_entry es)) t e in
     let has = has_entry es i d bs parts.1 h so_far parts.3 in
     let no : None ≡ Some has.key = sym none ∙ has.key_is in cc)
 
-pub value_none : (es : List BorrowedEntry) (i : ℕ) (d : BorrowedEntry) (bs : List ℕ) → i < length es → entries_bytes (map borrowed_entry (take i es)) ≡ Some bs
+pub value_none : (es : List BorrowedEntry) (i : ℕ) (d : BorrowedEntry) (bs : List ℕ) → i < length es
+    → entries_bytes (map borrowed_entry (take i es)) ≡ Some bs
     → frame (cell_of (get_or es i d).1) ≡ None → hstore_bytes (map borrowed_entry es) ≡ None
 value_none es i d bs h so_far none = none_of (hstore_bytes (map borrowed_entry es)) (λ t e.
     let parts = parts_of (count_bytes (length (map borrowed_entry es))) (entries_bytes (map borrowed_entry es)) t e in
@@ -113,8 +129,10 @@ value_none es i d bs h so_far none = none_of (hstore_bytes (map borrowed_entry e
     let no : None ≡ Some has.value = sym none ∙ has.value_is in cc)
 
 -- the bytes of a short list of entries that have bytes
-pub short_list : (es : List BorrowedEntry) (i : ℕ) (bs : List ℕ) → length es ≤ 2147483647 → length es ≤ i → entries_bytes (map borrowed_entry (take i es)) ≡ Some bs
+pub short_list : (es : List BorrowedEntry) (i : ℕ) (bs : List ℕ) → length es ≤ 2147483647 → length es ≤ i
+    → entries_bytes (map borrowed_entry (take i es)) ≡ Some bs
     → hstore_bytes (map borrowed_entry es) ≡ Some (be w32 (pos (length es)) ++ bs)
 short_list es i bs h whole are =
-    let all : entries_bytes (map borrowed_entry es) ≡ Some bs = ap (λ (l : List BorrowedEntry). entries_bytes (map borrowed_entry l)) (sym (take_all i es whole)) ∙ are in
+    let all : entries_bytes (map borrowed_entry es) ≡ Some bs =
+        ap (λ (l : List BorrowedEntry). entries_bytes (map borrowed_entry l)) (sym (take_all i es whole)) ∙ are in
     rw (short_count borrowed_entry es h, all) refl

@@ -20,15 +20,20 @@ text_back true text = refl
 not_empty : (text : List ℕ) → nat_lt 0 (length (versioned_cell true text)) ≡ true
 not_empty text = grind (arith, nat_tests)
 
-json_passes : {A : Type 0} (view_of : A → Data) (versioned : Bool) (b : List ℕ) (v : A) → FormJson view_of versioned b v → first_fault_json versioned b ≡ None
+json_passes : {A : Type 0} (view_of : A → Data) (versioned : Bool) (b : List ℕ) (v : A)
+    → FormJson view_of versioned b v → first_fault_json versioned b ≡ None
 json_passes view_of false b v h = rw (h.1, is_utf8-from_IsUtf8 h.0 h.2, h.3, h.4) refl
 json_passes view_of true b v h = rw (h.1, not_empty h.0, is_utf8-from_IsUtf8 h.0 h.2, h.3, h.4) refl
 
-json_single : {A : Type 0} (view_of : A → Data) (versioned : Bool) (b : List ℕ) (v w : A) → FormJson view_of versioned b v → FormJson view_of versioned b w → view_of v ≡ view_of w
+json_single : {A : Type 0} (view_of : A → Data) (versioned : Bool) (b : List ℕ) (v w : A)
+    → FormJson view_of versioned b v → FormJson view_of versioned b w → view_of v ≡ view_of w
 json_single view_of versioned b v w h k =
-    let same : h.0 ≡ k.0 = sym (text_back versioned h.0) ∙ ap (text_in versioned) (sym h.1 ∙ k.1) ∙ text_back versioned k.0 in
+    let same : h.0 ≡ k.0 = sym (text_back versioned h.0) ∙ ap (text_in versioned) (sym h.1 ∙ k.1)
+        ∙ text_back versioned k.0 in
     let bytes : Some (view_of v) ≡ Some (view_of w) = cc (h.3, k.3, same) in
     cc
 
-pub json_grammar : {A : Type 0} (view_of : A → Data) (versioned : Bool) → IsGrammar (λ v w. view_of v ≡ view_of w) (FormJson view_of versioned) (first_fault_json versioned)
-json_grammar view_of versioned = record { passes = json_passes view_of versioned; single = json_single view_of versioned }
+pub json_grammar : {A : Type 0} (view_of : A → Data) (versioned : Bool)
+    → IsGrammar (λ v w. view_of v ≡ view_of w) (FormJson view_of versioned) (first_fault_json versioned)
+json_grammar view_of versioned = record
+    { passes = json_passes view_of versioned; single = json_single view_of versioned }

@@ -18,5 +18,6 @@ pub no_document : (b : List ℕ) → (IsUtf8 b → read b ≡ None) → first_fa
 no_document b h = rw (unread b (is_utf8 b) refl h) refl
 
 -- a document with another number is refused with JsonNumber
-pub other_number : (b : List ℕ) (d : Data) → IsUtf8 b → read b ≡ Some d → has_float d ≡ true → first_fault_json false b ≡ Some json_number
+pub other_number : (b : List ℕ) (d : Data) → IsUtf8 b → read b ≡ Some d → has_float d ≡ true → first_fault_json false b
+    ≡ Some json_number
 other_number b d u h n = rw (is_utf8-from_IsUtf8 b u, h, n) refl

@@ -1,5 +1,7 @@
 -- Lemmas on the texts of log positions.
-use Rattle.std.proofs.Common.{◌≡◌, ℕ, ◌*◌, ◌/◌, ◌%◌, ◌^◌, ◌<◌, ◌==◌, List, [], ◌∷◌, ◌++◌, length, Bool, true, false, Option, Some, None, Result, Ok, Err, option_map, option_and_then, refl, ◌∙◌, ap, arith}
+use Rattle.std.proofs.Common.{◌≡◌, ℕ, ◌*◌, ◌/◌, ◌%◌, ◌^◌, ◌<◌, ◌==◌, List, [], ◌∷◌, ◌++◌, length, Bool, true, false}
+use Rattle.std.proofs.Common.{Option, Some, None, Result, Ok, Err, option_map, option_and_then, refl, ◌∙◌, ap}
+use Rattle.std.proofs.Common.{arith}
 use Rattle.std.specs.Char.{digit_value, is_digit}
 use Rattle.std.specs.Fmt.{digits}
 use Rattle.std.specs.List.{list_all, position_or_len, before_first, after_first}
@@ -26,7 +28,8 @@ all_from_digits [] h = refl
 all_from_digits (c ∷ cs) h = and_from _ _ (lt-ltb (digit_value c) 16 h.0) (all_from_digits cs h.1)
 
 hex_from_numeral : (s : List ℕ) → IsNumeral 16 s → digits_value 16 s < 2 ^ 64 → is_hex_number s ≡ true
-hex_from_numeral s h small = and_from _ _ (and_from _ _ (lt-ltb 0 (length s) h.0) (all_from_digits s h.1)) (lt-ltb (digits_value 16 s) (2 ^ 64) small)
+hex_from_numeral s h small = and_from _ _ (and_from _ _ (lt-ltb 0 (length s) h.0) (all_from_digits s h.1))
+    (lt-ltb (digits_value 16 s) (2 ^ 64) small)
 
 numeral_from_hex : (s : List ℕ) → is_hex_number s ≡ true → IsNumeral 16 s × (digits_value 16 s < 2 ^ 64)
 numeral_from_hex s h =
@@ -34,7 +37,8 @@ numeral_from_hex s h =
     let first = and_parts _ _ both.0 in
     ((ltb-true 0 (length s) first.0, digits_from_all s first.1), ltb-true (digits_value 16 s) (2 ^ 64) both.1)
 
-refused_half : (s : List ℕ) (t : Bool) → is_hex_number s ≡ t → (IsNumeral 16 s × (digits_value 16 s < 2 ^ 64) → ⊥) → is_hex_number s ≡ false
+refused_half : (s : List ℕ) (t : Bool) → is_hex_number s ≡ t → (IsNumeral 16 s × (digits_value 16 s < 2 ^ 64) → ⊥)
+    → is_hex_number s ≡ false
 refused_half s true e h = absurd (h (numeral_from_hex s e))
 refused_half s false e h = e
 
@@ -94,4 +98,5 @@ pub text_parses : (n : ℕ) → n < 2 ^ 64 → lsn_of (lsn_text n) ≡ Some n
 text_parses n small =
     let hi = half_of_digits (n / 2 ^ 32) (omega arith) in
     let lo = half_of_digits (n % 2 ^ 32) (omega arith) in
-    rw (before_slash _ (digits 16 true (n % 2 ^ 32)) hi.0.1, after_slash _ (digits 16 true (n % 2 ^ 32)) hi.0.1, hi.1, lo.1) (ap Some (concat_halves n small))
+    rw (before_slash _ (digits 16 true (n % 2 ^ 32)) hi.0.1, after_slash _
+        (digits 16 true (n % 2 ^ 32)) hi.0.1, hi.1, lo.1) (ap Some (concat_halves n small))

@@ -1,12 +1,15 @@
 -- Laws of addresses: their formats are grammars.
-use Rattle.std.specs.Prelude.{◌≡◌, ℕ, ◌*◌, ◌/◌, ◌%◌, ◌≤◌, ◌==◌, List, [], ◌∷◌, ◌++◌, length, drop, slice_index, None, true, refl}
+use Rattle.std.specs.Prelude.{◌≡◌, ℕ, ◌*◌, ◌/◌, ◌%◌, ◌≤◌, ◌==◌, List, [], ◌∷◌, ◌++◌, length, drop, slice_index}
+use Rattle.std.specs.Prelude.{None, true, refl}
 use Rattle.std.proofs.Common.{sym, ◌∙◌, ap, arith, eq-eqb, le-leb}
 use Rattle.std.specs.Net.Addr.{ipv4_octets, ipv6_segments, octets_of}
 use Rattle.std.specs.declared.net.ip_addr.IpAddr.{IpAddr}
 use Rattle.std.specs.declared.net.ip_addr.IpAddr.TheVariants.{V4, V6}
 use Rattle.pg_types.specs.Faults.{host_bits}
 use Rattle.pg_base.specs.Formats.{Checks, IsGrammar, first_fault_of}
-use Rattle.pg_base.specs.Network.{FormAddress, FormCidr, FormInet, Network, address_len, address_octets, family_of, first_fault_cidr, first_fault_inet, host_part, inet_checks, network_bytes, with_netmask}
+use Rattle.pg_base.specs.Network.{FormAddress, FormCidr, FormInet, Network, address_len, address_octets, family_of}
+use Rattle.pg_base.specs.Network.{first_fault_cidr, first_fault_inet, host_part, inet_checks, network_bytes}
+use Rattle.pg_base.specs.Network.{with_netmask}
 
 -- segments of the same octets are the same
 same_segments : (s t : List ℕ) → octets_of s ≡ octets_of t → s ≡ t
@@ -26,10 +29,12 @@ same_address : (a b : IpAddr) → family_of a ≡ family_of b → address_octets
 same_address (V4 a) (V4 b) f h = ap (λ o. V4 (record { octets = o })) h
 same_address (V4 a) (V6 b) f h = absurd (omega arith)
 same_address (V6 a) (V4 b) f h = absurd (omega arith)
-same_address (V6 a) (V6 b) f h = ap (λ s. V6 (record { segments = s })) (same_segments (ipv6_segments a) (ipv6_segments b) h)
+same_address (V6 a) (V6 b) f h = ap (λ s. V6 (record { segments = s }))
+    (same_segments (ipv6_segments a) (ipv6_segments b) h)
 
 -- the bytes of an address with its netmask meet the checks of INET, and other checks are left
-checks_hold : (more : Checks) (flag : ℕ) (a : IpAddr) (masklen : ℕ) → length (address_octets a) ≡ address_len a → masklen ≤ 8 * address_len a
+checks_hold : (more : Checks) (flag : ℕ) (a : IpAddr) (masklen : ℕ) → length (address_octets a) ≡ address_len a
+    → masklen ≤ 8 * address_len a
     → first_fault_of (inet_checks (network_bytes flag (with_netmask a masklen)) ++ more) ≡ first_fault_of more
 checks_hold more flag (V4 a) masklen len fits =
     let four : 4 ≤ length (network_bytes flag (with_netmask (V4 a) masklen)) = omega arith in

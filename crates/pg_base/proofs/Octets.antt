@@ -10,7 +10,8 @@ low : (a b : ℕ) → b < 256 → (a * 256 + b) % 256 ≡ b
 low a b h = omega arith
 
 -- each segment gives its two octets back
-pairs-back : (os : List ℕ) (k : ℕ) → length os ≡ k + k → ((i : ℕ) → get_or os i 0 < 256) → octets_of (segments_of os) ≡ os
+pairs-back : (os : List ℕ) (k : ℕ) → length os ≡ k + k → ((i : ℕ) → get_or os i 0 < 256) → octets_of (segments_of os)
+    ≡ os
 pairs-back [] k h small = refl
 pairs-back (a ∷ []) k h small = absurd (omega arith)
 pairs-back (a ∷ b ∷ os) k h small =

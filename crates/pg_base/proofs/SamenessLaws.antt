@@ -9,10 +9,12 @@ equal_equivalence = record { reflexive = λ a. refl; symmetric = λ a b h. sym h
 
 -- to have the same content is one
 pub content_equivalence : {A B : Type 0} (content_of : A → B) → IsEquivalence (λ a b. content_of a ≡ content_of b)
-content_equivalence content_of = record { reflexive = λ a. refl; symmetric = λ a b h. sym h; transitive = λ a b c h k. h ∙ k }
+content_equivalence content_of = record
+    { reflexive = λ a. refl; symmetric = λ a b h. sym h; transitive = λ a b c h k. h ∙ k }
 
 -- to have the same inside is one, where sameness inside is one
-pub inside_equivalence : {A B : Type 0} (inside : B → A) (same : A → A → Type 0) → IsEquivalence same → IsEquivalence (λ v w. same (inside v) (inside w))
+pub inside_equivalence : {A B : Type 0} (inside : B → A) (same : A → A → Type 0) → IsEquivalence same
+    → IsEquivalence (λ v w. same (inside v) (inside w))
 inside_equivalence inside same law = record {
   reflexive = λ v. law.reflexive (inside v);
   symmetric = λ v w h. law.symmetric (inside v) (inside w) h;
@@ -39,7 +41,8 @@ module _ {A : Type 0} (same : A → A → Type 0) (law : IsEquivalence same) whe
 
   -- sameness of options is an equivalence where that of the values inside is
   pub option_equivalence : IsEquivalence (SameOption same)
-  option_equivalence = record { reflexive = option_reflexive; symmetric = option_symmetric; transitive = option_transitive }
+  option_equivalence = record { reflexive = option_reflexive; symmetric = option_symmetric; transitive =
+      option_transitive }
 
 module _ {A : Type 0} (same : A → A → Type 0) (law : IsEquivalence same) where
   list_reflexive : (vs : List A) → SameList same vs vs

@@ -36,7 +36,8 @@ module _ {A : Type 0} (same : A → A → Type 0) (law : IsEquivalence same) whe
   special_transitive (value v) (value u) (value x) h k = law.transitive v u x h k
 
   -- sameness of what stands for values with infinities is an equivalence where that of the values is
-  pub special_equivalence : {B : Type 0} (view : B → Special A) → IsEquivalence (λ a b. SameSpecial same (view a) (view b))
+  pub special_equivalence : {B : Type 0} (view : B → Special A)
+      → IsEquivalence (λ a b. SameSpecial same (view a) (view b))
   special_equivalence view = record {
     reflexive = λ a. special_reflexive (view a);
     symmetric = λ a b. special_symmetric (view a) (view b);

@@ -11,13 +11,17 @@ pub finite_date : (b : List ℕ) (n : ℤ) → IsBe w32 b n → n ≢ pos 214748
 finite_date b n is not_greatest not_least = record {
   width = ap length is.1 ∙ length-bytes_high_first 4 (cast_unsigned w32 n);
   not_infinity = λ e. not_greatest (int4_grammar.single b n (pos 2147483647) is (record { sfits = omega arith }, e));
-  not_minus_infinity = λ e. not_least (int4_grammar.single b n (negsuc 2147483647) is (record { sfits = omega arith }, e));
+  not_minus_infinity = λ e. not_least
+      (int4_grammar.single b n (negsuc 2147483647) is (record { sfits = omega arith }, e));
 }
 
 -- and those of a number of 8 bytes
-pub finite_timestamp : (b : List ℕ) (n : ℤ) → IsBe w64 b n → n ≢ pos 9223372036854775807 → n ≢ negsuc 9223372036854775807 → IsFiniteCell w64 b
+pub finite_timestamp : (b : List ℕ) (n : ℤ) → IsBe w64 b n → n ≢ pos 9223372036854775807
+    → n ≢ negsuc 9223372036854775807 → IsFiniteCell w64 b
 finite_timestamp b n is not_greatest not_least = record {
   width = ap length is.1 ∙ length-bytes_high_first 8 (cast_unsigned w64 n);
-  not_infinity = λ e. not_greatest (int8_grammar.single b n (pos 9223372036854775807) is (record { sfits = omega arith }, e));
-  not_minus_infinity = λ e. not_least (int8_grammar.single b n (negsuc 9223372036854775807) is (record { sfits = omega arith }, e));
+  not_infinity = λ e. not_greatest (int8_grammar.single b n (pos 9223372036854775807) is
+      (record { sfits = omega arith }, e));
+  not_minus_infinity = λ e. not_least
+      (int8_grammar.single b n (negsuc 9223372036854775807) is (record { sfits = omega arith }, e));
 }

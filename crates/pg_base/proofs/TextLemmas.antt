@@ -16,5 +16,7 @@ pub text_refused : (b : List ℕ) → (IsUtf8 b → ⊥) → first_fault_text fa
 text_refused b h = ap (λ t. cond t None (Some utf8)) (not_utf8 b (is_utf8 b) refl h)
 
 -- a text is written as its cell
-pub wire_utf8 : (versioned : Bool) (s : List ℕ) → IsUtf8 s → wire_text versioned s ≡ Ok (Some (versioned_cell versioned s))
-wire_utf8 versioned s h = ap (λ t. cond t (Ok (Some (versioned_cell versioned s))) (Err transmit)) (is_utf8-from_IsUtf8 s h)
+pub wire_utf8 : (versioned : Bool) (s : List ℕ) → IsUtf8 s → wire_text versioned s
+    ≡ Ok (Some (versioned_cell versioned s))
+wire_utf8 versioned s h = ap (λ t. cond t (Ok (Some (versioned_cell versioned s))) (Err transmit))
+    (is_utf8-from_IsUtf8 s h)

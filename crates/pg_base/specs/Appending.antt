@@ -25,7 +25,8 @@ Extends (Some b) old new = (new.items ≡ old.items ++ b) × (old.spare ≤ new.
 -- Transmit and left the buffer as it was
 abbrev pub Appends : Option (List ℕ) → Filled → Filled → Result ⊤ Fault → Type 0
 Appends bytes old new (Ok done) = Extends bytes old new
-Appends (Some b) old new (Err f) = (new.items ≡ old.items) × (f ≡ Memory) × (old.spare < length b) × (old.spare ≤ new.spare)
+Appends (Some b) old new (Err f) = (new.items ≡ old.items) × (f ≡ Memory) × (old.spare < length b)
+    × (old.spare ≤ new.spare)
 Appends None old new (Err f) = (new ≡ old) × (f ≡ Transmit)
 
 -- there are bytes to append, and room for them

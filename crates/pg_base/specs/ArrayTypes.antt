@@ -1,6 +1,7 @@
 -- The types of arrays: those that lists are read from and written to.
 use Rattle.std.specs.Prelude.{Option, Some, None, Bool, false}
-use Rattle.pg_types.specs.Content.{Content, KindContent, SimpleKind, EnumKind, PseudoKind, ArrayKind, RangeKind, MultirangeKind, DomainKind, CompositeKind, kind_of}
+use Rattle.pg_types.specs.Content.{Content, KindContent, SimpleKind, EnumKind, PseudoKind, ArrayKind, RangeKind}
+use Rattle.pg_types.specs.Content.{MultirangeKind, DomainKind, CompositeKind, kind_of}
 
 -- the type of the elements, of a kind
 abbrev pub element_of_kind : KindContent → Option Content

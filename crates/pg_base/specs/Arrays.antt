@@ -1,10 +1,13 @@
--- Arrays (array_send, array_recv): a head, and then the elements' frames. The head is a count of dimensions, flags and the
+-- Arrays (array_send, array_recv): a head, and then the elements' frames. The head is a count of dimensions, flags
+-- and the
 -- elements' OID in four bytes each, and for each dimension its length and its lower bound.
-use Rattle.std.specs.Prelude.{◌≡◌, ℕ, zero, suc, List, [], ◌∷◌, ◌++◌, length, drop, Option, false, nat_le, Result, ℤ, pos, option_map, Bool, ◌||◌, is_none, if◌then◌else◌, Vec}
+use Rattle.std.specs.Prelude.{◌≡◌, ℕ, zero, suc, List, [], ◌∷◌, ◌++◌, length, drop, Option, false, nat_le, Result}
+use Rattle.std.specs.Prelude.{ℤ, pos, option_map, Bool, ◌||◌, is_none, if◌then◌else◌, Vec}
 use Rattle.std.specs.Borrow.{Bor}
 use Rattle.pg_types.specs.declared.fault.Fault.{Fault}
 use Rattle.pg_base.specs.Cells.{Cell, cell_of, Spells, CellsInRow, be, frames, concat}
-use Rattle.pg_base.specs.Counts.{IsCount, TakesNext, ToRead, cell_checks, count_checks, not_negative, number_in, count_or_zero, count_bytes}
+use Rattle.pg_base.specs.Counts.{IsCount, TakesNext, ToRead, cell_checks, count_checks, not_negative, number_in}
+use Rattle.pg_base.specs.Counts.{count_or_zero, count_bytes}
 use Rattle.pg_types.specs.Faults.{size, count, dimensions}
 use Rattle.pg_base.specs.Formats.{Checks}
 use Rattle.std.specs.Global.{Global}
@@ -31,7 +34,8 @@ dimension_checks (suc (suc d)) s = (false, dimensions) ∷ []
 -- the checks of a head, in the order of its bytes
 abbrev pub head_checks : List ℕ → Checks
 head_checks b =
-    count_checks b ++ (nat_le 8 (length (drop 4 b)), size) ∷ dimension_checks (count_or_zero (number_in b)) (drop 8 (drop 4 b))
+    count_checks b ++ (nat_le 8 (length (drop 4 b)), size)
+        ∷ dimension_checks (count_or_zero (number_in b)) (drop 8 (drop 4 b))
 
 -- b is the bytes of an array: a head that states n elements, then the cells cs, and then rest
 abbrev pub ArrayBody : List ℕ → ℕ → List Cell → List ℕ → Type 0
@@ -54,11 +58,13 @@ has_null (c ∷ cs) = is_none c || has_null cs
 abbrev pub flags_of : List Cell → ℤ
 flags_of cs = if has_null cs then pos 1 else pos 0
 
--- the head that is written, of one dimension whatever the number of cells: the flags, the OID of the elements' type, the number of
+-- the head that is written, of one dimension whatever the number of cells: the flags, the OID of the elements' type,
+-- the number of
 -- cells, and the number of the first of them
 abbrev pub array_head : ℤ → ℕ → List Cell → Option (List ℕ)
 array_head lower_bound oid cs =
-    option_map (λ n. be w32 (pos 1) ++ be w32 (flags_of cs) ++ to_be_bytes w32 oid ++ n ++ be w32 lower_bound) (count_bytes (length cs))
+    option_map (λ n. be w32 (pos 1) ++ be w32 (flags_of cs) ++ to_be_bytes w32 oid ++ n ++ be w32 lower_bound)
+        (count_bytes (length cs))
 
 -- the cell of an array: the head, and the frames of its elements' cells
 abbrev pub array_bytes : ℤ → ℕ → List Cell → Option (List ℕ)

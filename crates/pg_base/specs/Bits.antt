@@ -1,5 +1,7 @@
 -- Bits: BIT (bit_send, bit_recv) and VARBIT (varbit_send, varbit_recv).
-use Rattle.std.specs.Prelude.{◌≡◌, ℕ, ◌+◌, ◌-◌, ◌*◌, ◌/◌, ◌%◌, ◌^◌, ◌<◌, ◌≤◌, ◌==◌, pos, List, [], ◌∷◌, ◌++◌, length, map, drop, slice_index, slice_index_or, Option, Some, None, Bool, false, ◌||◌, nat_lt, nat_le, if◌then◌else◌, Result, Ok, Err, ⊤}
+use Rattle.std.specs.Prelude.{◌≡◌, ℕ, ◌+◌, ◌-◌, ◌*◌, ◌/◌, ◌%◌, ◌^◌, ◌<◌, ◌≤◌, ◌==◌, pos, List, [], ◌∷◌, ◌++◌}
+use Rattle.std.specs.Prelude.{length, map, drop, slice_index, slice_index_or, Option, Some, None, Bool, false, ◌||◌}
+use Rattle.std.specs.Prelude.{nat_lt, nat_le, if◌then◌else◌, Result, Ok, Err, ⊤}
 use Rattle.std.specs.Int.{w32, bit_at, div_ceil}
 use Rattle.std.specs.List.{range_with_len}
 use Rattle.pg_base.specs.Appending.{Wire, wire_of}
@@ -62,11 +64,13 @@ abbrev pub TakesBytes : List ℕ → Result (List Bool) Fault → Type 0
 TakesBytes b (Ok v) = (8 * length b ≤ most_bits) × (v ≡ first_bits (8 * length b) b)
 TakesBytes b (Err f) = refusal_of f ≡ (if nat_le (8 * length b) most_bits then None else Some transmit)
 
--- the bit was put at the end; or nothing was changed, with Transmit where there are the most bits already, and otherwise
+-- the bit was put at the end; or nothing was changed, with Transmit where there are the most bits already, and
+-- otherwise
 -- only for memory
 abbrev pub Pushes : List Bool → Bool → List Bool → Result ⊤ Fault → Type 0
 Pushes old bit new (Ok done) = (length old < most_bits) × (new ≡ old ++ bit ∷ [])
-Pushes old bit new (Err f) = (new ≡ old) × (refusal_of f ≡ (if nat_lt (length old) most_bits then None else Some transmit))
+Pushes old bit new (Err f) = (new ≡ old)
+    × (refusal_of f ≡ (if nat_lt (length old) most_bits then None else Some transmit))
 
 -- the last bit was taken; where there is none, nothing
 abbrev pub Pops : List Bool → Option Bool → List Bool → Type 0
@@ -82,13 +86,15 @@ FormBits bits_of b v =
 
 -- the checks of the count come first; then any other number of bytes than the bits take is Size
 abbrev pub first_fault_bits : List ℕ → Option Refusal
-first_fault_bits b = first_fault_of (count_checks b ++ (length (drop 4 b) == bytes_for (count_or_zero (number_in b)), size) ∷ [])
+first_fault_bits b = first_fault_of
+    (count_checks b ++ (length (drop 4 b) == bytes_for (count_or_zero (number_in b)), size) ∷ [])
 
 -- what a cell reads as
 abbrev pub ReadsBits : {A : Type 0} → (A → List Bool) → Cell → Outcome A → Type 0
 ReadsBits bits_of = ReadsPlain (FormBits bits_of) first_fault_bits
 
--- the bytes of a cell of bits: their number in four bytes, and the bits packed. More bits than the number can say have none
+-- the bytes of a cell of bits: their number in four bytes, and the bits packed. More bits than the number can say
+-- have none
 abbrev pub bits_cell : List Bool → Option (List ℕ)
 bits_cell v = if nat_le (length v) 2147483647 then Some (be w32 (pos (length v)) ++ packed v) else None
 

@@ -1,8 +1,11 @@
 -- Cells, their frames, and cells in a row.
--- PostgreSQL frames values so in DataRow and Bind (documentation, "Message Formats"), and in array_send, record_send and
--- hstore_send: a length of four bytes, -1 for NULL, and that many bytes. That every negative length is NULL in reading is
+-- PostgreSQL frames values so in DataRow and Bind (documentation, "Message Formats"), and in array_send, record_send
+-- and
+-- hstore_send: a length of four bytes, -1 for NULL, and that many bytes. That every negative length is NULL in
+-- reading is
 -- the upstream crate's rule; the server itself writes -1 alone.
-use Rattle.std.specs.Prelude.{Bool, true, false, ◌≡◌, ℕ, ◌<◌, ◌≤◌, ◌^◌, ℤ, pos, negsuc, List, [], ◌∷◌, ◌++◌, length, Option, Some, None, ◌⊎◌, FitsSigned, if◌then◌else◌, nat_le, option_map}
+use Rattle.std.specs.Prelude.{Bool, true, false, ◌≡◌, ℕ, ◌<◌, ◌≤◌, ◌^◌, ℤ, pos, negsuc, List, [], ◌∷◌, ◌++◌, length}
+use Rattle.std.specs.Prelude.{Option, Some, None, ◌⊎◌, FitsSigned, if◌then◌else◌, nat_le, option_map}
 use mir.Val.{bits}
 use Rattle.std.specs.Borrow.{Bor}
 use Rattle.std.specs.Int.{Width, w32, to_be_bytes, from_be_bytes, cast_signed, cast_unsigned}
@@ -79,4 +82,5 @@ FramesSingle = (cs ds : List Cell) (b : List ℕ) → frames cs ≡ Some b → f
 -- and, whatever comes after them, of no other cells that are as many
 abbrev pub FramePrefixesSingle : Type 0
 FramePrefixesSingle =
-    (cs ds : List Cell) (a b s t : List ℕ) → length cs ≡ length ds → frames cs ≡ Some a → frames ds ≡ Some b → a ++ s ≡ b ++ t → (cs ≡ ds) × (s ≡ t)
+    (cs ds : List Cell) (a b s t : List ℕ) → length cs ≡ length ds → frames cs ≡ Some a → frames ds ≡ Some b → a ++ s
+        ≡ b ++ t → (cs ≡ ds) × (s ≡ t)

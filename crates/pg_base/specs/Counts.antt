@@ -1,5 +1,7 @@
 -- Count and length prefixes, of 4 bytes (pq_getmsgint).
-use Rattle.std.specs.Prelude.{◌≡◌, ◌==◌, ◌+◌, zero, suc, Result, Ok, Err, IfSome, IsSome, ℕ, ℤ, pos, negsuc, List, [], ◌∷◌, ◌++◌, length, take, drop, Bool, true, false, nat_le, Option, Some, None, if◌then◌else◌}
+use Rattle.std.specs.Prelude.{◌≡◌, ◌==◌, ◌+◌, zero, suc, Result, Ok, Err, IfSome, IsSome, ℕ, ℤ, pos, negsuc, List}
+use Rattle.std.specs.Prelude.{[], ◌∷◌, ◌++◌, length, take, drop, Bool, true, false, nat_le, Option, Some, None}
+use Rattle.std.specs.Prelude.{if◌then◌else◌}
 use Rattle.std.specs.Borrow.{Bor}
 use Rattle.std.specs.Int.{w32}
 use Rattle.pg_base.specs.Cells.{be, IsBe, signed_in}
@@ -57,11 +59,13 @@ next_checks item r = checks_of_next item r.left r.bytes
 
 -- a step of reading: the next item was taken from the front; or its first check that fails was answered, or that of
 -- the end, and then nothing is to be read; or nothing was to be read
-abbrev pub TakesNext : {A : Type 0} → (List ℕ → A → Type 0) → (List ℕ → Checks) → ToRead → Option (Result A Fault) → ToRead → Type 0
+abbrev pub TakesNext : {A : Type 0} → (List ℕ → A → Type 0) → (List ℕ → Checks) → ToRead → Option (Result A Fault)
+    → ToRead → Type 0
 TakesNext spells item old (Some (Ok v)) new =
     (new.left + 1 ≡ old.left) × (t : List ℕ) × (old.bytes ≡ t ++ new.bytes) × spells t v
 TakesNext spells item old (Some (Err f)) new =
-    IfSome (refusal_of f) (λ r. first_fault_of (next_checks item old) ≡ Some r) × IsSome (refusal_of f) × (new ≡ nothing)
+    IfSome (refusal_of f) (λ r. first_fault_of (next_checks item old) ≡ Some r) × IsSome (refusal_of f)
+        × (new ≡ nothing)
 TakesNext spells item old None new = (old ≡ nothing) × (new ≡ nothing)
 
 -- whether the bytes after a length prefix are all there

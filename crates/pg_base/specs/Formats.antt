@@ -32,6 +32,7 @@ abbrev pub ReadsPlain : {A : Type 0} → (List ℕ → A → Type 0) → (List �
 ReadsPlain form first_fault = NotNull (Decodes form first_fault)
 
 -- a format is a grammar: bytes that spell a value pass every check, and spell no other value
-pub record IsGrammar {A : Type 0} (same : A → A → Type 0) (form : List ℕ → A → Type 0) (first_fault : List ℕ → Option Refusal) : Type 0 where
+pub record IsGrammar {A : Type 0} (same : A → A → Type 0) (form : List ℕ → A → Type 0)
+    (first_fault : List ℕ → Option Refusal) : Type 0 where
   pub passes : (b : List ℕ) (v : A) → form b v → first_fault b ≡ None
   pub single : (b : List ℕ) (v w : A) → form b v → form b w → same v w

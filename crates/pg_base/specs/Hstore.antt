@@ -1,5 +1,6 @@
 -- Hstore (hstore_send, hstore_recv): a count, and for each entry its key and its value, which may be NULL.
-use Rattle.std.specs.Prelude.{◌≡◌, ℕ, ◌==◌, zero, suc, List, [], ◌∷◌, ◌++◌, length, drop, Option, Some, None, option_map, if◌then◌else◌, Result, IsUtf8, String, string_bytes}
+use Rattle.std.specs.Prelude.{◌≡◌, ℕ, ◌==◌, zero, suc, List, [], ◌∷◌, ◌++◌, length, drop, Option, Some, None}
+use Rattle.std.specs.Prelude.{option_map, if◌then◌else◌, Result, IsUtf8, String, string_bytes}
 use Rattle.std.specs.Borrow.{Bor}
 use Rattle.std.specs.Cmp.Lexicographic.{slice_cmp}
 use Rattle.std.specs.Global.{Global}
@@ -11,7 +12,8 @@ use Rattle.std.specs.Str.{bytes_eq, is_utf8}
 use Rattle.pg_types.specs.declared.fault.Fault.{Fault}
 use Rattle.pg_base.specs.Appending.{Wire, wire_of}
 use Rattle.pg_base.specs.Cells.{Cell, cell_of, frame, Spells, concat}
-use Rattle.pg_base.specs.Counts.{IsCount, TakesNext, ToRead, after_cell, bytes_in, count_checks, has_cell, has_number, not_negative, number_in, count_or_zero, count_bytes}
+use Rattle.pg_base.specs.Counts.{IsCount, TakesNext, ToRead, after_cell, bytes_in, count_checks, has_cell}
+use Rattle.pg_base.specs.Counts.{has_number, not_negative, number_in, count_or_zero, count_bytes}
 use Rattle.pg_types.specs.Faults.{Refusal, Outcome, size, utf8, key_length}
 use Rattle.pg_base.specs.Formats.{Checks, first_fault_of, ReadsPlain}
 use Rattle.pg_base.specs.Options.{NoneOr}
@@ -51,12 +53,14 @@ last_value q (e ∷ es) = or_this q e (last_value q es)
 -- value; the first argument tells what a map has at a key
 abbrev pub FormHstore : {A : Type 0} → (A → List ℕ → Option Cell) → List ℕ → A → Type 0
 FormHstore value_at b m =
-    (es : List Entry) × (s : List ℕ) × SpellsCount b (record { left = length es; bytes = s }) × SpellsEntries s es [] × ((q : List ℕ) → value_at m q ≡ last_value q es)
+    (es : List Entry) × (s : List ℕ) × SpellsCount b (record { left = length es; bytes = s }) × SpellsEntries s es []
+        × ((q : List ℕ) → value_at m q ≡ last_value q es)
 
 -- the checks of a key: bytes that are truncated are Size, a negative length KeyLength, and what is no UTF-8 Utf8
 abbrev pub key_checks : List ℕ → Checks
 key_checks s =
-    (has_number s, size) ∷ (not_negative (number_in s), key_length) ∷ (has_cell s, size) ∷ (is_utf8 (bytes_in s), utf8) ∷ []
+    (has_number s, size) ∷ (not_negative (number_in s), key_length) ∷ (has_cell s, size) ∷ (is_utf8 (bytes_in s), utf8)
+        ∷ []
 
 -- the checks of a value: the same, but a negative length is NULL, which has no text
 abbrev pub value_checks : List ℕ → Checks
@@ -92,7 +96,8 @@ abbrev pub value_at : {S : Type 0} → HashMap (String Global) (Option (String G
 value_at m q = option_map (λ v. option_map string_bytes v) (get_by_text m q)
 
 -- two maps have the same at each key
-abbrev pub SameMap : {S : Type 0} → HashMap (String Global) (Option (String Global)) S → HashMap (String Global) (Option (String Global)) S → Type 0
+abbrev pub SameMap : {S : Type 0} → HashMap (String Global) (Option (String Global)) S
+    → HashMap (String Global) (Option (String Global)) S → Type 0
 SameMap m n = (q : List ℕ) → value_at m q ≡ value_at n q
 
 -- what a cell reads as

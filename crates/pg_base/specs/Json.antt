@@ -1,6 +1,9 @@
--- Documents: JSON (json_send, json_recv), whose cell is the document's text, and JSONB (jsonb_send, jsonb_recv), whose cell
+-- Documents: JSON (json_send, json_recv), whose cell is the document's text, and JSONB (jsonb_send, jsonb_recv),
+-- whose cell
 -- is a version and then the text. What a text means is the reading of serde_json, and what is written its compact text.
-use Rattle.std.specs.Prelude.{◌≡◌, ℕ, ◌==◌, List, [], ◌∷◌, length, drop, slice_index, nat_lt, Bool, true, false, not, ◌||◌, if◌then◌else◌, Option, Some, None, is_some, option_map, unwrap_or, IsUtf8, Ok, Err}
+use Rattle.std.specs.Prelude.{◌≡◌, ℕ, ◌==◌, List, [], ◌∷◌, length, drop, slice_index, nat_lt, Bool, true, false}
+use Rattle.std.specs.Prelude.{not, ◌||◌, if◌then◌else◌, Option, Some, None, is_some, option_map, unwrap_or, IsUtf8}
+use Rattle.std.specs.Prelude.{Ok, Err}
 use Rattle.std.specs.Str.{is_utf8}
 use Rattle.serde_json.specs.Data.{Data}
 use Rattle.serde_json.specs.Read.{read}
@@ -18,7 +21,8 @@ accepted_json ty = is_row Json ty || is_row Jsonb ty
 
 -- the bytes are the cell of a text, after a version in JSONB, that reads as v, whose numbers are all kept as i64 or u64
 abbrev pub FormJson : {A : Type 0} → (A → Data) → Bool → List ℕ → A → Type 0
-FormJson view_of versioned b v = (text : List ℕ) × (b ≡ versioned_cell versioned text) × IsUtf8 text × (read text ≡ Some (view_of v)) × (has_float (view_of v) ≡ false)
+FormJson view_of versioned b v = (text : List ℕ) × (b ≡ versioned_cell versioned text) × IsUtf8 text
+    × (read text ≡ Some (view_of v)) × (has_float (view_of v) ≡ false)
 
 -- the document that bytes are, if they are one
 abbrev pub document_of : List ℕ → Option Data
@@ -27,13 +31,16 @@ document_of text = if is_utf8 text then read text else None
 -- what is checked of a text: it is a document, and holds no other number
 abbrev pub document_checks : List ℕ → Checks
 document_checks text =
-    (is_some (document_of text), json_text) ∷ (not (unwrap_or (option_map has_float (document_of text)) false), json_number) ∷ []
+    (is_some (document_of text), json_text)
+        ∷ (not (unwrap_or (option_map has_float (document_of text)) false), json_number) ∷ []
 
--- no document is JsonText, and another number JsonNumber; before that, in JSONB, no bytes are Size, and another first byte
+-- no document is JsonText, and another number JsonNumber; before that, in JSONB, no bytes are Size, and another first
+-- byte
 -- than the version is JsonVersion
 abbrev pub first_fault_json : Bool → List ℕ → Option Refusal
 first_fault_json false b = first_fault_of (document_checks b)
-first_fault_json true b = first_fault_of ((nat_lt 0 (length b), size) ∷ (slice_index b 0 == 1, json_version) ∷ document_checks (drop 1 b))
+first_fault_json true b = first_fault_of
+    ((nat_lt 0 (length b), size) ∷ (slice_index b 0 == 1, json_version) ∷ document_checks (drop 1 b))
 
 -- what a cell reads as
 abbrev pub ReadsJson : {A : Type 0} → (A → Data) → Bool → Cell → Outcome A → Type 0

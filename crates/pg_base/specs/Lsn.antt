@@ -1,5 +1,6 @@
 -- The text of a log position (pg_lsn_out); parsing takes wider texts than pg_lsn_in.
-use Rattle.std.specs.Prelude.{ℕ, ◌*◌, ◌/◌, ◌%◌, ◌^◌, ◌==◌, List, ◌∷◌, ◌++◌, length, Bool, true, ◌&&◌, nat_lt, Option, Some, None, option_map, option_and_then, if◌then◌else◌, bit_or}
+use Rattle.std.specs.Prelude.{ℕ, ◌*◌, ◌/◌, ◌%◌, ◌^◌, ◌==◌, List, ◌∷◌, ◌++◌, length, Bool, true, ◌&&◌, nat_lt}
+use Rattle.std.specs.Prelude.{Option, Some, None, option_map, option_and_then, if◌then◌else◌, bit_or}
 use Rattle.std.specs.Char.{is_digit}
 use Rattle.std.specs.Fmt.{digits}
 use Rattle.std.specs.List.{before_first, after_first, list_all}

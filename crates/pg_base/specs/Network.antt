@@ -1,5 +1,6 @@
 -- Addresses: INET (inet_send, inet_recv) and CIDR (cidr_send, cidr_recv).
-use Rattle.std.specs.Prelude.{◌≡◌, ℕ, ◌-◌, ◌*◌, ◌%◌, ◌^◌, ◌≤◌, ◌==◌, ◌&&◌, ◌||◌, nat_le, List, [], ◌∷◌, ◌++◌, length, drop, slice_index, Bool, Option, Some, None, if◌then◌else◌, Ok, Err}
+use Rattle.std.specs.Prelude.{◌≡◌, ℕ, ◌-◌, ◌*◌, ◌%◌, ◌^◌, ◌≤◌, ◌==◌, ◌&&◌, ◌||◌, nat_le, List, [], ◌∷◌, ◌++◌}
+use Rattle.std.specs.Prelude.{length, drop, slice_index, Bool, Option, Some, None, if◌then◌else◌, Ok, Err}
 use Rattle.std.specs.Int.Digits.{number_from_digits}
 use Rattle.std.specs.Net.Addr.{ipv4_octets, ipv6_octets}
 use Rattle.std.specs.declared.net.ip_addr.IpAddr.{IpAddr}
@@ -52,13 +53,15 @@ host_part octets masklen = number_from_digits 256 octets % 2 ^ (8 * length octet
 abbrev pub NoHostBits : Network → Type 0
 NoHostBits n = host_part (address_octets n.address) n.masklen ≡ 0
 
--- the bytes of an address with its netmask: the family, the netmask's length, a flag, the number of octets, and the octets
+-- the bytes of an address with its netmask: the family, the netmask's length, a flag, the number of octets, and the
+-- octets
 abbrev pub network_bytes : ℕ → Network → List ℕ
 network_bytes flag n = family_of n.address ∷ n.masklen ∷ flag ∷ address_len n.address ∷ address_octets n.address
 
 -- INET: the bytes of an address of its family's length, with a netmask that fits and any flag
 abbrev pub FormInet : List ℕ → Network → Type 0
-FormInet b n = (flag : ℕ) × (b ≡ network_bytes flag n) × (length (address_octets n.address) ≡ address_len n.address) × NetmaskFits n
+FormInet b n = (flag : ℕ) × (b ≡ network_bytes flag n) × (length (address_octets n.address) ≡ address_len n.address)
+    × NetmaskFits n
 
 -- CIDR: the same, without host bits
 abbrev pub FormCidr : List ℕ → Network → Type 0
@@ -68,7 +71,8 @@ FormCidr b n = FormInet b n × NoHostBits n
 abbrev pub FormAddress : List ℕ → IpAddr → Type 0
 FormAddress b a = (masklen : ℕ) × FormInet b (with_netmask a masklen)
 
--- the checks of INET: fewer than four bytes are Size, then another family than 2 and 3 is Family, a netmask that is too long
+-- the checks of INET: fewer than four bytes are Size, then another family than 2 and 3 is Family, a netmask that is
+-- too long
 -- Netmask, another number of octets than the family's AddressLength, and octets of another length than that Size
 abbrev pub inet_checks : List ℕ → Checks
 inet_checks b =
@@ -106,7 +110,8 @@ first_fault_netmask n = first_fault_of ((nat_le n.masklen (address_bits n.addres
 -- the fault of what is no network: its netmask is too long, or else it has host bits
 abbrev pub first_fault_network : Network → Option Refusal
 first_fault_network n =
-    first_fault_of ((nat_le n.masklen (address_bits n.address), netmask) ∷ (host_part (address_octets n.address) n.masklen == 0, host_bits) ∷ [])
+    first_fault_of ((nat_le n.masklen (address_bits n.address), netmask)
+        ∷ (host_part (address_octets n.address) n.masklen == 0, host_bits) ∷ [])
 
 -- the parts n where there is no fault, and else the fault
 abbrev pub NetworkOrFault : Network → Option Refusal → Outcome Network → Type 0
@@ -123,7 +128,8 @@ wire_inet n = if is_network n then Ok (Some (network_bytes 0 n)) else Err transm
 
 -- the cell of a network: its bytes with the flag 0, or Transmit where a length is wrong or there are host bits
 abbrev pub wire_cidr : Network → Wire
-wire_cidr n = if is_network n && host_part (address_octets n.address) n.masklen == 0 then Ok (Some (network_bytes 0 n)) else Err transmit
+wire_cidr n = if is_network n && host_part (address_octets n.address) n.masklen == 0 then Ok
+    (Some (network_bytes 0 n)) else Err transmit
 
 -- the cell of an address alone: that with a netmask of all its bits
 abbrev pub wire_address : IpAddr → Wire

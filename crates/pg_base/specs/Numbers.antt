@@ -1,6 +1,7 @@
 -- Integers: CHAR (charsend), INT2, INT4, INT8 (int2send, int4send, int8send), OID (oidsend), PG_LSN (pg_lsn_send) and
 -- BOOL (boolsend).
-use Rattle.std.specs.Prelude.{◌≡◌, ℕ, ◌-◌, ◌^◌, ◌==◌, ℤ, pos, negsuc, List, [], ◌∷◌, length, Option, Some, Bool, true, false, not, nat_lt, if◌then◌else◌, Ok, Err}
+use Rattle.std.specs.Prelude.{◌≡◌, ℕ, ◌-◌, ◌^◌, ◌==◌, ℤ, pos, negsuc, List, [], ◌∷◌, length, Option, Some, Bool}
+use Rattle.std.specs.Prelude.{true, false, not, nat_lt, if◌then◌else◌, Ok, Err}
 use Rattle.std.specs.Int.{Width, byte_len, to_be_bytes}
 use mir.Val.{bits}
 use Rattle.pg_base.specs.Cells.{Cell, be, IsBe, IsBeUnsigned}

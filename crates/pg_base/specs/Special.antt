@@ -4,9 +4,12 @@ use Rattle.std.specs.Prelude.{◌≡◌, ◌≢◌, ◌⊎◌, ◌-◌, ◌^◌,
 use Rattle.std.specs.Int.{Width, byte_len}
 use mir.Val.{bits}
 use Rattle.pg_base.specs.declared.special.Date.{Date}
-use Rattle.pg_base.specs.declared.special.Date.TheVariants.{PosInfinity as AfterDates, NegInfinity as BeforeDates, Value as OneDate}
+use Rattle.pg_base.specs.declared.special.Date.TheVariants.{PosInfinity as AfterDates, NegInfinity as BeforeDates}
+use Rattle.pg_base.specs.declared.special.Date.TheVariants.{Value as OneDate}
 use Rattle.pg_base.specs.declared.special.Timestamp.{Timestamp}
-use Rattle.pg_base.specs.declared.special.Timestamp.TheVariants.{PosInfinity as AfterTimestamps, NegInfinity as BeforeTimestamps, Value as OneTimestamp}
+use Rattle.pg_base.specs.declared.special.Timestamp.TheVariants.{PosInfinity as AfterTimestamps}
+use Rattle.pg_base.specs.declared.special.Timestamp.TheVariants.{NegInfinity as BeforeTimestamps}
+use Rattle.pg_base.specs.declared.special.Timestamp.TheVariants.{Value as OneTimestamp}
 use Rattle.pg_types.specs.declared.types.built_in.BuiltIn.TheVariants.{Date as DateRow}
 use Rattle.pg_base.specs.Appending.{Wire}
 use Rattle.pg_base.specs.Cells.{Cell, be}
@@ -66,12 +69,14 @@ abbrev pub RefusedSpecial : Width → (Refusal → Type 0) → List ℕ → Refu
 RefusedSpecial w refused b r = ((length b ≢ byte_len w) × (r ≡ size)) ⊎ (IsFiniteCell w b × refused r)
 
 -- what bytes give: an infinity is itself, before the value's reading is asked; all else is a value or its fault
-abbrev pub DecodesSpecial : {A B : Type 0} → Width → (B → Special A) → (Outcome A → Type 0) → List ℕ → Outcome B → Type 0
+abbrev pub DecodesSpecial : {A B : Type 0} → Width → (B → Special A) → (Outcome A → Type 0) → List ℕ → Outcome B
+    → Type 0
 DecodesSpecial w view reads b (Ok s) = FormSpecial w (λ v. reads (Ok v)) b (view s)
 DecodesSpecial w view reads b (Err r) = RefusedSpecial w (λ f. reads (Err f)) b r
 
 -- what a cell gives: NULL is WasNull, whatever the value's reading says of it
-abbrev pub ReadsSpecial : {A B : Type 0} → Width → (B → Special A) → (Cell → Outcome A → Type 0) → Cell → Outcome B → Type 0
+abbrev pub ReadsSpecial : {A B : Type 0} → Width → (B → Special A) → (Cell → Outcome A → Type 0) → Cell → Outcome B
+    → Type 0
 ReadsSpecial w view reads = NotNull (λ b. DecodesSpecial w view (reads (Some b)) b)
 
 -- NULL, an infinity and a cell of another width are read without memory, and a value where its own reading is

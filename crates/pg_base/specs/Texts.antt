@@ -1,6 +1,7 @@
 -- Texts in UTF-8: the text types (textsend), and ltree, lquery and ltxtquery (ltree_send and its like), whose cells
 -- begin with a version.
-use Rattle.std.specs.Prelude.{◌≡◌, ℕ, ◌==◌, ◌||◌, List, [], ◌∷◌, Bool, true, false, Option, Some, IsUtf8, drop, slice_index, if◌then◌else◌, codes, Ok, Err}
+use Rattle.std.specs.Prelude.{◌≡◌, ℕ, ◌==◌, ◌||◌, List, [], ◌∷◌, Bool, true, false, Option, Some, IsUtf8, drop}
+use Rattle.std.specs.Prelude.{slice_index, if◌then◌else◌, codes, Ok, Err}
 use Rattle.std.specs.Cmp.Lexicographic.{pointwise}
 use Rattle.std.specs.Str.{is_utf8}
 use Rattle.pg_types.specs.declared.types.built_in.BuiltIn.TheVariants.{Varchar, Text, Bpchar, Name, Unknown}
@@ -21,7 +22,9 @@ has_version ty = is_named (codes "ltree") ty || (is_named (codes "lquery") ty ||
 -- the texts accept VARCHAR, TEXT, BPCHAR, NAME, UNKNOWN, and any type that is named citext, ltree, lquery or ltxtquery
 abbrev pub accepted_text : Content → Bool
 accepted_text ty =
-    is_row Varchar ty || (is_row Text ty || (is_row Bpchar ty || (is_row Name ty || (is_row Unknown ty || (is_named (codes "citext") ty || has_version ty)))))
+    is_row Varchar ty || (is_row Text ty ||
+        (is_row Bpchar ty || (is_row Name ty ||
+        (is_row Unknown ty || (is_named (codes "citext") ty || has_version ty)))))
 
 -- the bytes are the cell of this text, which is UTF-8; the first argument tells a text's bytes
 abbrev pub FormText : {A : Type 0} → (A → List ℕ) → Bool → List ℕ → A → Type 0

@@ -1,5 +1,7 @@
 -- The frame of a parameter, after what the buffer held.
-use Rattle.std.proofs.Common.{◌≡◌, ◌<◌, ◌≤◌, ◌+◌, ◌++◌, ℕ, pos, List, length, take, drop, Some, None, Bool, true, false, cond, nat_le, Result, Ok, Err, IfSome, refl, ap, sym, ◌∙◌, subst, arith, append_assoc, length-append}
+use Rattle.std.proofs.Common.{◌≡◌, ◌<◌, ◌≤◌, ◌+◌, ◌++◌, ℕ, pos, List, length, take, drop, Some, None, Bool, true}
+use Rattle.std.proofs.Common.{false, cond, nat_le, Result, Ok, Err, IfSome, refl, ap, sym, ◌∙◌, subst, arith}
+use Rattle.std.proofs.Common.{append_assoc, length-append}
 use Rattle.std.specs.Bool.{⊤}
 use Rattle.std.specs.Int.{to_be_bytes, w32}
 use Rattle.std.proofs.Math.Seq.{take-append_seam}
@@ -25,13 +27,16 @@ cond_holds false b e = let no : ⊥ = cc in absurd no
 -- bytes that are too many have no frame
 pub long_frame : (b : List ℕ) → 2147483647 < length b → frame (Some b) ≡ None
 long_frame b h =
-    let t : nat_le (length b) 2147483647 ≡ false = grind (arith, nat_tests) in cond_fails (nat_le (length b) 2147483647) (be w32 (pos (length b)) ++ b) t
+    let t : nat_le (length b) 2147483647 ≡ false = grind (arith, nat_tests) in
+        cond_fails (nat_le (length b) 2147483647) (be w32 (pos (length b)) ++ b) t
 
 -- and fewer have their number and themselves as their frame
-pub frame_bytes : (b : List ℕ) (n : ℕ) → length b ≤ 2147483647 → n ≡ length b → frame (Some b) ≡ Some (to_be_bytes w32 n ++ b)
+pub frame_bytes : (b : List ℕ) (n : ℕ) → length b ≤ 2147483647 → n ≡ length b → frame (Some b)
+    ≡ Some (to_be_bytes w32 n ++ b)
 frame_bytes b n h e =
     let t : nat_le (length b) 2147483647 ≡ true = grind (arith, nat_tests) in
-    cond_holds (nat_le (length b) 2147483647) (be w32 (pos (length b)) ++ b) t ∙ ap (λ y. Some (to_be_bytes w32 y ++ b)) (sym e)
+    cond_holds (nat_le (length b) 2147483647) (be w32 (pos (length b)) ++ b) t
+        ∙ ap (λ y. Some (to_be_bytes w32 y ++ b)) (sym e)
 
 module _ (old head b written : List ℕ) (four : length head ≡ 4) (is : written ≡ (old ++ head) ++ b) where
   -- what the buffer held comes first
@@ -45,14 +50,21 @@ module _ (old head b written : List ℕ) (four : length head ≡ 4) (is : writte
       ap (drop (length old + 4)) is ∙ drop_at (old ++ head) b (length old + 4) n
 
 -- a cell that was written after four bytes, which became its length
-pub frame_after_cell : (w : Wire) (old head mid written new : List ℕ) (n : ℕ) (r : Result ⊤ Fault) → n ≡ length old → length head ≡ 4 → mid ≡ old ++ head → Writes w mid written (Ok No)
+pub frame_after_cell : (w : Wire) (old head mid written new : List ℕ) (n : ℕ) (r : Result ⊤ Fault) → n ≡ length old
+    → length head ≡ 4 → mid ≡ old ++ head → Writes w mid written (Ok No)
     → FramesFrom n written new r → AppendsFrame w old new r
 frame_after_cell w old head mid written new n (Ok done) at four m cell gives =
     let is : written ≡ (old ++ head) ++ cell.0 = cell.2 ∙ ap (λ s. s ++ cell.0) m in
-    let whole : frame (Some cell.0) ≡ Some gives.0 = ap (λ s. frame (Some s)) (sym (behind old head cell.0 written four is)) ∙ ap (λ k. frame (Some (drop (k + 4) written))) (sym at) ∙ gives.1 in
-    (Some cell.0, gives.0, cell.1, whole, gives.2 ∙ ap (λ k. take k written ++ gives.0) at ∙ ap (λ s. s ++ gives.0) (front old head cell.0 written four is))
+    let whole : frame (Some cell.0) ≡ Some gives.0 =
+        ap (λ s. frame (Some s)) (sym (behind old head cell.0 written four is))
+        ∙ ap (λ k. frame (Some (drop (k + 4) written))) (sym at) ∙ gives.1 in
+    (Some cell.0, gives.0, cell.1, whole, gives.2 ∙ ap (λ k. take k written ++ gives.0) at
+        ∙ ap (λ s. s ++ gives.0) (front old head cell.0 written four is))
 frame_after_cell w old head mid written new n (Err f) at four m cell gives =
     let is : written ≡ (old ++ head) ++ cell.0 = cell.2 ∙ ap (λ s. s ++ cell.0) m in
-    let none : frame (Some cell.0) ≡ None = ap (λ s. frame (Some s)) (sym (behind old head cell.0 written four is)) ∙ ap (λ k. frame (Some (drop (k + 4) written))) (sym at) ∙ gives.2 in
-    let refused : element_frame_cell w ≡ Err transmit = ap element_frame_cell cell.1 ∙ ap (with_frame (Some cell.0)) none in
-    (ap (take (length old)) gives.0 ∙ front old head cell.0 written four is, subst (λ x. IfSome (refusal_of x) (λ r. element_frame_cell w ≡ Err r)) (sym gives.1) refused)
+    let none : frame (Some cell.0) ≡ None = ap (λ s. frame (Some s)) (sym (behind old head cell.0 written four is))
+        ∙ ap (λ k. frame (Some (drop (k + 4) written))) (sym at) ∙ gives.2 in
+    let refused : element_frame_cell w ≡ Err transmit = ap element_frame_cell cell.1
+        ∙ ap (with_frame (Some cell.0)) none in
+    (ap (take (length old)) gives.0 ∙ front old head cell.0 written four is, subst
+        (λ x. IfSome (refusal_of x) (λ r. element_frame_cell w ≡ Err r)) (sym gives.1) refused)

@@ -1,5 +1,6 @@
 -- The frames of parameters, one after another.
-use Rattle.std.proofs.Common.{◌≡◌, ◌<◌, ◌≤◌, ◌+◌, ◌++◌, ℕ, List, [], ◌∷◌, length, take, drop, get_or, zip, Some, Ok, Err, IsOk, refl, ap, sym, ◌∙◌, subst, arith, append_assoc}
+use Rattle.std.proofs.Common.{◌≡◌, ◌<◌, ◌≤◌, ◌+◌, ◌++◌, ℕ, List, [], ◌∷◌, length, take, drop, get_or, zip, Some, Ok}
+use Rattle.std.proofs.Common.{Err, IsOk, refl, ap, sym, ◌∙◌, subst, arith, append_assoc}
 use Rattle.std.specs.Bool.{⊤}
 use Rattle.std.proofs.Math.Seq.{take-append_seam}
 use Rattle.std.proofs.lemmas.List.{take-append-drop, take_all}
@@ -16,8 +17,10 @@ use Rattle.pg_write.specs.ArrayWriting.{element_cells, element_frame_cell, with_
 use Rattle.pg_params.specs.ParamWriting.{AppendsFrame, Binds}
 
 -- one frame more
-next_frame : (cs : List Cell) (c : Cell) (bs b : List ℕ) → frames cs ≡ Some bs → frame c ≡ Some b → frames (cs ++ c ∷ []) ≡ Some (bs ++ b)
-next_frame cs c bs b so_far next = frames-append cs (c ∷ []) ∙ ap (concat (frames cs)) (concat-nil (frame c)) ∙ rw (so_far, next) refl
+next_frame : (cs : List Cell) (c : Cell) (bs b : List ℕ) → frames cs ≡ Some bs → frame c ≡ Some b
+    → frames (cs ++ c ∷ []) ≡ Some (bs ++ b)
+next_frame cs c bs b so_far next = frames-append cs (c ∷ []) ∙ ap (concat (frames cs)) (concat-nil (frame c))
+    ∙ rw (so_far, next) refl
 
 is_ok : {A : Type 0} (r : Outcome A) (a : A) → r ≡ Ok a → IsOk r
 is_ok (Ok x) a e = refl
@@ -40,7 +43,8 @@ module _ {A B : Type 0} (f : A × B → Wire) (xs : List A) (ys : List B) (same 
         sym (get_or-zip xs ys i here h k ∙ ap (λ z. (z, get_or ys i y)) (sym is) ∙ ap (λ z. (x, z)) (sym other))
 
     -- one more parameter was appended
-    pub next_param : {u : ⊤} (old mid new : List ℕ) → Binds f (take i (zip xs ys)) old mid (Ok u) → AppendsFrame (f here) mid new (Ok u) → Binds f (take (i + 1) (zip xs ys)) old new (Ok u)
+    pub next_param : {u : ⊤} (old mid new : List ℕ) → Binds f (take i (zip xs ys)) old mid (Ok u)
+        → AppendsFrame (f here) mid new (Ok u) → Binds f (take (i + 1) (zip xs ys)) old new (Ok u)
     next_param old mid new (cs, bs, cells, all, was) (c, b, cell, one, is) =
         let has : element_frame_cell (f here) ≡ Ok c = ap element_frame_cell cell ∙ ap (with_frame c) one in (
           cs ++ c ∷ [],
@@ -51,14 +55,20 @@ module _ {A B : Type 0} (f : A × B → Wire) (xs : List A) (ys : List B) (same 
         )
 
     -- the parameter here is refused, and what was appended is taken back
-    pub refused_param : {u : ⊤} (fault : Fault) (old mid low new : List ℕ) → Binds f (take i (zip xs ys)) old mid (Ok u) → AppendsFrame (f here) mid low (Err fault) → new ≡ take (length old) low
+    pub refused_param : {u : ⊤} (fault : Fault) (old mid low new : List ℕ)
+        → Binds f (take i (zip xs ys)) old mid (Ok u) → AppendsFrame (f here) mid low (Err fault) → new
+        ≡ take (length old) low
         → Binds f (zip xs ys) old new (Err (i, fault))
     refused_param fault old mid low new (cs, bs, cells, all, was) (front, why) cut =
         let rest = drop (length mid) low in
-        let is : low ≡ old ++ (bs ++ rest) = sym (take-append-drop (length mid) low) ∙ ap (λ s. s ++ rest) (front ∙ was) ∙ append_assoc old bs rest in
+        let is : low ≡ old ++ (bs ++ rest) = sym (take-append-drop (length mid) low)
+            ∙ ap (λ s. s ++ rest) (front ∙ was) ∙ append_assoc old bs rest in
         let back : new ≡ old = cut ∙ ap (take (length old)) is ∙ take-append_seam old (bs ++ rest) in
-        (back, is_ok (element_cells f (take i (zip xs ys))) cs cells, (here, slice_get_read (zip xs ys) (length (zip xs ys)) i here refl within stands, why))
+        (back, is_ok (element_cells f (take i (zip xs ys))) cs cells,
+            (here, slice_get_read (zip xs ys) (length (zip xs ys)) i here refl within stands, why))
 
   -- all were appended
-  pub all_params : {u : ⊤} (i : ℕ) (old new : List ℕ) → length xs ≤ i → Binds f (take i (zip xs ys)) old new (Ok u) → Binds f (zip xs ys) old new (Ok u)
-  all_params {u} i old new h done = subst (λ vs. Binds f vs old new (Ok u)) (take_all i (zip xs ys) (omega (arith, h, length_of))) done
+  pub all_params : {u : ⊤} (i : ℕ) (old new : List ℕ) → length xs ≤ i → Binds f (take i (zip xs ys)) old new (Ok u)
+      → Binds f (zip xs ys) old new (Ok u)
+  all_params {u} i old new h done = subst (λ vs. Binds f vs old new (Ok u))
+      (take_all i (zip xs ys) (omega (arith, h, length_of))) done

@@ -1,5 +1,6 @@
 -- Writing parameters of any types.
-use Rattle.std.specs.Prelude.{◌≡◌, ℕ, ◌+◌, ◌++◌, List, length, take, drop, Some, None, Result, Ok, Err, IfSome, IsOk, slice_get, ⊤}
+use Rattle.std.specs.Prelude.{◌≡◌, ℕ, ◌+◌, ◌++◌, List, length, take, drop, Some, None, Result, Ok, Err, IfSome}
+use Rattle.std.specs.Prelude.{IsOk, slice_get, ⊤}
 use Rattle.pg_base.specs.Appending.{Wire}
 use Rattle.pg_base.specs.Cells.{Cell, frame, frames}
 use Rattle.pg_types.specs.Faults.{refusal_of}
@@ -10,7 +11,8 @@ use Rattle.pg_write.specs.ArrayWriting.{element_cells, element_frame_cell}
 -- the frame of the cell was appended; or there is none, and what was written of it follows the old bytes
 abbrev pub AppendsFrame : Wire → List ℕ → List ℕ → Result ⊤ Fault → Type 0
 AppendsFrame w old new (Ok done) = (c : Cell) × (b : List ℕ) × (w ≡ Ok c) × (frame c ≡ Some b) × (new ≡ old ++ b)
-AppendsFrame w old new (Err f) = (take (length old) new ≡ old) × IfSome (refusal_of f) (λ r. element_frame_cell w ≡ Err r)
+AppendsFrame w old new (Err f) = (take (length old) new ≡ old)
+    × IfSome (refusal_of f) (λ r. element_frame_cell w ≡ Err r)
 
 -- what stands four bytes after the place n got its length at n; or it has no frame
 abbrev pub FramesFrom : ℕ → List ℕ → List ℕ → Result ⊤ Fault → Type 0
@@ -20,6 +22,8 @@ FramesFrom n old new (Err f) = (new ≡ old) × (f ≡ Transmit) × (frame (Some
 -- the frames of the parameters' cells were appended. Or, at the place p of one of them: those before it have cells with
 -- frames, its own is refused with this fault or has no frame, or memory ran out, and the bytes are as they were
 abbrev pub Binds : {A : Type 0} → (A → Wire) → List A → List ℕ → List ℕ → Result ⊤ (ℕ × Fault) → Type 0
-Binds wire vs old new (Ok done) = (cs : List Cell) × (b : List ℕ) × (element_cells wire vs ≡ Ok cs) × (frames cs ≡ Some b) × (new ≡ old ++ b)
+Binds wire vs old new (Ok done) = (cs : List Cell) × (b : List ℕ) × (element_cells wire vs ≡ Ok cs)
+    × (frames cs ≡ Some b) × (new ≡ old ++ b)
 Binds {A} wire vs old new (Err (p, f)) =
-    (new ≡ old) × IsOk (element_cells wire (take p vs)) × ((v : A) × (slice_get vs p ≡ Some v) × IfSome (refusal_of f) (λ r. element_frame_cell (wire v) ≡ Err r))
+    (new ≡ old) × IsOk (element_cells wire (take p vs))
+        × ((v : A) × (slice_get vs p ≡ Some v) × IfSome (refusal_of f) (λ r. element_frame_cell (wire v) ≡ Err r))

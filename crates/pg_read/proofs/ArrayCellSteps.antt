@@ -1,5 +1,7 @@
 -- Reading the elements of an array one after another.
-use Rattle.std.proofs.Common.{◌≡◌, ◌≢◌, ℕ, zero, suc, ◌+◌, ◌-◌, ◌<◌, ◌≤◌, ◌==◌, Bool, true, false, List, [], ◌∷◌, ◌++◌, length, Some, None, Ok, Err, refl, sym, ◌∙◌, ap, subst, arith, inl, inr, length-append}
+use Rattle.std.proofs.Common.{◌≡◌, ◌≢◌, ℕ, zero, suc, ◌+◌, ◌-◌, ◌<◌, ◌≤◌, ◌==◌, Bool, true, false, List, [], ◌∷◌}
+use Rattle.std.proofs.Common.{◌++◌, length, Some, None, Ok, Err, refl, sym, ◌∙◌, ap, subst, arith, inl, inr}
+use Rattle.std.proofs.Common.{length-append}
 use Rattle.std.specs.Prelude.{◌⊎◌, Option, IfSome, nat_le}
 use Rattle.std.proofs.lemmas.Bool.Decides.{nat_tests}
 use Rattle.std.proofs.lemmas.Option.{IfSome_then}
@@ -18,12 +20,14 @@ pub record HaveBeenTaken (start : ToRead) (cs : List Cell) (now : ToRead) : Type
   pub so_many : length cs + now.left ≡ start.left
   pub spelled : SpellsAll start.bytes cs now.bytes
 
-pub spelled_more : (s u rest : List ℕ) (cs ds : List Cell) → SpellsAll s cs u → SpellsAll u ds rest → SpellsAll s (cs ++ ds) rest
+pub spelled_more : (s u rest : List ℕ) (cs ds : List Cell) → SpellsAll s cs u → SpellsAll u ds rest
+    → SpellsAll s (cs ++ ds) rest
 spelled_more s u rest [] ds e r = subst (λ x. SpellsAll x ds rest) (sym e) r
 spelled_more s u rest (c ∷ cs) ds p r = (p.0, p.1, p.2, p.3, spelled_more p.1 u rest cs ds p.4 r)
 
 -- the next cell is one more
-pub taken_next : (start now next : ToRead) (cs : List Cell) (c : Cell) (t : List ℕ) → HaveBeenTaken start cs now → next.left + 1 ≡ now.left → now.bytes ≡ t ++ next.bytes → Spells t c
+pub taken_next : (start now next : ToRead) (cs : List Cell) (c : Cell) (t : List ℕ) → HaveBeenTaken start cs now
+    → next.left + 1 ≡ now.left → now.bytes ≡ t ++ next.bytes → Spells t c
     → HaveBeenTaken start (cs ++ c ∷ []) next
 taken_next start now next cs c t h n is p = record {
   so_many = omega (arith, h.so_many, length-append cs (c ∷ []));
@@ -31,17 +35,20 @@ taken_next start now next cs c t h n is p = record {
 }
 
 module _ {A : Type 0} (reads : Cell → Outcome A → Type 0) where
-  values_more : (cs ds : List Cell) (vs ws : List A) → ReadsAll reads cs (Ok vs) → ReadsAll reads ds (Ok ws) → ReadsAll reads (cs ++ ds) (Ok (vs ++ ws))
+  values_more : (cs ds : List Cell) (vs ws : List A) → ReadsAll reads cs (Ok vs) → ReadsAll reads ds (Ok ws)
+      → ReadsAll reads (cs ++ ds) (Ok (vs ++ ws))
   values_more [] ds [] ws h k = k
   values_more [] ds (v ∷ vs) ws h k = absurd h
   values_more (c ∷ cs) ds [] ws h k = absurd h
   values_more (c ∷ cs) ds (v ∷ vs) ws h k = (h.0, values_more cs ds vs ws h.1 k)
 
   -- and its value is one more
-  pub value_next : (cs : List Cell) (c : Cell) (vs : List A) (v : A) → ReadsAll reads cs (Ok vs) → reads c (Ok v) → ReadsAll reads (cs ++ c ∷ []) (Ok (vs ++ v ∷ []))
+  pub value_next : (cs : List Cell) (c : Cell) (vs : List A) (v : A) → ReadsAll reads cs (Ok vs) → reads c (Ok v)
+      → ReadsAll reads (cs ++ c ∷ []) (Ok (vs ++ v ∷ []))
   value_next cs c vs v h k = values_more cs (c ∷ []) vs (v ∷ []) h (k, tt)
 
-  pub fault_more : (cs ds : List Cell) (vs : List A) (r : Refusal) → ReadsAll reads cs (Ok vs) → ReadsAll reads ds (Err r) → ReadsAll reads (cs ++ ds) (Err r)
+  pub fault_more : (cs ds : List Cell) (vs : List A) (r : Refusal) → ReadsAll reads cs (Ok vs)
+      → ReadsAll reads ds (Err r) → ReadsAll reads (cs ++ ds) (Err r)
   fault_more [] ds [] r h k = k
   fault_more [] ds (v ∷ vs) r h k = absurd h
   fault_more (c ∷ cs) ds [] r h k = absurd h
@@ -66,23 +73,28 @@ no_bytes s r e is =
     let none : None ≡ Some r = ap (λ x. first_fault_of (checks_of_next cell_checks 0 x)) (sym is) ∙ e in
     let no : ⊥ = cc in no
 
-stops : (n : ℕ) (s : List ℕ) (r : Refusal) → first_fault_of (checks_of_next cell_checks n s) ≡ Some r → (r ≡ size) × (((n ≡ 0) × (s ≢ [])) ⊎ ((0 < n) × SpellsNone s))
+stops : (n : ℕ) (s : List ℕ) (r : Refusal) → first_fault_of (checks_of_next cell_checks n s) ≡ Some r → (r ≡ size)
+    × (((n ≡ 0) × (s ≢ [])) ⊎ ((0 < n) × SpellsNone s))
 stops zero s r e = (size_of_one (length s == 0) r e, inl (refl, no_bytes s r e))
 stops (suc n) s r e = (size_of_two (has_number s) (has_cell s) r e, inr (omega arith, no_cell s r e))
 
 -- where nothing is to be read, all the cells that the count says were taken
-pub all_taken : (start now : ToRead) (cs : List Cell) → HaveBeenTaken start cs now → now ≡ nothing → (length cs ≡ start.left) × CellsInRow start.bytes start.left cs []
+pub all_taken : (start now : ToRead) (cs : List Cell) → HaveBeenTaken start cs now → now ≡ nothing
+    → (length cs ≡ start.left) × CellsInRow start.bytes start.left cs []
 all_taken start now cs h end =
     let many : length cs ≡ start.left = omega (arith, h.so_many, ap (λ (r : ToRead). r.left) end) in
-    (many, (subst (λ x. SpellsAll start.bytes cs x) (ap (λ (r : ToRead). r.bytes) end) h.spelled, omega (arith, many), inl many))
+    (many, (subst (λ x. SpellsAll start.bytes cs x) (ap (λ (r : ToRead). r.bytes) end) h.spelled, omega
+        (arith, many), inl many))
 
 -- where the next step fails, these are all cells that are there, and a check after them fails
-cells_missing : (n : ℕ) (cs : List Cell) (rest : List ℕ) → length cs < n → first_fault_of (end_checks n cs rest) ≡ Some size
+cells_missing : (n : ℕ) (cs : List Cell) (rest : List ℕ) → length cs < n → first_fault_of (end_checks n cs rest)
+    ≡ Some size
 cells_missing n cs rest h =
     let fewer : nat_le n (length cs) ≡ false = grind (arith, nat_tests) in
     rw fewer refl
 
-bytes_left : (n : ℕ) (cs : List Cell) (rest : List ℕ) → length cs ≡ n → rest ≢ [] → first_fault_of (end_checks n cs rest) ≡ Some size
+bytes_left : (n : ℕ) (cs : List Cell) (rest : List ℕ) → length cs ≡ n → rest ≢ []
+    → first_fault_of (end_checks n cs rest) ≡ Some size
 bytes_left n cs [] h left = absurd (left refl)
 bytes_left n cs (x ∷ rest) h left =
     let all : nat_le n (length cs) ≡ true = grind (arith, nat_tests) in
@@ -94,7 +106,8 @@ none_left n cs h =
     let all : nat_le n (length cs) ≡ true = grind (arith, nat_tests) in
     rw all refl
 
-pub all_there : (start now : ToRead) (cs : List Cell) (r : Refusal) → HaveBeenTaken start cs now → first_fault_of (next_checks cell_checks now) ≡ Some r
+pub all_there : (start now : ToRead) (cs : List Cell) (r : Refusal) → HaveBeenTaken start cs now
+    → first_fault_of (next_checks cell_checks now) ≡ Some r
     → CellsInRow start.bytes start.left cs now.bytes × (first_fault_of (end_checks start.left cs now.bytes) ≡ Some r)
 all_there start now cs r h e =
     let p = stops now.left now.bytes r e in (
@@ -124,43 +137,56 @@ remaining_cells s u cs n spelled few bytes =
     )
 
 -- and so there are after those of an array
-pub all_remaining : (b : List ℕ) (start now : ToRead) (cs : List Cell) → SpellsHead b start → AreBytes b → HaveBeenTaken start cs now
+pub all_remaining : (b : List ℕ) (start now : ToRead) (cs : List Cell) → SpellsHead b start → AreBytes b
+    → HaveBeenTaken start cs now
     → (ds : List Cell) × (rest : List ℕ) × CellsInRow start.bytes start.left (cs ++ ds) rest
 all_remaining b start now cs p bytes h =
-    remaining_cells start.bytes now.bytes cs start.left h.spelled (omega (arith, h.so_many)) (row_bytes start.bytes now.bytes cs h.spelled (head_bytes b start p bytes))
+    remaining_cells start.bytes now.bytes cs start.left h.spelled (omega (arith, h.so_many))
+        (row_bytes start.bytes now.bytes cs h.spelled (head_bytes b start p bytes))
 
-module _ {A X : Type 0} (items : X → List A) (reads : Cell → Outcome A → Type 0) (b : List ℕ) (start now : ToRead) (cs : List Cell) (vs : List A)
+module _ {A X : Type 0} (items : X → List A) (reads : Cell → Outcome A → Type 0) (b : List ℕ) (start now : ToRead)
+    (cs : List Cell) (vs : List A)
     (head : SpellsHead b start) (taken : HaveBeenTaken start cs now) (values : ReadsAll reads cs (Ok vs)) where
   -- a list is what was read where nothing is to be read
   pub list_ends : (x : X) → now ≡ nothing → items x ≡ vs → ReadsList items reads (Some b) (Ok x)
   list_ends x end is =
       let all = all_taken start now cs taken end in
-      (start.left, cs, [], (start.bytes, head, all.1), (subst (λ xs. ReadsAll reads cs (Ok xs)) (sym is) values, none_left start.left cs all.0))
+      (start.left, cs, [], (start.bytes, head, all.1),
+          (subst (λ xs. ReadsAll reads cs (Ok xs)) (sym is) values, none_left start.left cs all.0))
 
-  truncated : (r : Refusal) → first_fault_of (next_checks cell_checks now) ≡ Some r → ReadsList items reads (Some b) (Err r)
+  truncated : (r : Refusal) → first_fault_of (next_checks cell_checks now) ≡ Some r
+      → ReadsList items reads (Some b) (Err r)
   truncated r e =
       let all = all_there start now cs r taken e in
       inr (start.left, cs, now.bytes, (start.bytes, head, all.0), inr (vs, values, all.1))
 
   -- it is Size where the next step fails
-  pub list_truncated : (fault : Option Refusal) → IfSome fault (λ r. first_fault_of (next_checks cell_checks now) ≡ Some r) → IfSome fault (λ r. ReadsList items reads (Some b) (Err r))
+  pub list_truncated : (fault : Option Refusal)
+      → IfSome fault (λ r. first_fault_of (next_checks cell_checks now) ≡ Some r)
+      → IfSome fault (λ r. ReadsList items reads (Some b) (Err r))
   list_truncated fault e = IfSome_then fault e truncated
 
   -- and the fault of the next cell where that is refused
-  module _ (next : ToRead) (t : List ℕ) (c : Cell) (bytes : AreBytes b) (n : next.left + 1 ≡ now.left) (is : now.bytes ≡ t ++ next.bytes) (spells : Spells t c) where
+  module _ (next : ToRead) (t : List ℕ) (c : Cell) (bytes : AreBytes b) (n : next.left + 1 ≡ now.left)
+      (is : now.bytes ≡ t ++ next.bytes) (spells : Spells t c) where
     refused : (r : Refusal) → reads c (Err r) → ReadsList items reads (Some b) (Err r)
     refused r h =
         let one = taken_next start now next cs c t taken n is spells in
         let all = all_remaining b start next (cs ++ c ∷ []) head bytes one in
         let fault : ReadsAll reads (cs ++ c ∷ []) (Err r) = fault_more reads cs (c ∷ []) vs r values (inl h) in
-        inr (start.left, (cs ++ c ∷ []) ++ all.0, all.1, (start.bytes, head, all.2), inl (fault_stays reads (cs ++ c ∷ []) all.0 r fault))
+        inr (start.left, (cs ++ c ∷ []) ++ all.0, all.1, (start.bytes, head, all.2), inl
+            (fault_stays reads (cs ++ c ∷ []) all.0 r fault))
 
-    pub list_refused : (fault : Option Refusal) → IfSome fault (λ r. reads c (Err r)) → IfSome fault (λ r. ReadsList items reads (Some b) (Err r))
+    pub list_refused : (fault : Option Refusal) → IfSome fault (λ r. reads c (Err r))
+        → IfSome fault (λ r. ReadsList items reads (Some b) (Err r))
     list_refused fault e = IfSome_then fault e refused
 
 -- where one list is read, so is another that holds the same
-pub same_items : {A X Y : Type 0} (items : X → List A) (others : Y → List A) (reads : Content → Cell → Outcome A → Type 0) (element : Option Content) (cell : Cell) (x : X) (y : Y) → others y ≡ items x
-    → ReadsByElement (λ m. ReadsList items (reads m)) element cell (Ok x) → ReadsByElement (λ m. ReadsList others (reads m)) element cell (Ok y)
+pub same_items : {A X Y : Type 0} (items : X → List A) (others : Y → List A)
+    (reads : Content → Cell → Outcome A → Type 0) (element : Option Content) (cell : Cell) (x : X) (y : Y) → others y
+    ≡ items x
+    → ReadsByElement (λ m. ReadsList items (reads m)) element cell (Ok x)
+        → ReadsByElement (λ m. ReadsList others (reads m)) element cell (Ok y)
 same_items items others reads None cell x y e h = absurd h
 same_items items others reads (Some m) None x y e h = absurd h
 same_items items others reads (Some m) (Some b) x y e h =

@@ -1,5 +1,6 @@
 -- Reading so many elements of an array one after another.
-use Rattle.std.proofs.Common.{◌≡◌, ℕ, ◌+◌, ◌-◌, ◌<◌, ◌≤◌, true, false, List, [], ◌∷◌, ◌++◌, length, take, Option, Some, None, Ok, Err, refl, sym, ◌∙◌, ap, arith, inl, inr, append_assoc, length-append}
+use Rattle.std.proofs.Common.{◌≡◌, ℕ, ◌+◌, ◌-◌, ◌<◌, ◌≤◌, true, false, List, [], ◌∷◌, ◌++◌, length, take, Option}
+use Rattle.std.proofs.Common.{Some, None, Ok, Err, refl, sym, ◌∙◌, ap, arith, inl, inr, append_assoc, length-append}
 use Rattle.std.specs.Prelude.{IfSome, nat_le}
 use Rattle.std.proofs.Math.Seq.{take-append-add, take-append_seam}
 use Rattle.std.proofs.lemmas.Bool.Decides.{nat_tests}
@@ -13,9 +14,11 @@ use Rattle.pg_base.proofs.FormatLaws.{check_failed, checks_passed}
 use Rattle.pg_base.specs.Formats.{first_fault_of}
 use Rattle.pg_base.proofs.CellRows.{AreBytes}
 use Rattle.pg_read.specs.ArrayReading.{ReadsAll, ReadsArray, ReadsFixed, end_checks, fixed_checks}
-use Rattle.pg_read.proofs.ArrayCellSteps.{HaveBeenTaken, all_remaining, all_taken, all_there, fault_more, fault_stays, none_left, taken_next}
+use Rattle.pg_read.proofs.ArrayCellSteps.{HaveBeenTaken, all_remaining, all_taken, all_there, fault_more}
+use Rattle.pg_read.proofs.ArrayCellSteps.{fault_stays, none_left, taken_next}
 
-as_many : {A : Type 0} (reads : Cell → Outcome A → Type 0) (cs : List Cell) (vs : List A) → ReadsAll reads cs (Ok vs) → length cs ≡ length vs
+as_many : {A : Type 0} (reads : Cell → Outcome A → Type 0) (cs : List Cell) (vs : List A) → ReadsAll reads cs (Ok vs)
+    → length cs ≡ length vs
 as_many reads [] [] h = refl
 as_many reads [] (v ∷ vs) h = absurd h
 as_many reads (c ∷ cs) [] h = absurd h
@@ -33,8 +36,10 @@ no_more m n h = grind (arith, nat_tests)
 more : (m n : ℕ) → m < n → nat_le n m ≡ false
 more m n h = grind (arith, nat_tests)
 
-module _ {A : Type 0} (reads : Cell → Outcome A → Type 0) (expected : ℕ) (b : List ℕ) (start now : ToRead) (cs : List Cell) (vs : List A)
-    (head : SpellsHead b start) (taken : HaveBeenTaken start cs now) (values : ReadsAll reads cs (Ok vs)) (within : length vs ≤ expected) where
+module _ {A : Type 0} (reads : Cell → Outcome A → Type 0) (expected : ℕ) (b : List ℕ) (start now : ToRead)
+    (cs : List Cell) (vs : List A)
+    (head : SpellsHead b start) (taken : HaveBeenTaken start cs now) (values : ReadsAll reads cs (Ok vs))
+        (within : length vs ≤ expected) where
   abbrev Reads : Outcome (List A) → Type 0
   Reads = ReadsArray (λ vs. vs) (ReadsFixed expected reads) (Some b)
 
@@ -50,7 +55,9 @@ module _ {A : Type 0} (reads : Cell → Outcome A → Type 0) (expected : ℕ) (
       let all = all_taken start now cs taken end in
       let enough : expected ≤ start.left = omega (arith, as_many reads cs vs values, all.0, whole) in
       let none_fails : first_fault_of (fixed_checks expected start.left cs []) ≡ None
-      = rw (no_more expected (length cs) cells_within) (checks_passed (end_checks start.left cs []) ((nat_le expected start.left, too_few expected start.left) ∷ []) (none_left start.left cs all.0)
+      = rw (no_more expected (length cs) cells_within)
+          (checks_passed (end_checks start.left cs []) ((nat_le expected start.left, too_few expected start.left) ∷ [])
+          (none_left start.left cs all.0)
       ∙ (rw (no_more start.left expected enough) refl)) in
       (start.left, cs, [], (start.bytes, head, all.1), (read_within, none_fails))
 
@@ -61,22 +68,29 @@ module _ {A : Type 0} (reads : Cell → Outcome A → Type 0) (expected : ℕ) (
       let many : start.left ≡ length vs = omega (arith, as_many reads cs vs values, all.0) in
       let fewer : start.left < expected = omega (arith, many, short) in
       let failed : first_fault_of (fixed_checks expected start.left cs []) ≡ Some (too_few expected start.left)
-      = rw (no_more expected (length cs) cells_within) (checks_passed (end_checks start.left cs []) ((nat_le expected start.left, too_few expected start.left) ∷ []) (none_left start.left cs all.0)
+      = rw (no_more expected (length cs) cells_within)
+          (checks_passed (end_checks start.left cs []) ((nat_le expected start.left, too_few expected start.left) ∷ [])
+          (none_left start.left cs all.0)
       ∙ (rw (more start.left expected fewer) refl)) in
-      inr (start.left, cs, [], (start.bytes, head, all.1), inr (vs, read_within, failed ∙ ap (λ n. Some (too_few expected n)) many))
+      inr (start.left, cs, [], (start.bytes, head, all.1), inr
+          (vs, read_within, failed ∙ ap (λ n. Some (too_few expected n)) many))
 
   truncated : (r : Refusal) → first_fault_of (next_checks cell_checks now) ≡ Some r → Reads (Err r)
   truncated r e =
       let all = all_there start now cs r taken e in
       let failed : first_fault_of (fixed_checks expected start.left cs now.bytes) ≡ Some r
-      = rw (no_more expected (length cs) cells_within) (check_failed (end_checks start.left cs now.bytes) ((nat_le expected start.left, too_few expected start.left) ∷ []) r all.1) in
+      = rw (no_more expected (length cs) cells_within)
+          (check_failed (end_checks start.left cs now.bytes)
+          ((nat_le expected start.left, too_few expected start.left) ∷ []) r all.1) in
       inr (start.left, cs, now.bytes, (start.bytes, head, all.0), inr (vs, read_within, failed))
 
   -- the next step fails
-  pub array_truncated : (fault : Option Refusal) → IfSome fault (λ r. first_fault_of (next_checks cell_checks now) ≡ Some r) → IfSome fault (λ r. Reads (Err r))
+  pub array_truncated : (fault : Option Refusal)
+      → IfSome fault (λ r. first_fault_of (next_checks cell_checks now) ≡ Some r) → IfSome fault (λ r. Reads (Err r))
   array_truncated fault e = IfSome_then fault e truncated
 
-  module _ (next : ToRead) (t : List ℕ) (c : Cell) (bytes : AreBytes b) (n : next.left + 1 ≡ now.left) (is : now.bytes ≡ t ++ next.bytes) (spells : Spells t c) where
+  module _ (next : ToRead) (t : List ℕ) (c : Cell) (bytes : AreBytes b) (n : next.left + 1 ≡ now.left)
+      (is : now.bytes ≡ t ++ next.bytes) (spells : Spells t c) where
     one_more : HaveBeenTaken start (cs ++ c ∷ []) next
     one_more = taken_next start now next cs c t taken n is spells
 
@@ -86,25 +100,31 @@ module _ {A : Type 0} (reads : Cell → Outcome A → Type 0) (expected : ℕ) (
         let all = all_remaining b start next (cs ++ c ∷ []) head bytes one_more in
         let cells : List Cell = (cs ++ c ∷ []) ++ all.0 in
         let many : length cs ≡ expected = omega (arith, as_many reads cs vs values, full) in
-        let longer : expected < length cells = omega (arith, length-append (cs ++ c ∷ []) all.0, length-append cs (c ∷ []), many) in
+        let longer : expected < length cells =
+            omega (arith, length-append (cs ++ c ∷ []) all.0, length-append cs (c ∷ []), many) in
         let first : take expected cells ≡ cs
-        = ap (take expected) (append_assoc cs (c ∷ []) all.0) ∙ ap (λ k. take k (cs ++ c ∷ all.0)) (sym many) ∙ take-append_seam cs (c ∷ all.0) in
-        let failed : first_fault_of (fixed_checks expected start.left cells all.1) ≡ Some (excess expected) = rw (more expected (length cells) longer) refl in
+        = ap (take expected) (append_assoc cs (c ∷ []) all.0) ∙ ap (λ k. take k (cs ++ c ∷ all.0)) (sym many)
+            ∙ take-append_seam cs (c ∷ all.0) in
+        let failed : first_fault_of (fixed_checks expected start.left cells all.1) ≡ Some (excess expected) =
+            rw (more expected (length cells) longer) refl in
         inr (start.left, cells, all.1, (start.bytes, head, all.2), inr (vs, (rw first values), failed))
 
     refused : length vs < expected → (r : Refusal) → reads c (Err r) → Reads (Err r)
     refused wanted r h =
         let all = all_remaining b start next (cs ++ c ∷ []) head bytes one_more in
         let fault : ReadsAll reads (cs ++ c ∷ []) (Err r) = fault_more reads cs (c ∷ []) vs r values (inl h) in
-        let few : length (cs ++ c ∷ []) ≤ expected = omega (arith, length-append cs (c ∷ []), as_many reads cs vs values, wanted) in
+        let few : length (cs ++ c ∷ []) ≤ expected =
+            omega (arith, length-append cs (c ∷ []), as_many reads cs vs values, wanted) in
         inr (
           start.left,
           (cs ++ c ∷ []) ++ all.0,
           all.1,
           (start.bytes, head, all.2),
-          inl (rw (take_more expected (cs ++ c ∷ []) all.0 few) (fault_stays reads (cs ++ c ∷ []) (take (expected - length (cs ++ c ∷ [])) all.0) r fault)),
+          inl (rw (take_more expected (cs ++ c ∷ []) all.0 few)
+              (fault_stays reads (cs ++ c ∷ []) (take (expected - length (cs ++ c ∷ [])) all.0) r fault)),
         )
 
     -- the next cell is refused
-    pub array_refused : length vs < expected → (fault : Option Refusal) → IfSome fault (λ r. reads c (Err r)) → IfSome fault (λ r. Reads (Err r))
+    pub array_refused : length vs < expected → (fault : Option Refusal) → IfSome fault (λ r. reads c (Err r))
+        → IfSome fault (λ r. Reads (Err r))
     array_refused wanted fault e = IfSome_then fault e (refused wanted)

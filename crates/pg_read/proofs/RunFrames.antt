@@ -1,5 +1,6 @@
 -- A run of cells that is read from their frames.
-use Rattle.std.proofs.Common.{◌≡◌, ℕ, List, ◌∷◌, ◌++◌, [], length, Option, Some, None, Result, Ok, Err, refl, sym, subst, arith, inl, inr}
+use Rattle.std.proofs.Common.{◌≡◌, ℕ, List, ◌∷◌, ◌++◌, [], length, Option, Some, None, Result, Ok, Err, refl, sym}
+use Rattle.std.proofs.Common.{subst, arith, inl, inr}
 use Rattle.pg_base.proofs.CellLaws.{cells_single, frames_in_row}
 use Rattle.pg_base.specs.Cells.{Cell, CellsInRow}
 use Rattle.pg_types.specs.Faults.{Refusal, Outcome, refusal_of}
@@ -10,27 +11,34 @@ use Rattle.pg_read.specs.ArrayReading.{ReadsAll}
 use Rattle.pg_read.specs.Reading.{ReadsSingle}
 use Rattle.pg_read.specs.RunReading.{AnswersValues, ReadsFrames, ReadsRun, RunEnds, RunStops}
 
-module _ {A X : Type 0} (items : X → List A) (same : A → A → Type 0) (reads : Cell → Outcome A → Type 0) (single : ReadsSingle same reads) (old new : List ℕ) (n : ℕ) where
+module _ {A X : Type 0} (items : X → List A) (same : A → A → Type 0) (reads : Cell → Outcome A → Type 0)
+    (single : ReadsSingle same reads) (old new : List ℕ) (n : ℕ) where
   module _ (cs : List Cell) (vs : List A) (many : length cs ≡ n) (values : ReadsAll reads cs (Ok vs)) where
     -- cells that all give values stop no run
     never_stops : (rest : List ℕ) (fault : Option Refusal) → RunStops reads old n cs rest fault new → fault ≡ None
     never_stops rest None h = refl
     never_stops rest (Some r) h = elim h [
       | inl z ↦
-          let refused : ReadsAll reads (z.0 ++ z.1 ∷ []) (Err r) = fault_more reads z.0 (z.1 ∷ []) z.2 r z.3 (inl z.4) in
-          let all : ReadsAll reads cs (Err r) = subst (λ x. ReadsAll reads x (Err r)) (sym z.5.1) (fault_stays reads (z.0 ++ z.1 ∷ []) z.5.0 r refused) in
+          let refused : ReadsAll reads (z.0 ++ z.1 ∷ []) (Err r) =
+              fault_more reads z.0 (z.1 ∷ []) z.2 r z.3 (inl z.4) in
+          let all : ReadsAll reads cs (Err r) =
+              subst (λ x. ReadsAll reads x (Err r)) (sym z.5.1) (fault_stays reads (z.0 ++ z.1 ∷ []) z.5.0 r refused) in
           absurd (all_single same reads single cs (Err r) (Ok vs) all values)
       | inr z ↦ absurd (omega (arith, many, z.2))
     ]
 
-    answers_values : (s : List ℕ) (result : Result X Fault) → RunEnds items reads old n cs s result new → AnswersValues items same vs s result new
+    answers_values : (s : List ℕ) (result : Result X Fault) → RunEnds items reads old n cs s result new
+        → AnswersValues items same vs s result new
     answers_values s (Ok x) h = (all_single same reads single cs (Ok (items x)) (Ok vs) h.1 values, h.2)
     answers_values s (Err f) h = never_stops s (refusal_of f) h
 
   -- a run over frames reads their cells
-  pub run_frames : (result : Result X Fault) → ReadsRun items reads old n result new → ReadsFrames items same reads old n result new
+  pub run_frames : (result : Result X Fault) → ReadsRun items reads old n result new
+      → ReadsFrames items same reads old n result new
   run_frames result run cs b s vs are is many values =
-      let row : CellsInRow old n cs s = subst (λ x. CellsInRow x n cs s) (sym is) (subst (λ m. CellsInRow (b ++ s) m cs s) many (frames_in_row cs b s are)) in
+      let row : CellsInRow old n cs s = subst (λ x. CellsInRow x n cs s) (sym is)
+          (subst (λ m. CellsInRow (b ++ s) m cs s) many (frames_in_row cs b s are)) in
       let e = cells_single old n run.0 cs run.1 s run.2 row in
       answers_values cs vs many values s result
-      (subst (λ x. RunEnds items reads old n cs x result new) e.1 (subst (λ x. RunEnds items reads old n x run.1 result new) e.0 run.3))
+      (subst (λ x. RunEnds items reads old n cs x result new) e.1
+          (subst (λ x. RunEnds items reads old n x run.1 result new) e.0 run.3))

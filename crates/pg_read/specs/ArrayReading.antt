@@ -26,20 +26,24 @@ abbrev pub end_checks : ℕ → List Cell → List ℕ → Checks
 end_checks n cs rest = (nat_le n (length cs), size) ∷ (length rest == 0, size) ∷ []
 
 -- what the elements of a list give
-abbrev pub ReadsElements : {A : Type 0} → (Cell → Outcome A → Type 0) → ℕ → List Cell → List ℕ → Outcome (List A) → Type 0
+abbrev pub ReadsElements : {A : Type 0} → (Cell → Outcome A → Type 0) → ℕ → List Cell → List ℕ → Outcome (List A)
+    → Type 0
 ReadsElements reads n cs rest = ReadsChecked reads (end_checks n cs rest) cs
 
 -- the checks after the cells of an array that states n elements, of which `expected` are wanted: no more are there, all
 -- of them are there, no bytes trail them, and the count is no smaller
 abbrev pub fixed_checks : ℕ → ℕ → List Cell → List ℕ → Checks
-fixed_checks expected n cs rest = (nat_le (length cs) expected, excess expected) ∷ end_checks n cs rest ++ (nat_le expected n, too_few expected n) ∷ []
+fixed_checks expected n cs rest = (nat_le (length cs) expected, excess expected) ∷ end_checks n cs rest
+    ++ (nat_le expected n, too_few expected n) ∷ []
 
 -- what the elements of so many values give: those after them are not read
-abbrev pub ReadsFixed : {A : Type 0} → ℕ → (Cell → Outcome A → Type 0) → ℕ → List Cell → List ℕ → Outcome (List A) → Type 0
+abbrev pub ReadsFixed : {A : Type 0} → ℕ → (Cell → Outcome A → Type 0) → ℕ → List Cell → List ℕ → Outcome (List A)
+    → Type 0
 ReadsFixed expected reads n cs rest = ReadsChecked reads (fixed_checks expected n cs rest) (take expected cs)
 
 -- bytes that begin with no sound head give its first fault, and all others what their elements give
-abbrev pub DecodesArray : {A X : Type 0} → (X → List A) → (ℕ → List Cell → List ℕ → Outcome (List A) → Type 0) → List ℕ → Outcome X → Type 0
+abbrev pub DecodesArray : {A X : Type 0} → (X → List A) → (ℕ → List Cell → List ℕ → Outcome (List A) → Type 0) → List ℕ
+    → Outcome X → Type 0
 DecodesArray items elements b (Ok x) =
     (n : ℕ) × (cs : List Cell) × (rest : List ℕ) × ArrayBody b n cs rest × elements n cs rest (Ok (items x))
 DecodesArray items elements b (Err r) =
@@ -47,7 +51,8 @@ DecodesArray items elements b (Err r) =
     ⊎ ((n : ℕ) × (cs : List Cell) × (rest : List ℕ) × ArrayBody b n cs rest × elements n cs rest (Err r))
 
 -- what the cell of an array gives: NULL is WasNull
-abbrev pub ReadsArray : {A X : Type 0} → (X → List A) → (ℕ → List Cell → List ℕ → Outcome (List A) → Type 0) → Cell → Outcome X → Type 0
+abbrev pub ReadsArray : {A X : Type 0} → (X → List A) → (ℕ → List Cell → List ℕ → Outcome (List A) → Type 0) → Cell
+    → Outcome X → Type 0
 ReadsArray items elements = NotNull (DecodesArray items elements)
 
 -- what the cell of a list gives
@@ -55,6 +60,7 @@ abbrev pub ReadsList : {A X : Type 0} → (X → List A) → (Cell → Outcome A
 ReadsList items reads = ReadsArray items (ReadsElements reads)
 
 -- what a cell, or another thing that gives lists, gives by the type of the elements
-abbrev pub ReadsByElement : {C X : Type 0} → (Content → C → Outcome X → Type 0) → Option Content → C → Outcome X → Type 0
+abbrev pub ReadsByElement : {C X : Type 0} → (Content → C → Outcome X → Type 0) → Option Content → C → Outcome X
+    → Type 0
 ReadsByElement lists None c outcome = ⊥
 ReadsByElement lists (Some element) c outcome = lists element c outcome

@@ -1,5 +1,6 @@
 -- Reading framed cells from the front of a slice: what is answered, and where the slice stands then.
-use Rattle.std.specs.Prelude.{◌≡◌, ℕ, ℤ, ◌<◌, nat_lt, if◌then◌else◌, drop, List, [], ◌∷◌, ◌++◌, length, Option, Some, Result, Ok, Err}
+use Rattle.std.specs.Prelude.{◌≡◌, ℕ, ℤ, ◌<◌, nat_lt, if◌then◌else◌, drop, List, [], ◌∷◌, ◌++◌, length, Option}
+use Rattle.std.specs.Prelude.{Some, Result, Ok, Err}
 use Rattle.std.specs.Borrow.{Bor}
 use Rattle.std.specs.Int.{w32}
 use Rattle.pg_base.specs.Cells.{Cell, cell_of, IsBe, Spells, SpellsNone, CellsInRow}
@@ -16,7 +17,8 @@ abbrev pub TakesNumber : List ℕ → Result ℤ Fault → List ℕ → Type 0
 TakesNumber old (Ok n) new = (s : List ℕ) × (old ≡ s ++ new) × IsBe w32 s n
 TakesNumber old (Err f) new = (length old < 4) × (refusal_of f ≡ Some size) × (new ≡ old)
 
--- where a slice stands whose first cell is truncated: at its start where the length is truncated, and otherwise after the length
+-- where a slice stands whose first cell is truncated: at its start where the length is truncated, and otherwise after
+-- the length
 abbrev pub after_truncated : List ℕ → List ℕ
 after_truncated s = if nat_lt (length s) 4 then s else drop 4 s
 
@@ -27,12 +29,14 @@ TakesCell old (Err f) new = SpellsNone old × (refusal_of f ≡ Some size) × (n
 
 -- where no cell is whole, the answer is Size; otherwise it is an outcome of the first cell, and never Memory where
 -- that is read without, and the slice stands after the cell whatever the answer
-abbrev pub ReadsFirst : {A : Type 0} → (Cell → Outcome A → Type 0) → (Cell → Type 0) → List ℕ → List Cell → List ℕ → Result A Fault → List ℕ → Type 0
+abbrev pub ReadsFirst : {A : Type 0} → (Cell → Outcome A → Type 0) → (Cell → Type 0) → List ℕ → List Cell → List ℕ
+    → Result A Fault → List ℕ → Type 0
 ReadsFirst reads memory_free old [] rest result new = AnswersSize result × (new ≡ after_truncated old)
 ReadsFirst reads memory_free old (c ∷ cs) rest result new =
     Answers (reads c) result × (memory_free c → NeverMemory result) × (new ≡ rest)
 
 -- the first framed cell of the slice was read
-abbrev pub ReadsFrame : {A : Type 0} → (Cell → Outcome A → Type 0) → (Cell → Type 0) → List ℕ → Result A Fault → List ℕ → Type 0
+abbrev pub ReadsFrame : {A : Type 0} → (Cell → Outcome A → Type 0) → (Cell → Type 0) → List ℕ → Result A Fault → List ℕ
+    → Type 0
 ReadsFrame reads memory_free old result new =
     (cs : List Cell) × (rest : List ℕ) × CellsInRow old 1 cs rest × ReadsFirst reads memory_free old cs rest result new

@@ -6,7 +6,8 @@ use Rattle.pg_base.specs.Cells.{Cell}
 use Rattle.pg_types.specs.Faults.{Refusal, Outcome}
 use Rattle.pg_base.specs.Formats.{Decodes, NotNull, ReadsPlain, IsGrammar}
 use Rattle.pg_base.specs.Sameness.{SameOption}
-use Rattle.pg_base.specs.Special.{Special, pos_infinity, neg_infinity, value, DecodesSpecial, FormSpecial, RefusedSpecial, ReadsSpecial, SameSpecial}
+use Rattle.pg_base.specs.Special.{Special, pos_infinity, neg_infinity, value, DecodesSpecial, FormSpecial}
+use Rattle.pg_base.specs.Special.{RefusedSpecial, ReadsSpecial, SameSpecial}
 use Rattle.pg_base.proofs.SpecialLaws.{infinity_width, minus_infinity_width, infinities_apart}
 use Rattle.pg_read.specs.BoxReading.{InBox, ReadsBox}
 use Rattle.pg_read.specs.OptionReading.{ReadsOption}
@@ -19,37 +20,47 @@ pub no_fault : {A : Type 0} (o : Option A) (a : A) → o ≡ None → o ≡ Some
 no_fault o a e f = let bad : None ≡ Some a = sym e ∙ f in cc
 
 -- where bytes have one outcome, and NULL is WasNull, a cell has one
-pub not_null_single : {A : Type 0} (same : A → A → Type 0) (reads : List ℕ → Outcome A → Type 0) → ((b : List ℕ) → GivesSingle same (reads b)) → ReadsSingle same (NotNull reads)
+pub not_null_single : {A : Type 0} (same : A → A → Type 0) (reads : List ℕ → Outcome A → Type 0)
+    → ((b : List ℕ) → GivesSingle same (reads b)) → ReadsSingle same (NotNull reads)
 not_null_single same reads single None (Ok v) s h k = absurd h
 not_null_single same reads single None (Err r) (Ok w) h k = absurd k
 not_null_single same reads single None (Err r) (Err s) h k = h ∙ sym k
 not_null_single same reads single (Some b) r s h k = single b r s h k
 
-decodes_single : {A : Type 0} (same : A → A → Type 0) (form : List ℕ → A → Type 0) (first_fault : List ℕ → Option Refusal) → IsGrammar same form first_fault → (b : List ℕ) → GivesSingle same (Decodes form first_fault b)
+decodes_single : {A : Type 0} (same : A → A → Type 0) (form : List ℕ → A → Type 0)
+    (first_fault : List ℕ → Option Refusal) → IsGrammar same form first_fault → (b : List ℕ)
+    → GivesSingle same (Decodes form first_fault b)
 decodes_single same form first_fault law b (Ok v) (Ok w) h k = law.single b v w h k
 decodes_single same form first_fault law b (Ok v) (Err s) h k = no_fault (first_fault b) s (law.passes b v h) k
 decodes_single same form first_fault law b (Err r) (Ok w) h k = no_fault (first_fault b) r (law.passes b w k) h
 decodes_single same form first_fault law b (Err r) (Err s) h k = let e : Some r ≡ Some s = sym h ∙ k in cc
 
 -- a plain format that is a grammar gives a cell one outcome
-pub plain_single : {A : Type 0} (same : A → A → Type 0) (form : List ℕ → A → Type 0) (first_fault : List ℕ → Option Refusal) → IsGrammar same form first_fault → ReadsSingle same (ReadsPlain form first_fault)
-plain_single same form first_fault law = not_null_single same (Decodes form first_fault) (decodes_single same form first_fault law)
+pub plain_single : {A : Type 0} (same : A → A → Type 0) (form : List ℕ → A → Type 0)
+    (first_fault : List ℕ → Option Refusal) → IsGrammar same form first_fault
+    → ReadsSingle same (ReadsPlain form first_fault)
+plain_single same form first_fault law =
+    not_null_single same (Decodes form first_fault) (decodes_single same form first_fault law)
 
 -- ---- boxes and options
 
-one_in_box : {A B : Type 0} (inside : B → A) (same : A → A → Type 0) (gives : Outcome A → Type 0) → GivesSingle same gives → GivesSingle (λ v w. same (inside v) (inside w)) (InBox inside gives)
+one_in_box : {A B : Type 0} (inside : B → A) (same : A → A → Type 0) (gives : Outcome A → Type 0)
+    → GivesSingle same gives → GivesSingle (λ v w. same (inside v) (inside w)) (InBox inside gives)
 one_in_box inside same gives single (Ok v) (Ok w) h k = single (Ok (inside v)) (Ok (inside w)) h k
 one_in_box inside same gives single (Ok v) (Err s) h k = single (Ok (inside v)) (Err s) h k
 one_in_box inside same gives single (Err r) (Ok w) h k = single (Err r) (Ok (inside w)) h k
 one_in_box inside same gives single (Err r) (Err s) h k = single (Err r) (Err s) h k
 
 -- one outcome inside gives one of the box
-pub box_single : {A B : Type 0} (inside : B → A) (same : A → A → Type 0) (reads : Cell → Outcome A → Type 0) → ReadsSingle same reads → ReadsSingle (λ v w. same (inside v) (inside w)) (ReadsBox inside reads)
+pub box_single : {A B : Type 0} (inside : B → A) (same : A → A → Type 0) (reads : Cell → Outcome A → Type 0)
+    → ReadsSingle same reads → ReadsSingle (λ v w. same (inside v) (inside w)) (ReadsBox inside reads)
 box_single inside same reads single =
-    not_null_single (λ v w. same (inside v) (inside w)) (λ b. InBox inside (reads (Some b))) (λ b. one_in_box inside same (reads (Some b)) (single (Some b)))
+    not_null_single (λ v w. same (inside v) (inside w)) (λ b. InBox inside (reads (Some b)))
+        (λ b. one_in_box inside same (reads (Some b)) (single (Some b)))
 
 -- one outcome inside gives one of the option
-pub option_single : {A : Type 0} (same : A → A → Type 0) (reads : Cell → Outcome A → Type 0) → ReadsSingle same reads → ReadsSingle (SameOption same) (ReadsOption reads)
+pub option_single : {A : Type 0} (same : A → A → Type 0) (reads : Cell → Outcome A → Type 0) → ReadsSingle same reads
+    → ReadsSingle (SameOption same) (ReadsOption reads)
 option_single same reads single None (Ok None) (Ok None) h k = tt
 option_single same reads single None (Ok None) (Ok (Some w)) h k = absurd k
 option_single same reads single None (Ok None) (Err s) h k = absurd k
@@ -65,7 +76,8 @@ option_single same reads single (Some b) (Err r) (Err s) h k = single (Some b) (
 
 -- ---- infinities
 
-module _ {A : Type 0} (w : Width) (same : A → A → Type 0) (reads : Cell → Outcome A → Type 0) (single : ReadsSingle same reads) (b : List ℕ) where
+module _ {A : Type 0} (w : Width) (same : A → A → Type 0) (reads : Cell → Outcome A → Type 0)
+    (single : ReadsSingle same reads) (b : List ℕ) where
   abbrev Forms : Special A → Type 0
   Forms = FormSpecial w (λ v. reads (Some b) (Ok v)) b
 
@@ -84,8 +96,10 @@ module _ {A : Type 0} (w : Width) (same : A → A → Type 0) (reads : Cell → 
   one_form (value v) (value u) h k = single (Some b) (Ok v) (Ok u) h.1 k.1
 
   form_or_refused : (s : Special A) (r : Refusal) → Forms s → Refused r → ⊥
-  form_or_refused pos_infinity r h k = elim k [ inl z ↦ z.0 (ap length h ∙ infinity_width w) | inr z ↦ z.0.not_infinity h ]
-  form_or_refused neg_infinity r h k = elim k [ inl z ↦ z.0 (ap length h ∙ minus_infinity_width w) | inr z ↦ z.0.not_minus_infinity h ]
+  form_or_refused pos_infinity r h k =
+      elim k [ inl z ↦ z.0 (ap length h ∙ infinity_width w) | inr z ↦ z.0.not_infinity h ]
+  form_or_refused neg_infinity r h k =
+      elim k [ inl z ↦ z.0 (ap length h ∙ minus_infinity_width w) | inr z ↦ z.0.not_minus_infinity h ]
   form_or_refused (value v) r h k = elim k [ inl z ↦ z.0 h.0.width | inr z ↦ single (Some b) (Ok v) (Err r) h.1 z.1 ]
 
   one_refusal : (r s : Refusal) → Refused r → Refused s → r ≡ s
@@ -94,13 +108,17 @@ module _ {A : Type 0} (w : Width) (same : A → A → Type 0) (reads : Cell → 
     | inr y ↦ elim k [ inl z ↦ absurd (z.0 y.0.width) | inr z ↦ single (Some b) (Err r) (Err s) y.1 z.1 ]
   ]
 
-  one_decoded : {B : Type 0} (view : B → Special A) → GivesSingle (λ s t. SameSpecial same (view s) (view t)) (DecodesSpecial w view (reads (Some b)) b)
+  one_decoded : {B : Type 0} (view : B → Special A)
+      → GivesSingle (λ s t. SameSpecial same (view s) (view t)) (DecodesSpecial w view (reads (Some b)) b)
   one_decoded view (Ok s) (Ok t) h k = one_form (view s) (view t) h k
   one_decoded view (Ok s) (Err f) h k = form_or_refused (view s) f h k
   one_decoded view (Err r) (Ok t) h k = form_or_refused (view t) r k h
   one_decoded view (Err r) (Err f) h k = one_refusal r f h k
 
 -- one outcome inside gives one outcome of the values with infinities
-pub special_single : {A B : Type 0} (w : Width) (view : B → Special A) (same : A → A → Type 0) (reads : Cell → Outcome A → Type 0) → ReadsSingle same reads → ReadsSingle (λ s t. SameSpecial same (view s) (view t)) (ReadsSpecial w view reads)
+pub special_single : {A B : Type 0} (w : Width) (view : B → Special A) (same : A → A → Type 0)
+    (reads : Cell → Outcome A → Type 0) → ReadsSingle same reads
+    → ReadsSingle (λ s t. SameSpecial same (view s) (view t)) (ReadsSpecial w view reads)
 special_single w view same reads single =
-    not_null_single (λ s t. SameSpecial same (view s) (view t)) (λ b. DecodesSpecial w view (reads (Some b)) b) (λ b. one_decoded w same reads single b view)
+    not_null_single (λ s t. SameSpecial same (view s) (view t)) (λ b. DecodesSpecial w view (reads (Some b)) b)
+        (λ b. one_decoded w same reads single b view)

@@ -1,5 +1,6 @@
 -- Two contents are the same just where the test says so.
-use Rattle.std.proofs.Common.{rules, ◌≡◌, ◌∙◌, sym, refl, ap, ◌==◌, ◌&&◌, Bool as Truth, true, false, if◌then◌else◌, ℕ, List, [], ◌∷◌}
+use Rattle.std.proofs.Common.{rules, ◌≡◌, ◌∙◌, sym, refl, ap, ◌==◌, ◌&&◌, Bool as Truth, true, false, if◌then◌else◌}
+use Rattle.std.proofs.Common.{ℕ, List, [], ◌∷◌}
 use Rattle.std.specs.Cmp.Lexicographic.{pointwise}
 use Rattle.std.proofs.lemmas.Bool.{and_parts, eqb-true, eq-eqb}
 use denote.Enum.Bare.{same_true, true_same}
@@ -9,7 +10,9 @@ use Rattle.pg_types.specs.declared.types.built_in.BuiltIn.{BuiltIn as Row}
 use Rattle.pg_types.specs.declared.types.built_in.BuiltIn.TheVariants.{Bool}
 use Rattle.pg_types.specs.BuiltInRows.{row_oid}
 use Rattle.pg_types.specs.Constants.{all_rows}
-use Rattle.pg_types.specs.Content.{Content, BuiltInType, UserDefinedType, KindContent, SimpleKind, EnumKind, PseudoKind, ArrayKind, RangeKind, MultirangeKind, DomainKind, CompositeKind, FieldsContent, NoFields, FieldAnd, same_type, same_kind_content, same_fields}
+use Rattle.pg_types.specs.Content.{Content, BuiltInType, UserDefinedType, KindContent, SimpleKind, EnumKind}
+use Rattle.pg_types.specs.Content.{PseudoKind, ArrayKind, RangeKind, MultirangeKind, DomainKind, CompositeKind}
+use Rattle.pg_types.specs.Content.{FieldsContent, NoFields, FieldAnd, same_type, same_kind_content, same_fields}
 
 -- texts that the test finds the same are the same
 pub bytes-same : (m n : List ℕ) → pointwise ◌==◌ m n ≡ true → m ≡ n
@@ -44,7 +47,8 @@ row-found a = refl
 
 -- the same of rows
 row-same : (a b : Row) → (row_oid a == row_oid b) ≡ true → a ≡ b
-row-same a b h = sym (row-found a) ∙ ap (λ oid. row-of all_rows oid Bool) (eqb-true (row_oid a) (row_oid b) h) ∙ row-found b
+row-same a b h = sym (row-found a) ∙ ap (λ oid. row-of all_rows oid Bool) (eqb-true (row_oid a) (row_oid b) h)
+    ∙ row-found b
 
 -- two tests that hold together are one
 one-test : (p q : Truth) → (p ≡ true → q ≡ true) → (q ≡ true → p ≡ true) → p ≡ q
@@ -55,7 +59,8 @@ one-test false false f g = refl
 -- the derived == of rows compares their OIDs
 pub eq-rows : (a b : Row) → rows.eq a b ≡ (row_oid a == row_oid b)
 eq-rows a b =
-    one-test _ _ (λ h. eq-eqb _ _ (ap row_oid (same_true the_type (search rules) a b h))) (λ h. true_same the_type a b (row-same a b h))
+    one-test _ _ (λ h. eq-eqb _ _ (ap row_oid (same_true the_type (search rules) a b h)))
+        (λ h. true_same the_type a b (row-same a b h))
 
 mutual
   -- types that the test finds the same are the same

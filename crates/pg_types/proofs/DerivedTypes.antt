@@ -1,5 +1,6 @@
 -- What the derived == of types, kinds, views of kinds and fields compares.
-use Rattle.std.proofs.Common.{◌≡◌, ◌∙◌, refl, ap, sym, ◌==◌, ◌&&◌, true, string_bytes, ℕ, List, [], ◌∷◌, map, String, Global}
+use Rattle.std.proofs.Common.{◌≡◌, ◌∙◌, refl, ap, sym, ◌==◌, ◌&&◌, true, string_bytes, ℕ, List, [], ◌∷◌, map}
+use Rattle.std.proofs.Common.{String, Global}
 use Rattle.std.proofs.lemmas.Bool.{and_parts}
 use Rattle.std.specs.Cmp.Lexicographic.{pointwise}
 use Rattle.std.specs.String.{string_eq}
@@ -11,7 +12,9 @@ use Rattle.pg_types.specs.declared.types.Inner.{Inner, BuiltIn, Other'}
 use Rattle.pg_types.specs.declared.types.kind.Field.{Field}
 use Rattle.pg_types.specs.declared.types.kind.KindRef.{KindRef}
 use Rattle.pg_types.specs.declared.types.kind.KindRef.TheVariants as view
-use Rattle.pg_types.specs.declared.types.kind.Kind.{Kind, out-Kind, Simple, Enum, Pseudo, Array', Range', Multirange', Domain', Composite', Row_of-Field, end_of-Field, more_of-Field, items-the_row-Field, items_shown-the_row-Field-0}
+use Rattle.pg_types.specs.declared.types.kind.Kind.{Kind, out-Kind, Simple, Enum, Pseudo, Array', Range'}
+use Rattle.pg_types.specs.declared.types.kind.Kind.{Multirange', Domain', Composite', Row_of-Field, end_of-Field}
+use Rattle.pg_types.specs.declared.types.kind.Kind.{more_of-Field, items-the_row-Field, items_shown-the_row-Field-0}
 use Rattle.pg_types.specs.contracts.types.PgTypePartialEq.TheImpl.{ghosts as types}
 use Rattle.pg_types.specs.contracts.types.InnerPartialEq.TheImpl.{ghosts as inners}
 use Rattle.pg_types.specs.contracts.types.kind.KindPartialEq.TheImpl.{ghosts as kinds}
@@ -30,12 +33,15 @@ use Rattle.pg_types.specs.contracts.types.kind.KindHash.TheImpl.Laws as kind_has
 use Rattle.pg_types.specs.contracts.types.kind.FieldHash.TheImpl.Laws as field_hash_laws
 use Rattle.pg_types.specs.contracts.types.kind.KindRefHash.TheImpl.{ghosts as view_hashes}
 use Rattle.pg_types.specs.contracts.types.kind.KindRefHash.TheImpl.Laws as view_hash_laws
-use Rattle.pg_types.specs.Content.{Content, SameField, content, field_name, field_type, fields_content, inner_content, kind_content, row_content, same_fields, same_kind_content, same_type}
+use Rattle.pg_types.specs.Content.{Content, SameField, content, field_name, field_type, fields_content}
+use Rattle.pg_types.specs.Content.{inner_content, kind_content, row_content, same_fields, same_kind_content}
+use Rattle.pg_types.specs.Content.{same_type}
 use Rattle.pg_types.specs.KindRefs.{kind_ref_view}
 use Rattle.pg_types.proofs.Contents.{bytes-same, bytes-self, eq-rows, kind-same, kind-self, type-same, type-self}
 
 -- lists of strings are compared by their texts
-strings : (xs ys : List (String Global)) → pointwise string_eq xs ys ≡ pointwise (pointwise ◌==◌) (map string_bytes xs) (map string_bytes ys)
+strings : (xs ys : List (String Global)) → pointwise string_eq xs ys
+    ≡ pointwise (pointwise ◌==◌) (map string_bytes xs) (map string_bytes ys)
 strings [] [] = refl
 strings [] (y ∷ ys) = refl
 strings (x ∷ xs) [] = refl
@@ -48,7 +54,10 @@ mutual
   eq-inner : (a b : Inner) → inners.eq a b ≡ same_type (inner_content a) (inner_content b)
   eq-inner (BuiltIn x) (BuiltIn y) = inner_laws.is (BuiltIn x) (BuiltIn y) ∙ eq-rows x y
   eq-inner (Other' p n o k s) (Other' q m i l t) =
-      inner_laws.is (Other' p n o k s) (Other' q m i l t) ∙ other_laws.is (record { name = n; oid = o; kind = k; schema = s }) (record { name = m; oid = i; kind = l; schema = t }) ∙ ap (λ b. string_eq n m && (o == i && (b && string_eq s t))) (eq-kind k l)
+      inner_laws.is (Other' p n o k s) (Other' q m i l t)
+          ∙ other_laws.is (record { name = n; oid = o; kind = k; schema = s })
+          (record { name = m; oid = i; kind = l; schema = t })
+          ∙ ap (λ b. string_eq n m && (o == i && (b && string_eq s t))) (eq-kind k l)
   eq-inner (BuiltIn x) (Other' q m i l t) = inner_laws.is (BuiltIn x) (Other' q m i l t)
   eq-inner a b = inner_laws.is a b
 
@@ -57,10 +66,14 @@ mutual
   eq-kind Simple Simple = kind_laws.is Simple Simple
   eq-kind (Enum z) (Enum y) = kind_laws.is (Enum z) (Enum y) ∙ strings z.items y.items
   eq-kind Pseudo Pseudo = kind_laws.is Pseudo Pseudo
-  eq-kind (Array' z) (Array' y) = kind_laws.is (Array' z) (Array' y) ∙ type_laws.is (record { inner = z }) (record { inner = y }) ∙ eq-inner z y
-  eq-kind (Range' z) (Range' y) = kind_laws.is (Range' z) (Range' y) ∙ type_laws.is (record { inner = z }) (record { inner = y }) ∙ eq-inner z y
-  eq-kind (Multirange' z) (Multirange' y) = kind_laws.is (Multirange' z) (Multirange' y) ∙ type_laws.is (record { inner = z }) (record { inner = y }) ∙ eq-inner z y
-  eq-kind (Domain' z) (Domain' y) = kind_laws.is (Domain' z) (Domain' y) ∙ type_laws.is (record { inner = z }) (record { inner = y }) ∙ eq-inner z y
+  eq-kind (Array' z) (Array' y) = kind_laws.is (Array' z) (Array' y)
+      ∙ type_laws.is (record { inner = z }) (record { inner = y }) ∙ eq-inner z y
+  eq-kind (Range' z) (Range' y) = kind_laws.is (Range' z) (Range' y)
+      ∙ type_laws.is (record { inner = z }) (record { inner = y }) ∙ eq-inner z y
+  eq-kind (Multirange' z) (Multirange' y) = kind_laws.is (Multirange' z) (Multirange' y)
+      ∙ type_laws.is (record { inner = z }) (record { inner = y }) ∙ eq-inner z y
+  eq-kind (Domain' z) (Domain' y) = kind_laws.is (Domain' z) (Domain' y)
+      ∙ type_laws.is (record { inner = z }) (record { inner = y }) ∙ eq-inner z y
   eq-kind (Composite' z r) (Composite' y s) =
       let e = items_shown-the_row-Field-0 z r in
       let f = items_shown-the_row-Field-0 y s in
@@ -69,13 +82,18 @@ mutual
   eq-kind a b = kind_laws.is a b
 
   -- == of the fields of two composite kinds
-  eq-row : {m n : Count} (r : Row_of-Field m) (s : Row_of-Field n) → pointwise fields.eq (items-the_row-Field m r) (items-the_row-Field n s) ≡ same_fields (row_content r) (row_content s)
+  eq-row : {m n : Count} (r : Row_of-Field m) (s : Row_of-Field n)
+      → pointwise fields.eq (items-the_row-Field m r) (items-the_row-Field n s)
+      ≡ same_fields (row_content r) (row_content s)
   eq-row end_of-Field end_of-Field = refl
   eq-row end_of-Field (more_of-Field m u q) = refl
   eq-row (more_of-Field n t r) end_of-Field = refl
   eq-row (more_of-Field n t r) (more_of-Field m u q) =
-      let f : fields.eq (record { name = n; type_ = record { inner = t } }) (record { name = m; type_ = record { inner = u } }) ≡ (pointwise ◌==◌ (string_bytes n) (string_bytes m) && same_type (inner_content t) (inner_content u)) =
-      field_laws.is _ _ ∙ ap (λ b. string_eq n m && b) (type_laws.is (record { inner = t }) (record { inner = u }) ∙ eq-inner t u) in
+      let f : fields.eq (record { name = n; type_ = record { inner = t } })
+          (record { name = m; type_ = record { inner = u } })
+          ≡ (pointwise ◌==◌ (string_bytes n) (string_bytes m) && same_type (inner_content t) (inner_content u)) =
+      field_laws.is _ _ ∙ ap (λ b. string_eq n m && b)
+          (type_laws.is (record { inner = t }) (record { inner = u }) ∙ eq-inner t u) in
       let e = eq-row r q in cc
 
 -- what == of two types answers
@@ -96,10 +114,12 @@ same_kind_from_eq a b h = kind-same _ _ (sym (eq-kind a b) ∙ h)
 
 -- kinds that stand for the same are equal
 pub eq_from_same_kind : (a b : Kind) → kind_content a ≡ kind_content b → kinds.eq a b ≡ true
-eq_from_same_kind a b h = eq-kind a b ∙ ap (λ k. same_kind_content (kind_content a) k) (sym h) ∙ kind-self (kind_content a)
+eq_from_same_kind a b h = eq-kind a b ∙ ap (λ k. same_kind_content (kind_content a) k) (sym h)
+    ∙ kind-self (kind_content a)
 
 -- what == of two fields answers
-pub eq_field_content : (a b : Field) → fields.eq a b ≡ (pointwise ◌==◌ (field_name a) (field_name b) && same_type (content (field_type a)) (content (field_type b)))
+pub eq_field_content : (a b : Field) → fields.eq a b
+    ≡ (pointwise ◌==◌ (field_name a) (field_name b) && same_type (content (field_type a)) (content (field_type b)))
 eq_field_content a b = field_laws.is a b ∙ ap (λ c. string_eq a.name b.name && c) (eq_content a.type_ b.type_)
 
 -- equal fields have one name and one type
@@ -143,14 +163,16 @@ kind_ref_from_eq a b h = kind-same _ _ (sym (eq_kind_ref_view a b) ∙ h)
 
 -- views that stand for the same are equal
 pub eq_from_kind_ref : (a b : KindRef) → kind_ref_view a ≡ kind_ref_view b → views.eq a b ≡ true
-eq_from_kind_ref a b h = eq_kind_ref_view a b ∙ ap (λ k. same_kind_content (kind_ref_view a) k) (sym h) ∙ kind-self (kind_ref_view a)
+eq_from_kind_ref a b h = eq_kind_ref_view a b ∙ ap (λ k. same_kind_content (kind_ref_view a) k) (sym h)
+    ∙ kind-self (kind_ref_view a)
 
 -- types that stand for the same are hashed alike
 pub hash_from_same : (a b : PgType) → content a ≡ content b → type_hashes.hash_input a ≡ type_hashes.hash_input b
 hash_from_same a b h = type_hash_laws.respects_eq-law a b (eq_from_same a b h)
 
 -- kinds that stand for the same are hashed alike
-pub hash_from_same_kind : (a b : Kind) → kind_content a ≡ kind_content b → kind_hashes.hash_input a ≡ kind_hashes.hash_input b
+pub hash_from_same_kind : (a b : Kind) → kind_content a ≡ kind_content b → kind_hashes.hash_input a
+    ≡ kind_hashes.hash_input b
 hash_from_same_kind a b h = kind_hash_laws.respects_eq-law a b (eq_from_same_kind a b h)
 
 -- fields of one name and one type are hashed alike
@@ -158,5 +180,6 @@ pub hash_from_same_field : (a b : Field) → SameField a b → field_hashes.hash
 hash_from_same_field a b h = field_hash_laws.respects_eq-law a b (eq_from_same_field a b h)
 
 -- views that stand for the same are hashed alike
-pub hash_from_same_kind_ref : (a b : KindRef) → kind_ref_view a ≡ kind_ref_view b → view_hashes.hash_input a ≡ view_hashes.hash_input b
+pub hash_from_same_kind_ref : (a b : KindRef) → kind_ref_view a ≡ kind_ref_view b → view_hashes.hash_input a
+    ≡ view_hashes.hash_input b
 hash_from_same_kind_ref a b h = view_hash_laws.respects_eq-law a b (eq_from_kind_ref a b h)

@@ -1,7 +1,18 @@
 -- The table of the built-in types, row by row.
 use Rattle.std.specs.Prelude.{ℕ, List, codes, Option, Some, None}
 use Rattle.pg_types.specs.declared.types.built_in.BuiltIn.{BuiltIn as Row}
-use Rattle.pg_types.specs.declared.types.built_in.BuiltIn.TheVariants.{Bool, Bytea, Char, Name, Int8, Int2, Int2Vector, Int4, Text, Oid, OidVector, Json, JsonArray, Cidr, CidrArray, Unknown, Macaddr, Inet, BoolArray, ByteaArray, CharArray, NameArray, Int2Array, Int4Array, TextArray, BpcharArray, VarcharArray, Int8Array, OidArray, MacaddrArray, InetArray, Bpchar, Varchar, Date, Time, Timestamp, TimestampArray, DateArray, TimeArray, Timestamptz, TimestamptzArray, Bit, BitArray, Varbit, VarbitArray, Uuid, UuidArray, PgLsn, PgLsnArray, Jsonb, JsonbArray}
+use Rattle.pg_types.specs.declared.types.built_in.BuiltIn.TheVariants.{Bool, Bytea, Char, Name, Int8, Int2}
+use Rattle.pg_types.specs.declared.types.built_in.BuiltIn.TheVariants.{Int2Vector, Int4, Text, Oid, OidVector, Json}
+use Rattle.pg_types.specs.declared.types.built_in.BuiltIn.TheVariants.{JsonArray, Cidr, CidrArray, Unknown, Macaddr}
+use Rattle.pg_types.specs.declared.types.built_in.BuiltIn.TheVariants.{Inet, BoolArray, ByteaArray, CharArray}
+use Rattle.pg_types.specs.declared.types.built_in.BuiltIn.TheVariants.{NameArray, Int2Array, Int4Array, TextArray}
+use Rattle.pg_types.specs.declared.types.built_in.BuiltIn.TheVariants.{BpcharArray, VarcharArray, Int8Array}
+use Rattle.pg_types.specs.declared.types.built_in.BuiltIn.TheVariants.{OidArray, MacaddrArray, InetArray, Bpchar}
+use Rattle.pg_types.specs.declared.types.built_in.BuiltIn.TheVariants.{Varchar, Date, Time, Timestamp}
+use Rattle.pg_types.specs.declared.types.built_in.BuiltIn.TheVariants.{TimestampArray, DateArray, TimeArray}
+use Rattle.pg_types.specs.declared.types.built_in.BuiltIn.TheVariants.{Timestamptz, TimestamptzArray, Bit, BitArray}
+use Rattle.pg_types.specs.declared.types.built_in.BuiltIn.TheVariants.{Varbit, VarbitArray, Uuid, UuidArray, PgLsn}
+use Rattle.pg_types.specs.declared.types.built_in.BuiltIn.TheVariants.{PgLsnArray, Jsonb, JsonbArray}
 
 -- the OID of a row
 abbrev pub row_oid : Row → ℕ

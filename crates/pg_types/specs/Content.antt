@@ -1,12 +1,14 @@
 -- What a Postgres type is: a row of the table of built-in types, or a user-defined type.
-use Rattle.std.specs.Prelude.{◌≡◌, ℕ, List, [], ◌∷◌, string_bytes, map, Bool, true, false, ◌==◌, ◌&&◌, ◌||◌, ◌++◌, codes, if◌then◌else◌}
+use Rattle.std.specs.Prelude.{◌≡◌, ℕ, List, [], ◌∷◌, string_bytes, map, Bool, true, false, ◌==◌, ◌&&◌, ◌||◌, ◌++◌}
+use Rattle.std.specs.Prelude.{codes, if◌then◌else◌}
 use Rattle.std.specs.Option.{option_map_or}
 use Rattle.std.specs.Cmp.Lexicographic.{pointwise}
 use Rattle.pg_types.specs.declared.types.built_in.BuiltIn.{BuiltIn as Row}
 use Rattle.pg_types.specs.declared.types.PgType.{PgType}
 use Rattle.pg_types.specs.declared.types.Inner.{Inner, BuiltIn, Other'}
 use Rattle.pg_types.specs.declared.types.kind.Field.{Field}
-use Rattle.pg_types.specs.declared.types.kind.Kind.{Kind, Simple, Enum, Pseudo, Array', Range', Multirange', Domain', Composite', Row_of-Field, end_of-Field, more_of-Field}
+use Rattle.pg_types.specs.declared.types.kind.Kind.{Kind, Simple, Enum, Pseudo, Array', Range', Multirange'}
+use Rattle.pg_types.specs.declared.types.kind.Kind.{Domain', Composite', Row_of-Field, end_of-Field, more_of-Field}
 use Rattle.pg_types.specs.BuiltInRows.{row_oid, row_name, row_element}
 
 mutual
@@ -35,7 +37,8 @@ abbrev mutual
   -- what the inside of a type stands for
   pub inner_content : Inner → Content
   inner_content (BuiltIn row) = BuiltInType row
-  inner_content (Other' _ name oid kind schema) = UserDefinedType (string_bytes name) oid (kind_content kind) (string_bytes schema)
+  inner_content (Other' _ name oid kind schema) =
+      UserDefinedType (string_bytes name) oid (kind_content kind) (string_bytes schema)
 
   -- what a kind stands for
   pub kind_content : Kind → KindContent
@@ -121,7 +124,8 @@ IsBuiltIn (UserDefinedType _ _ _ _) = ⊥
 -- the text of a type: its name, after its schema and a dot unless that is `public` or `pg_catalog`
 abbrev pub type_text : Content → List ℕ
 type_text t =
-    if pointwise ◌==◌ (schema_of t) (codes "public") || pointwise ◌==◌ (schema_of t) (codes "pg_catalog") then name_of t else schema_of t ++ codes "." ++ name_of t
+    if pointwise ◌==◌ (schema_of t) (codes "public") || pointwise ◌==◌ (schema_of t)
+        (codes "pg_catalog") then name_of t else schema_of t ++ codes "." ++ name_of t
 
 -- the name of a field
 abbrev pub field_name : Field → List ℕ

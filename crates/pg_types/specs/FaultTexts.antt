@@ -18,4 +18,5 @@ was_null_text = codes "a Postgres value was `NULL`"
 -- what WrongType prints
 abbrev pub wrong_type_text : Content → List ℕ → List ℕ
 wrong_type_text ty rust =
-    codes "cannot convert between the Rust type `" ++ (rust ++ (codes "` and the Postgres type `" ++ (type_text ty ++ codes "`")))
+    codes "cannot convert between the Rust type `"
+        ++ (rust ++ (codes "` and the Postgres type `" ++ (type_text ty ++ codes "`")))

@@ -4,7 +4,10 @@ use Rattle.std.specs.Option.{option_map_or}
 use Rattle.pg_types.specs.Content.{Content}
 use Rattle.pg_types.specs.FaultTexts.{postgres_type, rust_name}
 use Rattle.pg_types.specs.declared.fault.Fault.{Fault}
-use Rattle.pg_types.specs.declared.fault.Fault.TheVariants.{Memory, WasNull, WrongType, Size, Utf8, Count, KeyLength, Dimensions, TooFew, Excess, Decode, Transmit, JsonVersion, TextVersion, JsonText, JsonNumber, Family, Netmask, AddressLength, HostBits, User}
+use Rattle.pg_types.specs.declared.fault.Fault.TheVariants.{Memory, WasNull, WrongType, Size, Utf8, Count}
+use Rattle.pg_types.specs.declared.fault.Fault.TheVariants.{KeyLength, Dimensions, TooFew, Excess, Decode, Transmit}
+use Rattle.pg_types.specs.declared.fault.Fault.TheVariants.{JsonVersion, TextVersion, JsonText, JsonNumber, Family}
+use Rattle.pg_types.specs.declared.fault.Fault.TheVariants.{Netmask, AddressLength, HostBits, User}
 
 -- a fault other than Memory, as plain data: which one it is, and the content of its fields
 pub data Refusal : Type 0 where

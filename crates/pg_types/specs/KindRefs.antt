@@ -2,8 +2,10 @@
 use Rattle.std.specs.Prelude.{string_bytes, map}
 use Rattle.std.specs.Cow.{cow_value}
 use Rattle.pg_types.specs.declared.types.kind.KindRef.{KindRef}
-use Rattle.pg_types.specs.declared.types.kind.KindRef.TheVariants.{Simple, Enum, Pseudo, Array, Range, Multirange, Domain, Composite}
-use Rattle.pg_types.specs.Content.{KindContent, SimpleKind, EnumKind, PseudoKind, ArrayKind, RangeKind, MultirangeKind, DomainKind, CompositeKind, content, fields_content}
+use Rattle.pg_types.specs.declared.types.kind.KindRef.TheVariants.{Simple, Enum, Pseudo, Array, Range, Multirange}
+use Rattle.pg_types.specs.declared.types.kind.KindRef.TheVariants.{Domain, Composite}
+use Rattle.pg_types.specs.Content.{KindContent, SimpleKind, EnumKind, PseudoKind, ArrayKind, RangeKind}
+use Rattle.pg_types.specs.Content.{MultirangeKind, DomainKind, CompositeKind, content, fields_content}
 
 -- what the view stands for, whether its parts are borrowed or owned
 abbrev pub kind_ref_view : KindRef → KindContent

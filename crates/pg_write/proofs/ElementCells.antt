@@ -1,5 +1,7 @@
 -- The cells of elements, one after another.
-use Rattle.std.proofs.Common.{◌≡◌, ◌<◌, ◌≤◌, ◌+◌, ◌++◌, ℕ, ℤ, List, [], ◌∷◌, length, map, take, drop, get_or, Vec, Global, Option, Some, None, IfSome, Ok, Err, true, cond, nat_le, refl, sym, ap, ◌∙◌, append_assoc, arith}
+use Rattle.std.proofs.Common.{◌≡◌, ◌<◌, ◌≤◌, ◌+◌, ◌++◌, ℕ, ℤ, List, [], ◌∷◌, length, map, take, drop, get_or, Vec}
+use Rattle.std.proofs.Common.{Global, Option, Some, None, IfSome, Ok, Err, true, cond, nat_le, refl, sym, ap, ◌∙◌}
+use Rattle.std.proofs.Common.{append_assoc, arith}
 use Rattle.std.specs.Bool.{⊤}
 use Rattle.std.proofs.lemmas.Bool.Decides.{nat_tests}
 use Rattle.std.proofs.lemmas.List.{take_more, take-append-drop}
@@ -10,17 +12,20 @@ use Rattle.pg_base.specs.Cells.{Cell}
 use Rattle.pg_types.specs.Content.{Content, oid_of}
 use Rattle.pg_types.specs.Faults.{Outcome, Refusal, transmit}
 use Rattle.pg_base.specs.ArrayTypes.{element_of}
-use Rattle.pg_write.specs.ArrayWriting.{element_cells, element_frame_cell, cons_cell, lower_bound_of, wire_array, wire_list, wire_by_element}
+use Rattle.pg_write.specs.ArrayWriting.{element_cells, element_frame_cell, cons_cell, lower_bound_of, wire_array}
+use Rattle.pg_write.specs.ArrayWriting.{wire_list, wire_by_element}
 
 -- a cell before others: all are there
-in_front_ok : (w : Wire) (r : Outcome (List Cell)) (cs : List Cell) → cons_cell w r ≡ Ok cs → (c : Cell) × (ds : List Cell) × (w ≡ Ok c) × (r ≡ Ok ds) × (cs ≡ c ∷ ds)
+in_front_ok : (w : Wire) (r : Outcome (List Cell)) (cs : List Cell) → cons_cell w r ≡ Ok cs → (c : Cell)
+    × (ds : List Cell) × (w ≡ Ok c) × (r ≡ Ok ds) × (cs ≡ c ∷ ds)
 in_front_ok (Err x) r cs e = let no : ⊥ = cc in absurd no
 in_front_ok (Ok c) (Err x) cs e = let no : ⊥ = cc in absurd no
 in_front_ok (Ok c) (Ok ds) cs e = (c, ds, refl, refl, cc)
 
 module _ {A : Type 0} (wire : A → Wire) where
   -- the cells of the first elements and those of the others
-  cells-append : (us vs : List A) (cs ds : List Cell) → element_cells wire us ≡ Ok cs → element_cells wire vs ≡ Ok ds → element_cells wire (us ++ vs) ≡ Ok (cs ++ ds)
+  cells-append : (us vs : List A) (cs ds : List Cell) → element_cells wire us ≡ Ok cs → element_cells wire vs ≡ Ok ds
+      → element_cells wire (us ++ vs) ≡ Ok (cs ++ ds)
   cells-append [] vs cs ds e f = let none : cs ≡ [] = cc in rw none f
   cells-append (u ∷ us) vs cs ds e f =
       let p = in_front_ok (element_frame_cell (wire u)) (element_cells wire us) cs e in
@@ -28,7 +33,8 @@ module _ {A : Type 0} (wire : A → Wire) where
       ∙ ap (λ w. cons_cell w (Ok (p.1 ++ ds))) p.2 ∙ ap (λ ws. Ok (ws ++ ds)) (sym p.4)
 
   -- the first fault is that of the others where the first elements have none
-  cells-fault : (us vs : List A) (cs : List Cell) (r : Refusal) → element_cells wire us ≡ Ok cs → element_cells wire vs ≡ Err r → element_cells wire (us ++ vs) ≡ Err r
+  cells-fault : (us vs : List A) (cs : List Cell) (r : Refusal) → element_cells wire us ≡ Ok cs → element_cells wire vs
+      ≡ Err r → element_cells wire (us ++ vs) ≡ Err r
   cells-fault [] vs cs r e f = f
   cells-fault (u ∷ us) vs cs r e f =
       let p = in_front_ok (element_frame_cell (wire u)) (element_cells wire us) cs e in
@@ -39,40 +45,51 @@ module _ {A : Type 0} (wire : A → Wire) where
     more = take_more vs i v h ∙ ap (λ u. take i vs ++ u ∷ []) (sym is)
 
     whole : vs ≡ take i vs ++ (v ∷ drop (i + 1) vs)
-    whole = sym (take-append-drop (i + 1) vs) ∙ ap (λ us. us ++ drop (i + 1) vs) more ∙ append_assoc (take i vs) (v ∷ []) (drop (i + 1) vs)
+    whole = sym (take-append-drop (i + 1) vs) ∙ ap (λ us. us ++ drop (i + 1) vs) more
+        ∙ append_assoc (take i vs) (v ∷ []) (drop (i + 1) vs)
 
     -- one more element has a cell
-    pub next_cell : (cs : List Cell) (c : Cell) → element_cells wire (take i vs) ≡ Ok cs → element_frame_cell (wire v) ≡ Ok c → element_cells wire (take (i + 1) vs) ≡ Ok (cs ++ c ∷ [])
+    pub next_cell : (cs : List Cell) (c : Cell) → element_cells wire (take i vs) ≡ Ok cs → element_frame_cell (wire v)
+        ≡ Ok c → element_cells wire (take (i + 1) vs) ≡ Ok (cs ++ c ∷ [])
     next_cell cs c so_far next =
         let one : element_cells wire (v ∷ []) ≡ Ok (c ∷ []) = rw next refl in
         ap (element_cells wire) more ∙ cells-append (take i vs) (v ∷ []) cs (c ∷ []) so_far one
 
     -- the next element has none
-    pub next_fault : (cs : List Cell) (r : Refusal) → element_cells wire (take i vs) ≡ Ok cs → element_frame_cell (wire v) ≡ Err r → element_cells wire vs ≡ Err r
+    pub next_fault : (cs : List Cell) (r : Refusal) → element_cells wire (take i vs) ≡ Ok cs
+        → element_frame_cell (wire v) ≡ Err r → element_cells wire vs ≡ Err r
     next_fault cs r so_far next =
         let others : element_cells wire (v ∷ drop (i + 1) vs) ≡ Err r = rw next refl in
         ap (element_cells wire) whole ∙ cells-fault (take i vs) (v ∷ drop (i + 1) vs) cs r so_far others
 
-    pub next_refusal : (cs : List Cell) (refusal : Option Refusal) → element_cells wire (take i vs) ≡ Ok cs → IfSome refusal (λ r. element_frame_cell (wire v) ≡ Err r) → IfSome refusal (λ r. element_cells wire vs ≡ Err r)
+    pub next_refusal : (cs : List Cell) (refusal : Option Refusal) → element_cells wire (take i vs) ≡ Ok cs
+        → IfSome refusal (λ r. element_frame_cell (wire v) ≡ Err r)
+        → IfSome refusal (λ r. element_cells wire vs ≡ Err r)
     next_refusal cs None so_far next = tt
     next_refusal cs (Some r) so_far next = next_fault cs r so_far next
 
 -- what a list is written as, where its elements have cells
-pub list_written : {A : Type 0} (wire : Content → A → Wire) (ty element : Content) (vs : List A) (cs : List Cell) (b : List ℕ)
-    → element_of ty ≡ Some element → length vs ≤ 2147483647 → element_cells (wire element) vs ≡ Ok cs → array_bytes (lower_bound_of ty) (oid_of element) cs ≡ Some b
+pub list_written : {A : Type 0} (wire : Content → A → Wire) (ty element : Content) (vs : List A) (cs : List Cell)
+    (b : List ℕ)
+    → element_of ty ≡ Some element → length vs ≤ 2147483647 → element_cells (wire element) vs ≡ Ok cs
+        → array_bytes (lower_bound_of ty) (oid_of element) cs ≡ Some b
     → wire_list wire ty vs ≡ Ok (Some b)
 list_written wire ty element vs cs b element_is few cells bytes =
     let fits : nat_le (length vs) 2147483647 ≡ true = grind (arith, nat_tests) in
     ap (λ m. wire_by_element wire ty m vs) element_is
-    ∙ ap (λ t. cond t (wire_array (lower_bound_of ty) (oid_of element) (element_cells (wire element) vs)) (Err transmit)) fits
+    ∙ ap (λ t. cond t (wire_array (lower_bound_of ty) (oid_of element) (element_cells (wire element) vs))
+        (Err transmit)) fits
     ∙ ap (wire_array (lower_bound_of ty) (oid_of element)) cells ∙ ap wire_of bytes
 
 -- an appender that did not refuse had bytes to append
-pub had_bytes : {u : ⊤} (w : Option (List ℕ)) (old new : Filled) → Appends w old new (Ok u) → (b : List ℕ) × (w ≡ Some b) × (new.items ≡ old.items ++ b)
+pub had_bytes : {u : ⊤} (w : Option (List ℕ)) (old new : Filled) → Appends w old new (Ok u) → (b : List ℕ)
+    × (w ≡ Some b) × (new.items ≡ old.items ++ b)
 had_bytes None old new a = absurd a
 had_bytes (Some b) old new a = (b, refl, a.0)
 
 -- an array of the same parts
-pub same_array : (a z : ℤ) (m n : ℕ) (xs ys : List (Option (Vec ℕ Global))) → a ≡ z → m ≡ n → xs ≡ ys → array_bytes a m (map owned_cell xs) ≡ array_bytes z n (map owned_cell ys)
+pub same_array : (a z : ℤ) (m n : ℕ) (xs ys : List (Option (Vec ℕ Global))) → a ≡ z → m ≡ n → xs ≡ ys
+    → array_bytes a m (map owned_cell xs) ≡ array_bytes z n (map owned_cell ys)
 same_array a z m n xs ys e f g =
-    ap (λ x. array_bytes x m (map owned_cell xs)) e ∙ ap (λ x. array_bytes z x (map owned_cell xs)) f ∙ ap (λ x. array_bytes z n (map owned_cell x)) g
+    ap (λ x. array_bytes x m (map owned_cell xs)) e ∙ ap (λ x. array_bytes z x (map owned_cell xs)) f
+        ∙ ap (λ x. array_bytes z n (map owned_cell x)) g

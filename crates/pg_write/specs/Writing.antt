@@ -1,5 +1,6 @@
 -- What a value is written as, and what a write leaves in the buffer.
-use Rattle.std.specs.Prelude.{◌≡◌, ℕ, ◌<◌, List, ◌++◌, length, Bool, true, false, Some, None, Result, Ok, Err, IfSome, IfNone}
+use Rattle.std.specs.Prelude.{◌≡◌, ℕ, ◌<◌, List, ◌++◌, length, Bool, true, false, Some, None, Result, Ok, Err}
+use Rattle.std.specs.Prelude.{IfSome, IfNone}
 use Rattle.pg_base.specs.Appending.{Wire}
 use Rattle.pg_types.specs.Content.{Content}
 use Rattle.pg_types.specs.Faults.{refusal_of, wrong_type}

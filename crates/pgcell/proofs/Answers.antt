@@ -9,16 +9,21 @@ use Rattle.pgcell.specs.Run.{Answered, GainsAnswers, WritesAnswers, WritesPart}
 pub answered-append : (a b : List (List ℕ)) (x y : List ℕ) → Answered a x → Answered b y → Answered (a ++ b) (x ++ y)
 answered-append [] b x y p q = subst (Answered b) (sym (ap (λ (l : List ℕ). l ++ y) p)) q
 answered-append (line ∷ a) b x y p q =
-    (p.0, p.1 ++ y, p.2, ap (λ (l : List ℕ). l ++ y) p.3 ∙ append_assoc p.0 (10 ∷ p.1) y, answered-append a b p.1 y p.4 q)
+    (p.0, p.1 ++ y, p.2, ap (λ (l : List ℕ). l ++ y) p.3
+        ∙ append_assoc p.0 (10 ∷ p.1) y, answered-append a b p.1 y p.4 q)
 
 -- an answer and byte 10 were put after what was there
-pub gains_one : (line answer old mid new : List ℕ) → Answer line answer → mid ≡ old ++ answer → new ≡ mid ++ 10 ∷ [] → GainsAnswers (line ∷ []) old new
+pub gains_one : (line answer old mid new : List ℕ) → Answer line answer → mid ≡ old ++ answer → new ≡ mid ++ 10 ∷ []
+    → GainsAnswers (line ∷ []) old new
 gains_one line answer old mid new p e f =
-    (answer ++ 10 ∷ [], (answer, [], p, refl, refl), f ∙ ap (λ (l : List ℕ). l ++ 10 ∷ []) e ∙ append_assoc old answer (10 ∷ []))
+    (answer ++ 10 ∷ [], (answer, [], p, refl, refl), f ∙ ap (λ (l : List ℕ). l ++ 10 ∷ []) e
+        ∙ append_assoc old answer (10 ∷ []))
 
-pub gains_more : (a b : List (List ℕ)) (old mid new : List ℕ) → GainsAnswers a old mid → GainsAnswers b mid new → GainsAnswers (a ++ b) old new
+pub gains_more : (a b : List (List ℕ)) (old mid new : List ℕ) → GainsAnswers a old mid → GainsAnswers b mid new
+    → GainsAnswers (a ++ b) old new
 gains_more a b old mid new p q =
-    (p.0 ++ q.0, answered-append a b p.0 q.0 p.1 q.1, q.2 ∙ ap (λ (l : List ℕ). l ++ q.0) p.2 ∙ append_assoc old p.0 q.0)
+    (p.0 ++ q.0, answered-append a b p.0 q.0 p.1 q.1, q.2 ∙ ap (λ (l : List ℕ). l ++ q.0) p.2
+        ∙ append_assoc old p.0 q.0)
 
 -- what was put after nothing is the answers
 pub gained : (lines : List (List ℕ)) (old new : List ℕ) → GainsAnswers lines old new → old ≡ [] → Answered lines new
@@ -27,11 +32,13 @@ gained lines old new p none = subst (Answered lines) (sym (p.2 ∙ ap (λ (l : L
 pub writes_none : (o : Option (List ℕ)) → WritesAnswers [] o o
 writes_none o = ([], refl, Appends-nil o)
 
-pub writes_more : (a b : List (List ℕ)) (o n m : Option (List ℕ)) → WritesAnswers a o n → WritesAnswers b n m → WritesAnswers (a ++ b) o m
+pub writes_more : (a b : List (List ℕ)) (o n m : Option (List ℕ)) → WritesAnswers a o n → WritesAnswers b n m
+    → WritesAnswers (a ++ b) o m
 writes_more a b o n m p q = (p.0 ++ q.0, answered-append a b p.0 q.0 p.1 q.1, Appends-trans o n m _ _ p.2 q.2)
 
 -- a beginning after whole answers
-pub writes_part : (a b : List (List ℕ)) (o n m : Option (List ℕ)) → WritesAnswers a o n → WritesPart b n m → WritesPart (a ++ b) o m
+pub writes_part : (a b : List (List ℕ)) (o n m : Option (List ℕ)) → WritesAnswers a o n → WritesPart b n m
+    → WritesPart (a ++ b) o m
 writes_part a b o n m p q = (
   p.0 ++ q.0,
   length p.0 + q.1,

@@ -1,5 +1,6 @@
 -- Lines, and what is taken of them.
-use Rattle.std.proofs.Common.{arith, length, ◌≡◌, ℕ, List, [], ◌∷◌, ◌++◌, refl, sym, ap, ◌∙◌, append_assoc, if◌then◌else◌}
+use Rattle.std.proofs.Common.{arith, length, ◌≡◌, ℕ, List, [], ◌∷◌, ◌++◌, refl, sym, ap, ◌∙◌, append_assoc}
+use Rattle.std.proofs.Common.{if◌then◌else◌}
 use Rattle.pgcell.specs.Lines.{lines_of, onto, IsOneLine}
 use Rattle.pgcell.specs.Run.{GainsAnswers, TakesLines, TakesSome}
 use Rattle.pgcell.proofs.Answers.{gains_more}
@@ -38,10 +39,13 @@ takes_some xs line old new t = (t.0, λ more. (lines_of (line ++ more), t.1 more
 
 -- the next line is taken
 pub takes_next : (xs line last after old mid new : List ℕ) → IsOneLine line → IsOneLine last
-    → TakesLines xs (line ++ (last ++ 10 ∷ after)) old mid → GainsAnswers ((line ++ last) ∷ []) mid new → TakesLines xs after old new
+    → TakesLines xs (line ++ (last ++ 10 ∷ after)) old mid → GainsAnswers ((line ++ last) ∷ []) mid new
+        → TakesLines xs after old new
 takes_next xs line last after old mid new p q t g =
-    let next : (more : List ℕ) → lines_of ((line ++ (last ++ 10 ∷ after)) ++ more) ≡ (line ++ last) ∷ lines_of (after ++ more)
-    = λ more. ap lines_of (simp append_assoc) ∙ lines_of-line (line ++ last) (after ++ more) (one_line-append line last p q) in (
+    let next : (more : List ℕ) → lines_of ((line ++ (last ++ 10 ∷ after)) ++ more) ≡ (line ++ last)
+        ∷ lines_of (after ++ more)
+    = λ more. ap lines_of (simp append_assoc)
+        ∙ lines_of-line (line ++ last) (after ++ more) (one_line-append line last p q) in (
       t.0 ++ (line ++ last) ∷ [],
       λ more. t.1 more ∙ ap (λ l. t.0 ++ l) (next more) ∙ sym (append_assoc t.0 _ _),
       gains_more t.0 _ old mid new t.2 g,

@@ -1,5 +1,6 @@
 -- What is known of a result after it was asked whether it is an error.
-use Rattle.std.proofs.Common.{◌≡◌, Result, Ok, Err, OnOk, OnErr, IfErr, IsErrAnd, is_ok, is_err, true, false, if◌then◌else◌}
+use Rattle.std.proofs.Common.{◌≡◌, Result, Ok, Err, OnOk, OnErr, IfErr, IsErrAnd, is_ok, is_err, true, false}
+use Rattle.std.proofs.Common.{if◌then◌else◌}
 
 pub on_err : {A E : Type 0} (r : Result A E) (P : Type 0) → P → OnErr r P
 on_err (Ok x) P p = tt
@@ -21,7 +22,8 @@ pub err_always : {T E : Type 0} {P : E → Type 0} (r : Result T E) → ((e : E)
 err_always (Ok x) f = tt
 err_always (Err e) f = f e
 
-pub ok_branch : {T E A : Type 0} (r : Result T E) (a b new : A) → new ≡ (if is_ok r then a else b) → false ≡ is_err r → new ≡ a
+pub ok_branch : {T E A : Type 0} (r : Result T E) (a b new : A) → new ≡ (if is_ok r then a else b) → false ≡ is_err r
+    → new ≡ a
 ok_branch (Ok x) a b new is e = is
 ok_branch (Err y) a b new is e = let bad : ⊥ = cc in absurd bad
 

@@ -1,5 +1,6 @@
 -- What a line asks for.
-use Rattle.std.specs.Prelude.{ℕ, ◌==◌, ◌&&◌, ◌^◌, List, [], length, Option, Some, None, option_map, option_and_then, Result, Ok, Err, if◌then◌else◌, codes, nat_lt, Vec}
+use Rattle.std.specs.Prelude.{ℕ, ◌==◌, ◌&&◌, ◌^◌, List, [], length, Option, Some, None, option_map, option_and_then}
+use Rattle.std.specs.Prelude.{Result, Ok, Err, if◌then◌else◌, codes, nat_lt, Vec}
 use Rattle.std.specs.Global.{Global}
 use Rattle.std.specs.Str.{all_ascii_digits, is_utf8}
 use Rattle.std.specs.Str.Parse.{digits_value}
@@ -29,7 +30,8 @@ cell_of_word word =
 -- the OID that 1 to 10 decimal digits write, at most 4294967295
 abbrev pub oid_of_word : List ℕ → Option ℕ
 oid_of_word word =
-    if all_ascii_digits word && (nat_lt 0 (length word) && (nat_lt (length word) 11 && nat_lt (digits_value 10 word) (2 ^ 32)))
+    if all_ascii_digits word && (nat_lt 0 (length word) &&
+        (nat_lt (length word) 11 && nat_lt (digits_value 10 word) (2 ^ 32)))
     then Some (digits_value 10 word)
     else None
 
@@ -42,7 +44,8 @@ pub data Asked : Type 0 where
 -- `norm NAME CELL`
 abbrev pub norm_of : List ℕ → Option Asked
 norm_of words =
-    option_and_then (λ parts. option_and_then (λ name. option_map (norm name) (cell_of_word parts.1)) (name_of parts.0)) (split 32 words)
+    option_and_then (λ parts. option_and_then (λ name. option_map (norm name) (cell_of_word parts.1))
+        (name_of parts.0)) (split 32 words)
 
 -- `lsn TEXT`, the whole rest of the line, which is UTF-8
 abbrev pub lsn_of_text : List ℕ → Option Asked

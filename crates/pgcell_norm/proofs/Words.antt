@@ -1,5 +1,6 @@
 -- Lemmas on which words are names.
-use Rattle.std.proofs.Common.{◌≡◌, ℕ, List, Bool, true, false, ◌&&◌, Option, Some, None, IsUtf8, if◌then◌else◌, ap, refl, sym, ◌∙◌}
+use Rattle.std.proofs.Common.{◌≡◌, ℕ, List, Bool, true, false, ◌&&◌, Option, Some, None, IsUtf8, if◌then◌else◌, ap}
+use Rattle.std.proofs.Common.{refl, sym, ◌∙◌}
 use Rattle.std.specs.Str.{is_utf8}
 use Rattle.std.proofs.lemmas.Str.{IsUtf8-from_is_utf8, is_utf8-from_IsUtf8}
 use Rattle.pgcell_norm.specs.BaseNames.{entry_of, has_form}
@@ -23,7 +24,8 @@ not_first y true b h = absurd (h refl)
 not_first y false b h = refl
 
 -- a base name, as it was read from a word
-pub a_name : (base text : List ℕ) (form : Form) (known : Bool) → text ≡ base → IsUtf8 base → known ≡ has_form (entry_of text) form → known ≡ true
+pub a_name : (base text : List ℕ) (form : Form) (known : Bool) → text ≡ base → IsUtf8 base → known
+    ≡ has_form (entry_of text) form → known ≡ true
     → ◌≡◌ {A = Option (List ℕ × Form)} (Some (text, form)) (name_if (base, form))
 a_name base text form known same utf8 e f =
     both text base form (is_utf8 base) (has_form (entry_of base) form) (is_utf8-from_IsUtf8 base utf8)

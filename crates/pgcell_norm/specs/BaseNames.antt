@@ -9,7 +9,8 @@ use Rattle.std.specs.declared.hash.BuildHasherDefault.{BuildHasherDefault}
 use Rattle.std.specs.declared.hash.FoldHasher.{FoldHasher}
 use Rattle.postgres_types.specs.Bits.{ReadsBits, wire_bits}
 use Rattle.postgres_types.specs.Bytea.{ReadsBytes, wire_bytes}
-use Rattle.postgres_types.specs.Civil.{ReadsDate, ReadsDateTime, ReadsInstant, ReadsTime, wire_date, wire_datetime, wire_instant, wire_time}
+use Rattle.postgres_types.specs.Civil.{ReadsDate, ReadsDateTime, ReadsInstant, ReadsTime, wire_date, wire_datetime}
+use Rattle.postgres_types.specs.Civil.{wire_instant, wire_time}
 use Rattle.postgres_types.specs.Hstore.{ReadsHstore, owned_entry, wire_hstore}
 use Rattle.postgres_types.specs.FixedBytes.{ReadsFixedBytes, wire_fixed_bytes}
 use Rattle.postgres_types.specs.Timestamps.{ReadsTimestamp, nanos_of, wire_timestamp}
@@ -17,7 +18,27 @@ use Rattle.postgres_types.specs.Network.{ReadsAddress, ReadsCidr, ReadsInet, wir
 use Rattle.postgres_types.specs.Numbers.{ReadsBool, ReadsSigned, ReadsUnsigned, wire_bool, wire_signed, wire_unsigned}
 use Rattle.postgres_types.specs.Special.{ReadsSpecial, date_view, timestamp_view, wire_special}
 use Rattle.pg_types.specs.declared.types.built_in.BuiltIn.{BuiltIn as Row}
-use Rattle.pg_types.specs.declared.types.built_in.BuiltIn.TheVariants.{Bool as BoolRow, BoolArray, Char as CharRow, CharArray, Int2 as Int2Row, Int2Array, Int4 as Int4Row, Int4Array, Int8 as Int8Row, Int8Array, Oid as OidRow, OidArray, Text as TextRow, TextArray, Varchar as VarcharRow, VarcharArray, Bpchar as BpcharRow, BpcharArray, Name as NameRow, NameArray, Bytea as ByteaRow, ByteaArray, Bit as BitRow, BitArray, Varbit as VarbitRow, VarbitArray, Inet as InetRow, InetArray, Cidr as CidrRow, CidrArray, Macaddr as MacaddrRow, MacaddrArray, Uuid as UuidRow, UuidArray, PgLsn as PgLsnRow, PgLsnArray, Date as DateRow, DateArray, Time as TimeRow, TimeArray, Timestamp as TimestampRow, TimestampArray, Timestamptz as TimestamptzRow, TimestamptzArray, Unknown as UnknownRow, Int2Vector as Int2VectorRow, OidVector as OidVectorRow}
+use Rattle.pg_types.specs.declared.types.built_in.BuiltIn.TheVariants.{Bool as BoolRow, BoolArray, Char as CharRow}
+use Rattle.pg_types.specs.declared.types.built_in.BuiltIn.TheVariants.{CharArray, Int2 as Int2Row, Int2Array}
+use Rattle.pg_types.specs.declared.types.built_in.BuiltIn.TheVariants.{Int4 as Int4Row, Int4Array, Int8 as Int8Row}
+use Rattle.pg_types.specs.declared.types.built_in.BuiltIn.TheVariants.{Int8Array, Oid as OidRow, OidArray}
+use Rattle.pg_types.specs.declared.types.built_in.BuiltIn.TheVariants.{Text as TextRow, TextArray}
+use Rattle.pg_types.specs.declared.types.built_in.BuiltIn.TheVariants.{Varchar as VarcharRow, VarcharArray}
+use Rattle.pg_types.specs.declared.types.built_in.BuiltIn.TheVariants.{Bpchar as BpcharRow, BpcharArray}
+use Rattle.pg_types.specs.declared.types.built_in.BuiltIn.TheVariants.{Name as NameRow, NameArray}
+use Rattle.pg_types.specs.declared.types.built_in.BuiltIn.TheVariants.{Bytea as ByteaRow, ByteaArray, Bit as BitRow}
+use Rattle.pg_types.specs.declared.types.built_in.BuiltIn.TheVariants.{BitArray, Varbit as VarbitRow, VarbitArray}
+use Rattle.pg_types.specs.declared.types.built_in.BuiltIn.TheVariants.{Inet as InetRow, InetArray, Cidr as CidrRow}
+use Rattle.pg_types.specs.declared.types.built_in.BuiltIn.TheVariants.{CidrArray, Macaddr as MacaddrRow}
+use Rattle.pg_types.specs.declared.types.built_in.BuiltIn.TheVariants.{MacaddrArray, Uuid as UuidRow, UuidArray}
+use Rattle.pg_types.specs.declared.types.built_in.BuiltIn.TheVariants.{PgLsn as PgLsnRow, PgLsnArray}
+use Rattle.pg_types.specs.declared.types.built_in.BuiltIn.TheVariants.{Date as DateRow, DateArray, Time as TimeRow}
+use Rattle.pg_types.specs.declared.types.built_in.BuiltIn.TheVariants.{TimeArray, Timestamp as TimestampRow}
+use Rattle.pg_types.specs.declared.types.built_in.BuiltIn.TheVariants.{TimestampArray}
+use Rattle.pg_types.specs.declared.types.built_in.BuiltIn.TheVariants.{Timestamptz as TimestamptzRow}
+use Rattle.pg_types.specs.declared.types.built_in.BuiltIn.TheVariants.{TimestamptzArray, Unknown as UnknownRow}
+use Rattle.pg_types.specs.declared.types.built_in.BuiltIn.TheVariants.{Int2Vector as Int2VectorRow}
+use Rattle.pg_types.specs.declared.types.built_in.BuiltIn.TheVariants.{OidVector as OidVectorRow}
 use Rattle.pgcell_norm.specs.Forms.{has_type, same_word}
 use Rattle.pgcell_norm.specs.Rewritten.{ReadsVec, wire_vec, Rewriting, RewrittenAs, RewrittenPlain, RewrittenText}
 use Rattle.pgcell_norm.specs.declared.names.Form.{Form}
@@ -56,31 +77,43 @@ if base is name then this else others = cond (same_word base (codes name)) this 
 -- the entry of a base name that is no number's, text's, date's, time's or timestamp's
 unfoldable pub other_entry_of : List ℕ → Entry
 other_entry_of base =
-    if base is "bytea" then built_in ByteaRow ByteaArray (RewrittenPlain {A = Vec ℕ Global} (ReadsBytes (λ v. v.items)) (λ v. wire_bytes v.items))
+    if base is "bytea" then built_in ByteaRow ByteaArray
+        (RewrittenPlain {A = Vec ℕ Global} (ReadsBytes (λ v. v.items)) (λ v. wire_bytes v.items))
     else if base is "bit" then built_in BitRow BitArray (RewrittenPlain (ReadsBits (λ v. v)) wire_bits)
     else if base is "varbit" then built_in VarbitRow VarbitArray (RewrittenPlain (ReadsBits (λ v. v)) wire_bits)
     else if base is "inet" then built_in InetRow InetArray (RewrittenPlain ReadsInet wire_inet)
     else if base is "addr" then built_in InetRow InetArray (RewrittenPlain ReadsAddress wire_address)
     else if base is "cidr" then built_in CidrRow CidrArray (RewrittenPlain ReadsCidr wire_cidr)
-    else if base is "macaddr" then built_in MacaddrRow MacaddrArray (RewrittenPlain (ReadsFixedBytes 6) (wire_fixed_bytes 6))
+    else if base is "macaddr" then built_in MacaddrRow MacaddrArray
+        (RewrittenPlain (ReadsFixedBytes 6) (wire_fixed_bytes 6))
     else if base is "uuid" then built_in UuidRow UuidArray (RewrittenPlain (ReadsFixedBytes 16) (wire_fixed_bytes 16))
     else if base is "pg_lsn" then built_in PgLsnRow PgLsnArray (RewrittenPlain (ReadsUnsigned w64) (wire_unsigned w64))
-    else if base is "int2vector" then no_arrays (BuiltInType Int2VectorRow) (RewrittenAs (ReadsVec (λ _. ReadsSigned w16)) (wire_vec (λ _. wire_signed w16)))
-    else if base is "oidvector" then no_arrays (BuiltInType OidVectorRow) (RewrittenAs (ReadsVec (λ _. ReadsUnsigned w32)) (wire_vec (λ _. wire_unsigned w32)))
-    else if base is "hstore" then no_arrays (user_type "hstore" 100002) (RewrittenPlain {A = Map} ReadsHstore (λ m. wire_hstore (map owned_entry m.entries)))
+    else if base is "int2vector" then no_arrays (BuiltInType Int2VectorRow)
+        (RewrittenAs (ReadsVec (λ _. ReadsSigned w16)) (wire_vec (λ _. wire_signed w16)))
+    else if base is "oidvector" then no_arrays (BuiltInType OidVectorRow)
+        (RewrittenAs (ReadsVec (λ _. ReadsUnsigned w32)) (wire_vec (λ _. wire_unsigned w32)))
+    else if base is "hstore" then no_arrays (user_type "hstore" 100002)
+        (RewrittenPlain {A = Map} ReadsHstore (λ m. wire_hstore (map owned_entry m.entries)))
     else no_entry
 
 -- the same, also of a date, a time or a timestamp
 unfoldable pub timestamp_entry_of : List ℕ → Entry
 timestamp_entry_of base =
     if base is "date" then built_in DateRow DateArray (RewrittenPlain ReadsDate wire_date)
-    else if base is "date_inf" then built_in DateRow DateArray (RewrittenPlain (ReadsSpecial w32 date_view ReadsDate) (λ v. wire_special w32 wire_date (date_view v)))
+    else if base is "date_inf" then built_in DateRow DateArray
+        (RewrittenPlain (ReadsSpecial w32 date_view ReadsDate) (λ v. wire_special w32 wire_date (date_view v)))
     else if base is "time" then built_in TimeRow TimeArray (RewrittenPlain ReadsTime wire_time)
     else if base is "timestamp" then built_in TimestampRow TimestampArray (RewrittenPlain ReadsDateTime wire_datetime)
-    else if base is "timestamp_inf" then built_in TimestampRow TimestampArray (RewrittenPlain (ReadsSpecial w64 timestamp_view ReadsDateTime) (λ v. wire_special w64 wire_datetime (timestamp_view v)))
-    else if base is "timestamptz" then built_in TimestamptzRow TimestamptzArray (RewrittenPlain ReadsInstant wire_instant)
-    else if base is "unix" then built_in TimestampRow TimestampArray (RewrittenPlain (ReadsTimestamp nanos_of) (λ v. wire_timestamp (nanos_of v)))
-    else if base is "unix_inf" then built_in TimestampRow TimestampArray (RewrittenPlain (ReadsSpecial w64 timestamp_view (ReadsTimestamp nanos_of)) (λ v. wire_special w64 (λ u. wire_timestamp (nanos_of u)) (timestamp_view v)))
+    else if base is "timestamp_inf" then built_in TimestampRow TimestampArray
+        (RewrittenPlain (ReadsSpecial w64 timestamp_view ReadsDateTime)
+        (λ v. wire_special w64 wire_datetime (timestamp_view v)))
+    else if base is "timestamptz" then built_in TimestamptzRow TimestamptzArray
+        (RewrittenPlain ReadsInstant wire_instant)
+    else if base is "unix" then built_in TimestampRow TimestampArray
+        (RewrittenPlain (ReadsTimestamp nanos_of) (λ v. wire_timestamp (nanos_of v)))
+    else if base is "unix_inf" then built_in TimestampRow TimestampArray
+        (RewrittenPlain (ReadsSpecial w64 timestamp_view (ReadsTimestamp nanos_of))
+        (λ v. wire_special w64 (λ u. wire_timestamp (nanos_of u)) (timestamp_view v)))
     else other_entry_of base
 
 -- the entry of any base name, also of a number or a text

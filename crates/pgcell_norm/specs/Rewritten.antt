@@ -21,10 +21,12 @@ Rewriting = Form → Content → Cell → Wire → Type 0
 -- what a cell is rewritten to: its refusal, or the written form of the value that it reads as
 abbrev pub RewrittenTo : {A : Type 0} → (Cell → Outcome A → Type 0) → (A → Wire) → Cell → Wire → Type 0
 RewrittenTo {A} reads wire cell w =
-    ((refusal : Refusal) × reads cell (Err refusal) × (w ≡ Err refusal)) ⊎ ((value : A) × reads cell (Ok value) × (w ≡ wire value))
+    ((refusal : Refusal) × reads cell (Err refusal) × (w ≡ Err refusal))
+        ⊎ ((value : A) × reads cell (Ok value) × (w ≡ wire value))
 
 -- what an array's cell gives: a list of what its elements give by their type
-abbrev pub ReadsVec : {A : Type 0} → (Content → Cell → Outcome A → Type 0) → Content → Cell → Outcome (Vec A Global) → Type 0
+abbrev pub ReadsVec : {A : Type 0} → (Content → Cell → Outcome A → Type 0) → Content → Cell → Outcome (Vec A Global)
+    → Type 0
 ReadsVec reads ty = ReadsByElement (λ element. ReadsList (λ v. v.items) (reads element)) (element_of ty)
 
 -- what a list is written as
@@ -37,7 +39,8 @@ RewrittenAs reads wire Plain ty = RewrittenTo (reads ty) (wire ty)
 RewrittenAs reads wire Optional ty = RewrittenTo (ReadsOption (reads ty)) (wire_option (wire ty))
 RewrittenAs reads wire Array ty = RewrittenTo (ReadsVec reads ty) (wire_vec wire ty)
 RewrittenAs reads wire OptionalArray ty =
-    RewrittenTo (ReadsVec (λ element. ReadsOption (reads element)) ty) (wire_vec (λ element. wire_option (wire element)) ty)
+    RewrittenTo (ReadsVec (λ element. ReadsOption (reads element)) ty)
+        (wire_vec (λ element. wire_option (wire element)) ty)
 
 -- a form accepts a type that its Rust type accepts, or in a list an array of such a type
 abbrev pub accepted_as : (Content → Bool) → Form → Content → Bool
@@ -52,4 +55,5 @@ RewrittenPlain reads wire = RewrittenAs (λ _. reads) (λ _. wire)
 
 -- the same of a text, after a version where the Postgres type has one
 abbrev pub RewrittenText : Rewriting
-RewrittenText = RewrittenAs {A = String Global} (λ ty. ReadsText string_bytes (has_version ty)) (λ ty text. wire_text (has_version ty) (string_bytes text))
+RewrittenText = RewrittenAs {A = String Global} (λ ty. ReadsText string_bytes (has_version ty))
+    (λ ty text. wire_text (has_version ty) (string_bytes text))

@@ -1,5 +1,6 @@
 -- Lists are read back as they are written where their elements are.
-use Rattle.std.specs.Prelude.{◌≡◌, ◌==◌, ℕ, List, [], ◌∷◌, length, take, Option, Some, None, Ok, Err, Bool, true, nat_le, IsTrue, if◌then◌else◌, refl}
+use Rattle.std.specs.Prelude.{◌≡◌, ◌==◌, ℕ, List, [], ◌∷◌, length, take, Option, Some, None, Ok, Err, Bool, true}
+use Rattle.std.specs.Prelude.{nat_le, IsTrue, if◌then◌else◌, refl}
 use Rattle.std.proofs.Common.{sym, ◌∙◌, ap, subst, arith, inl, inr, true≢false}
 use Rattle.std.proofs.lemmas.Bool.{eqb-true}
 use Rattle.std.proofs.lemmas.Bool.Decides.{nat_tests}
@@ -13,9 +14,11 @@ use Rattle.pg_types.specs.Faults.{Outcome, Refusal, transmit}
 use Rattle.pg_base.specs.Formats.{Checks, first_fault_of}
 use Rattle.pg_base.specs.ArrayTypes.{accepted_list, accepted_element, element_of}
 use Rattle.pg_base.specs.Sameness.{SameList}
-use Rattle.pg_read.specs.ArrayReading.{ReadsAll, ReadsArray, ReadsChecked, ReadsElements, ReadsFixed, ReadsList, ReadsByElement, end_checks, fixed_checks}
+use Rattle.pg_read.specs.ArrayReading.{ReadsAll, ReadsArray, ReadsChecked, ReadsElements, ReadsFixed, ReadsList}
+use Rattle.pg_read.specs.ArrayReading.{ReadsByElement, end_checks, fixed_checks}
 use Rattle.pg_read.specs.ReadingLaws.{no_fault}
-use Rattle.pg_write.specs.ArrayWriting.{element_cells, element_frame_cell, cons_cell, lower_bound_of, wire_array, wire_fixed, wire_list, wire_by_element}
+use Rattle.pg_write.specs.ArrayWriting.{element_cells, element_frame_cell, cons_cell, lower_bound_of, wire_array}
+use Rattle.pg_write.specs.ArrayWriting.{wire_fixed, wire_list, wire_by_element}
 use Rattle.postgres_types.specs.BackLaws.{kept}
 use Rattle.postgres_types.specs.ReadingBack.{IsLawful, WrittenAsBytes, BackList}
 use Rattle.postgres_types.specs.RelatedLists.{flipped, related_give, related_length}
@@ -23,26 +26,33 @@ use Rattle.postgres_types.specs.WrittenArrays.{AllWritten, array_body, array_cel
 
 -- ---- the values of a list, one after another
 
-module _ {A : Type 0} (same : A → A → Type 0) (reads : Cell → Outcome A → Type 0) (wire : A → Wire) (back : A → Outcome A → Type 0)
+module _ {A : Type 0} (same : A → A → Type 0) (reads : Cell → Outcome A → Type 0) (wire : A → Wire)
+    (back : A → Outcome A → Type 0)
     (law : IsLawful same reads wire back) where
   same_cells : (vs ws : List A) → SameList same vs ws → element_cells wire vs ≡ element_cells wire ws
   same_cells [] [] h = refl
   same_cells [] (w ∷ ws) h = absurd h
   same_cells (v ∷ vs) [] h = absurd h
   same_cells (v ∷ vs) (w ∷ ws) h =
-      ap (λ u. cons_cell (element_frame_cell u) (element_cells wire vs)) (law.same_wire v w h.0) ∙ ap (cons_cell (element_frame_cell (wire w))) (same_cells vs ws h.1)
+      ap (λ u. cons_cell (element_frame_cell u) (element_cells wire vs)) (law.same_wire v w h.0)
+          ∙ ap (cons_cell (element_frame_cell (wire w))) (same_cells vs ws h.1)
 
-  all_same_back : (vs ws : List A) (o : Outcome (List A)) → SameList same vs ws → ReadsAll back vs o → ReadsAll back ws o
+  all_same_back : (vs ws : List A) (o : Outcome (List A)) → SameList same vs ws → ReadsAll back vs o
+      → ReadsAll back ws o
   all_same_back = related_give same back back law.same_back
 
-  all_reads : (vs : List A) (cs : List Cell) (o : Outcome (List A)) → AllWritten wire vs cs → ReadsAll back vs o → ReadsAll reads cs o
+  all_reads : (vs : List A) (cs : List Cell) (o : Outcome (List A)) → AllWritten wire vs cs → ReadsAll back vs o
+      → ReadsAll reads cs o
   all_reads = related_give (λ v c. wire v ≡ Ok c) back reads law.back_reads
 
-  all_back : (vs : List A) (cs : List Cell) (o : Outcome (List A)) → AllWritten wire vs cs → ReadsAll reads cs o → ReadsAll back vs o
-  all_back vs cs o h = related_give (λ c v. wire v ≡ Ok c) reads back (λ c v. law.reads_back v c) cs vs o (flipped (λ v c. wire v ≡ Ok c) vs cs h)
+  all_back : (vs : List A) (cs : List Cell) (o : Outcome (List A)) → AllWritten wire vs cs → ReadsAll reads cs o
+      → ReadsAll back vs o
+  all_back vs cs o h = related_give (λ c v. wire v ≡ Ok c) reads back (λ c v. law.reads_back v c) cs vs o
+      (flipped (λ v c. wire v ≡ Ok c) vs cs h)
 
   -- values that were read are written as cells that read as them
-  all_kept : (cs : List Cell) (vs : List A) (ds : List Cell) → ReadsAll reads cs (Ok vs) → AllWritten wire vs ds → ReadsAll reads ds (Ok vs)
+  all_kept : (cs : List Cell) (vs : List A) (ds : List Cell) → ReadsAll reads cs (Ok vs) → AllWritten wire vs ds
+      → ReadsAll reads ds (Ok vs)
   all_kept [] [] [] h k = tt
   all_kept [] [] (d ∷ ds) h k = absurd k
   all_kept [] (v ∷ vs) ds h k = absurd h
@@ -54,10 +64,14 @@ module _ {A : Type 0} (same : A → A → Type 0) (reads : Cell → Outcome A �
 
 -- Elements are read as their cells: values come from cells, and where as many cells as are wanted are all there, and
 -- nothing after them, their outcome is that of the cells.
-pub record ReadsItsCells {A : Type 0} (reads : Cell → Outcome A → Type 0) (wanted : ℕ → Bool) (elements : ℕ → List Cell → List ℕ → Outcome (List A) → Type 0) : Type 0 where
-  pub from_cells : (n : ℕ) (cs : List Cell) (rest : List ℕ) (vs : List A) → elements n cs rest (Ok vs) → (ds : List Cell) × ReadsAll reads ds (Ok vs)
-  pub taken : (cs : List Cell) (o : Outcome (List A)) → wanted (length cs) ≡ true → ReadsAll reads cs o → elements (length cs) cs [] o
-  pub given : (cs : List Cell) (o : Outcome (List A)) → wanted (length cs) ≡ true → elements (length cs) cs [] o → ReadsAll reads cs o
+pub record ReadsItsCells {A : Type 0} (reads : Cell → Outcome A → Type 0) (wanted : ℕ → Bool)
+    (elements : ℕ → List Cell → List ℕ → Outcome (List A) → Type 0) : Type 0 where
+  pub from_cells : (n : ℕ) (cs : List Cell) (rest : List ℕ) (vs : List A) → elements n cs rest (Ok vs)
+      → (ds : List Cell) × ReadsAll reads ds (Ok vs)
+  pub taken : (cs : List Cell) (o : Outcome (List A)) → wanted (length cs) ≡ true → ReadsAll reads cs o
+      → elements (length cs) cs [] o
+  pub given : (cs : List Cell) (o : Outcome (List A)) → wanted (length cs) ≡ true → elements (length cs) cs [] o
+      → ReadsAll reads cs o
 
 -- what is written of lists of the lengths wanted; another list is Transmit
 abbrev pub wire_wanted : {A : Type 0} → (ℕ → Bool) → (List A → Wire) → List A → Wire
@@ -88,9 +102,11 @@ list_cell wire wanted ty element vs c e =
       whole = whole.0;
     }
 
-module _ {A X : Type 0} (items : X → List A) (same : A → A → Type 0) (reads : Cell → Outcome A → Type 0) (wires : Content → A → Wire) (back : A → Outcome A → Type 0)
+module _ {A X : Type 0} (items : X → List A) (same : A → A → Type 0) (reads : Cell → Outcome A → Type 0)
+    (wires : Content → A → Wire) (back : A → Outcome A → Type 0)
     (ty element : Content) (law : IsLawful same reads (wires element) back)
-    (wanted : ℕ → Bool) (elements : ℕ → List Cell → List ℕ → Outcome (List A) → Type 0) (its_cells : ReadsItsCells reads wanted elements) where
+    (wanted : ℕ → Bool) (elements : ℕ → List Cell → List ℕ → Outcome (List A) → Type 0)
+        (its_cells : ReadsItsCells reads wanted elements) where
   abbrev wire : A → Wire
   wire = wires element
 
@@ -103,14 +119,16 @@ module _ {A X : Type 0} (items : X → List A) (same : A → A → Type 0) (read
   -- what lists of so many elements with these cells are written as
   abbrev written_of : ℕ → Outcome (List Cell) → Wire
   written_of n cells =
-      if wanted n then (if nat_le n 2147483647 then wire_array (lower_bound_of ty) (oid_of element) cells else Err transmit) else Err transmit
+      if wanted n then (if nat_le n 2147483647 then wire_array (lower_bound_of ty)
+          (oid_of element) cells else Err transmit) else Err transmit
 
   list_same_wire : (vs ws : List A) → SameList same vs ws → Written vs ≡ Written ws
   list_same_wire vs ws h =
       ap (λ n. written_of n (element_cells wire vs)) (related_length same vs ws h)
       ∙ ap (written_of (length ws)) (same_cells same reads wire back law vs ws h)
 
-  list_same_back : (x y : X) (o : Outcome X) → SameList same (items x) (items y) → BackList items back x o → BackList items back y o
+  list_same_back : (x y : X) (o : Outcome X) → SameList same (items x) (items y) → BackList items back x o
+      → BackList items back y o
   list_same_back x y (Ok z) h k = all_same_back same reads wire back law (items x) (items y) (Ok (items z)) h k
   list_same_back x y (Err r) h k = all_same_back same reads wire back law (items x) (items y) (Err r) h k
 
@@ -121,14 +139,17 @@ module _ {A X : Type 0} (items : X → List A) (same : A → A → Type 0) (read
     elements_taken : (o : Outcome (List A)) → ReadsAll reads cell.cells o → elements (length cell.cells) cell.cells [] o
     elements_taken o h = its_cells.taken cell.cells o many h
 
-    elements_given : (n : ℕ) (cs : List Cell) (rest : List ℕ) (o : Outcome (List A)) → ArrayBody cell.bytes n cs rest → elements n cs rest o → ReadsAll reads cell.cells o
+    elements_given : (n : ℕ) (cs : List Cell) (rest : List ℕ) (o : Outcome (List A)) → ArrayBody cell.bytes n cs rest
+        → elements n cs rest o → ReadsAll reads cell.cells o
     elements_given n cs rest o p h =
         let e = body_single cell.bytes n (length cell.cells) cs cell.cells rest [] p cell.body in
         its_cells.given cell.cells o many
-        (subst (λ x. elements x cell.cells [] o) e.0 (subst (λ x. elements n x [] o) e.1 (subst (λ x. elements n cs x o) e.2 h)))
+        (subst (λ x. elements x cell.cells [] o) e.0
+            (subst (λ x. elements n x [] o) e.1 (subst (λ x. elements n cs x o) e.2 h)))
 
     sound_head : (r : Refusal) → first_fault_of (head_checks cell.bytes) ≡ Some r → ⊥
-    sound_head r = no_fault (first_fault_of (head_checks cell.bytes)) r (head_passes cell.bytes (record { left = length cell.cells; bytes = cell.body.0 }) cell.body.1)
+    sound_head r = no_fault (first_fault_of (head_checks cell.bytes)) r
+        (head_passes cell.bytes (record { left = length cell.cells; bytes = cell.body.0 }) cell.body.1)
 
     bytes_read : (x : X) → ReadsAll reads cell.cells (Ok (items x)) → Reads c (Ok x)
     bytes_read x h =
@@ -149,7 +170,8 @@ module _ {A X : Type 0} (items : X → List A) (same : A → A → Type 0) (read
   list_back_reads : (x : X) (c : Cell) (o : Outcome X) → Written (items x) ≡ Ok c → BackList items back x o → Reads c o
   list_back_reads x c (Ok y) e h =
       let cell = list_cell wires wanted ty element (items x) c e in
-      bytes_read (items x) c cell y (all_reads same reads wire back law (items x) cell.cells (Ok (items y)) cell.written h)
+      bytes_read (items x) c cell y (all_reads same reads wire back law (items x) cell.cells
+          (Ok (items y)) cell.written h)
   list_back_reads x c (Err r) e h =
       let cell = list_cell wires wanted ty element (items x) c e in
       bytes_refused (items x) c cell r (all_reads same reads wire back law (items x) cell.cells (Err r) cell.written h)
@@ -157,14 +179,17 @@ module _ {A X : Type 0} (items : X → List A) (same : A → A → Type 0) (read
   list_reads_back : (x : X) (c : Cell) (o : Outcome X) → Written (items x) ≡ Ok c → Reads c o → BackList items back x o
   list_reads_back x c (Ok y) e h =
       let cell = list_cell wires wanted ty element (items x) c e in
-      all_back same reads wire back law (items x) cell.cells (Ok (items y)) cell.written (cells_read (items x) c cell y (subst (λ d. Reads d (Ok y)) cell.is h))
+      all_back same reads wire back law (items x) cell.cells (Ok (items y)) cell.written
+          (cells_read (items x) c cell y (subst (λ d. Reads d (Ok y)) cell.is h))
   list_reads_back x c (Err r) e h =
       let cell = list_cell wires wanted ty element (items x) c e in
       let o : Outcome X = Err r in
-      all_back same reads wire back law (items x) cell.cells (Err r) cell.written (cells_refused (items x) c cell r (subst (λ d. Reads d o) cell.is h))
+      all_back same reads wire back law (items x) cell.cells (Err r) cell.written
+          (cells_refused (items x) c cell r (subst (λ d. Reads d o) cell.is h))
 
   -- a list that was read is written as bytes that read as it
-  list_written : (x : X) (cs : List Cell) (w : Wire) → ReadsAll reads cs (Ok (items x)) → Written (items x) ≡ w → WrittenAsBytes Reads x w
+  list_written : (x : X) (cs : List Cell) (w : Wire) → ReadsAll reads cs (Ok (items x)) → Written (items x) ≡ w
+      → WrittenAsBytes Reads x w
   list_written x cs (Ok None) h e =
       let cell = list_cell wires wanted ty element (items x) None e in
       let no : None ≡ Some cell.bytes = cell.is in cc
@@ -179,7 +204,8 @@ module _ {A X : Type 0} (items : X → List A) (same : A → A → Type 0) (read
       list_written x read.0 (Written (items x)) read.1 refl
 
   -- lists are lawful where their elements are
-  pub list_lawful : IsLawful (λ x y. SameList same (items x) (items y)) Reads (λ x. Written (items x)) (BackList items back)
+  pub list_lawful : IsLawful (λ x y. SameList same (items x) (items y)) Reads (λ x. Written (items x))
+      (BackList items back)
   list_lawful = record {
     same_wire = λ x y. list_same_wire (items x) (items y);
     same_back = list_same_back;
@@ -198,11 +224,13 @@ all_there : (cs : List Cell) → first_fault_of (end_checks (length cs) cs []) �
 all_there cs = rw (no_more (length cs)) refl
 
 module _ {A : Type 0} (reads : Cell → Outcome A → Type 0) where
-  checked_cells : (checks : Checks) (cs : List Cell) (o : Outcome (List A)) → first_fault_of checks ≡ None → ReadsAll reads cs o → ReadsChecked reads checks cs o
+  checked_cells : (checks : Checks) (cs : List Cell) (o : Outcome (List A)) → first_fault_of checks ≡ None
+      → ReadsAll reads cs o → ReadsChecked reads checks cs o
   checked_cells checks cs (Ok vs) e h = (h, e)
   checked_cells checks cs (Err r) e h = inl h
 
-  cells_checked : (checks : Checks) (cs : List Cell) (o : Outcome (List A)) → first_fault_of checks ≡ None → ReadsChecked reads checks cs o → ReadsAll reads cs o
+  cells_checked : (checks : Checks) (cs : List Cell) (o : Outcome (List A)) → first_fault_of checks ≡ None
+      → ReadsChecked reads checks cs o → ReadsAll reads cs o
   cells_checked checks cs (Ok vs) e h = h.0
   cells_checked checks cs (Err r) e h = elim h [ inl z ↦ z | inr z ↦ absurd (no_fault (first_fault_of checks) r e z.2) ]
 
@@ -230,18 +258,22 @@ module _ {A : Type 0} (reads : Cell → Outcome A → Type 0) where
     pub one_length : ReadsItsCells reads (λ n. n == expected) (ReadsFixed expected reads)
     one_length = record {
       from_cells = λ n cs rest vs h. (take expected cs, h.0);
-      taken = λ cs o w h. checked_cells (checks cs) (take expected cs) o (all_wanted cs w) (subst (λ ds. ReadsAll reads ds o) (sym (first_ones cs w)) h);
-      given = λ cs o w h. subst (λ ds. ReadsAll reads ds o) (first_ones cs w) (cells_checked (checks cs) (take expected cs) o (all_wanted cs w) h);
+      taken = λ cs o w h. checked_cells (checks cs) (take expected cs) o (all_wanted cs w)
+          (subst (λ ds. ReadsAll reads ds o) (sym (first_ones cs w)) h);
+      given = λ cs o w h. subst (λ ds. ReadsAll reads ds o) (first_ones cs w)
+          (cells_checked (checks cs) (take expected cs) o (all_wanted cs w) h);
     }
 
 -- ---- arrays of the types that the elements accept
 
-same_by_element : (reading writing : Content → Bool) → ((ty : Content) → reading ty ≡ writing ty) → (element : Option Content) → accepted_element reading element ≡ accepted_element writing element
+same_by_element : (reading writing : Content → Bool) → ((ty : Content) → reading ty ≡ writing ty)
+    → (element : Option Content) → accepted_element reading element ≡ accepted_element writing element
 same_by_element reading writing same None = refl
 same_by_element reading writing same (Some element) = same element
 
 -- lists accept the same arrays in both directions where their elements accept the same types
-pub same_lists : (reading writing : Content → Bool) → ((ty : Content) → reading ty ≡ writing ty) → (ty : Content) → accepted_list reading ty ≡ accepted_list writing ty
+pub same_lists : (reading writing : Content → Bool) → ((ty : Content) → reading ty ≡ writing ty) → (ty : Content)
+    → accepted_list reading ty ≡ accepted_list writing ty
 same_lists reading writing same ty = same_by_element reading writing same (element_of ty)
 
 module _ {A X : Type 0} (items : X → List A) (same : A → A → Type 0) (accepted : Content → Bool)
@@ -253,23 +285,29 @@ module _ {A X : Type 0} (items : X → List A) (same : A → A → Type 0) (acce
   abbrev Back : Option Content → X → Outcome X → Type 0
   Back = ReadsByElement (λ element. BackList items (back element))
 
-  module _ (wanted : ℕ → Bool) (elements : (Cell → Outcome A → Type 0) → ℕ → List Cell → List ℕ → Outcome (List A) → Type 0)
+  module _ (wanted : ℕ → Bool) (elements : (Cell → Outcome A → Type 0) → ℕ → List Cell → List ℕ → Outcome (List A)
+      → Type 0)
       (its_cells : (r : Cell → Outcome A → Type 0) → ReadsItsCells r wanted (elements r)) where
     abbrev ByElementReads : Option Content → Cell → Outcome X → Type 0
     ByElementReads = ReadsByElement (λ element. ReadsArray items (elements (reads element)))
 
     by_element_lawful : (ty : Content) (element : Option Content) → IsTrue (accepted_element accepted element)
-        → IsLawful Same (ByElementReads element) (λ x. wire_wanted wanted (wire_by_element wire ty element) (items x)) (Back element)
+        → IsLawful Same (ByElementReads element) (λ x. wire_wanted wanted (wire_by_element wire ty element) (items x))
+            (Back element)
     by_element_lawful ty None h = absurd (true≢false (sym h))
     by_element_lawful ty (Some element) h =
-        list_lawful items same (reads element) wire (back element) ty element (law element h) wanted (elements (reads element)) (its_cells (reads element))
+        list_lawful items same (reads element) wire (back element) ty element (law element h) wanted
+            (elements (reads element)) (its_cells (reads element))
 
   -- lists are lawful for the arrays of what lawful elements accept
   pub array_lawful : (ty : Content) → IsTrue (accepted_list accepted ty)
-      → IsLawful Same (ReadsByElement (λ element. ReadsList items (reads element)) (element_of ty)) (λ x. wire_list wire ty (items x)) (Back (element_of ty))
+      → IsLawful Same (ReadsByElement (λ element. ReadsList items (reads element)) (element_of ty))
+          (λ x. wire_list wire ty (items x)) (Back (element_of ty))
   array_lawful ty h = by_element_lawful (λ n. true) ReadsElements all_lengths ty (element_of ty) h
 
   -- and so are those of so many elements
   pub fixed_lawful : (expected : ℕ) (ty : Content) → IsTrue (accepted_list accepted ty)
-      → IsLawful Same (ReadsByElement (λ element. ReadsArray items (ReadsFixed expected (reads element))) (element_of ty)) (λ x. wire_fixed expected wire ty (items x)) (Back (element_of ty))
-  fixed_lawful expected ty h = by_element_lawful (λ n. n == expected) (ReadsFixed expected) (λ r. one_length r expected) ty (element_of ty) h
+      → IsLawful Same (ReadsByElement (λ element. ReadsArray items (ReadsFixed expected (reads element)))
+          (element_of ty)) (λ x. wire_fixed expected wire ty (items x)) (Back (element_of ty))
+  fixed_lawful expected ty h = by_element_lawful (λ n. n == expected) (ReadsFixed expected)
+      (λ r. one_length r expected) ty (element_of ty) h

@@ -13,7 +13,8 @@ if_null_map (Ok (Some b)) P Q R f h = f h
 if_null_map (Err r) P Q R f h = f h
 
 -- what was read is written as a cell that reads as it
-pub kept : {A : Type 0} (same : A → A → Type 0) (reads : Cell → Outcome A → Type 0) (wire : A → Wire) (back : A → Outcome A → Type 0) → IsLawful same reads wire back
+pub kept : {A : Type 0} (same : A → A → Type 0) (reads : Cell → Outcome A → Type 0) (wire : A → Wire)
+    (back : A → Outcome A → Type 0) → IsLawful same reads wire back
     → (c : Cell) (v : A) (d : Cell) → reads c (Ok v) → wire v ≡ Ok d → reads d (Ok v)
 kept same reads wire back law None v d h e = subst (WrittenAsCell reads v) e (law.from_null v h)
 kept same reads wire back law (Some b) v None h e = absurd (subst (WrittenAsBytes reads v) e (law.from_bytes b v h))

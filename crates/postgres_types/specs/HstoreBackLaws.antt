@@ -1,5 +1,6 @@
 -- Laws of maps of texts: reading and writing belong together, and a map is read back as itself.
-use Rattle.std.specs.Prelude.{◌≡◌, ℕ, List, [], ◌∷◌, length, map, Option, Some, None, option_map, Bool, true, false, IsUtf8, String, string_bytes, refl}
+use Rattle.std.specs.Prelude.{◌≡◌, ℕ, List, [], ◌∷◌, length, map, Option, Some, None, option_map, Bool, true, false}
+use Rattle.std.specs.Prelude.{IsUtf8, String, string_bytes, refl}
 use Rattle.std.proofs.Common.{sym, ◌∙◌, ap, cond, Ordering, Less, Equal, Greater}
 use Rattle.std.proofs.lemmas.Cmp.{nat_list_eq_equiv}
 use Rattle.std.proofs.lemmas.Slice.Eq.{bytes_eq-Decides}
@@ -17,7 +18,9 @@ use Rattle.pg_base.specs.Cells.{Cell, frame, concat}
 use Rattle.pg_base.proofs.CountLaws.{count_is}
 use Rattle.pg_base.specs.Counts.{count_bytes}
 use Rattle.pg_base.proofs.FrameLaws.{frame_spells, parts_of}
-use Rattle.pg_base.specs.Hstore.{Entry, FormHstore, ReadsHstore, SameMap, SpellsEntries, entries_bytes, first_fault_hstore, hstore_bytes, in_key_order, last_value, or_this, owned_entry, insert_entry, insert_entry_by, value_at, wire_hstore}
+use Rattle.pg_base.specs.Hstore.{Entry, FormHstore, ReadsHstore, SameMap, SpellsEntries, entries_bytes}
+use Rattle.pg_base.specs.Hstore.{first_fault_hstore, hstore_bytes, in_key_order, last_value, or_this, owned_entry}
+use Rattle.pg_base.specs.Hstore.{insert_entry, insert_entry_by, value_at, wire_hstore}
 use Rattle.pg_base.proofs.HstoreLaws.{hstore_grammar}
 use Rattle.pg_base.specs.Options.{NoneOr}
 use Rattle.pg_write.proofs.Insertion.{InOrder, in_order, in_order_lookup}
@@ -30,16 +33,21 @@ Owned = String Global × Option (String Global)
 
 -- ---- what a map has at a key
 found_or : (t : Bool) (v : Option (String Global)) (rest : Option (Option (String Global))) (old : Option Cell)
-    → option_map (λ o. option_map string_bytes o) rest ≡ old → option_map (λ o. option_map string_bytes o) (cond t (Some v) rest) ≡ cond t (Some (option_map string_bytes v)) old
+    → option_map (λ o. option_map string_bytes o) rest ≡ old
+        → option_map (λ o. option_map string_bytes o) (cond t (Some v) rest)
+        ≡ cond t (Some (option_map string_bytes v)) old
 found_or true v rest old e = refl
 found_or false v rest old e = e
 
 -- it stands among its entries
-found : (es : List Owned) (q : List ℕ) → option_map (λ o. option_map string_bytes o) (lookup (λ k. bytes_eq q (string_bytes k)) es) ≡ lookup (bytes_eq q) (map owned_entry es)
+found : (es : List Owned) (q : List ℕ)
+    → option_map (λ o. option_map string_bytes o) (lookup (λ k. bytes_eq q (string_bytes k)) es)
+    ≡ lookup (bytes_eq q) (map owned_entry es)
 found [] q = refl
 found (e ∷ es) q = found_or (bytes_eq q (string_bytes e.0)) e.1 _ _ (found es q)
 
-first_or : (t : Bool) (q : List ℕ) (e : Entry) (rest : Option Cell) → bytes_eq e.0 q ≡ t → (t ≡ true → rest ≡ None) → cond t (Some e.1) rest ≡ or_this q e rest
+first_or : (t : Bool) (q : List ℕ) (e : Entry) (rest : Option Cell) → bytes_eq e.0 q ≡ t → (t ≡ true → rest ≡ None)
+    → cond t (Some e.1) rest ≡ or_this q e rest
 first_or true q e rest h none = rw (none refl, h) refl
 first_or false q e None h none = rw h refl
 first_or false q e (Some v) h none = refl
@@ -67,14 +75,16 @@ owned_texts : (es : List Owned) → AreTexts (map owned_entry es)
 owned_texts [] = tt
 owned_texts (e ∷ es) = ((IsUtf8-string_bytes e.0, owned_value e.1), owned_texts es)
 
-insert_by_texts : (o : Ordering) (e f : Entry) (fs rest : List Entry) → AreTexts (e ∷ f ∷ fs) → AreTexts rest → AreTexts (insert_entry_by o e f fs rest)
+insert_by_texts : (o : Ordering) (e f : Entry) (fs rest : List Entry) → AreTexts (e ∷ f ∷ fs) → AreTexts rest
+    → AreTexts (insert_entry_by o e f fs rest)
 insert_by_texts Less e f fs rest h k = h
 insert_by_texts Equal e f fs rest h k = (h.0, h.1.1)
 insert_by_texts Greater e f fs rest h k = (h.1.0, k)
 
 insert_texts : (e : Entry) (fs : List Entry) → AreTexts (e ∷ fs) → AreTexts (insert_entry e fs)
 insert_texts e [] h = h
-insert_texts e (f ∷ fs) h = insert_by_texts (slice_cmp nat_cmp e.0 f.0) e f fs (insert_entry e fs) h (insert_texts e fs (h.0, h.1.1))
+insert_texts e (f ∷ fs) h = insert_by_texts (slice_cmp nat_cmp e.0 f.0) e f fs (insert_entry e fs) h
+    (insert_texts e fs (h.0, h.1.1))
 
 ordered_texts : (es : List Entry) → AreTexts es → AreTexts (in_key_order es)
 ordered_texts [] h = tt
@@ -94,7 +104,8 @@ entries_spelled (x ∷ xs) s h e =
     )
 
 -- and a count prefix and them, and what has their values, the whole
-spelled : {A : Type 0} (value_at : A → List ℕ → Option Cell) (m : A) (es : List Entry) (b : List ℕ) → AreTexts es → ((q : List ℕ) → value_at m q ≡ last_value q es)
+spelled : {A : Type 0} (value_at : A → List ℕ → Option Cell) (m : A) (es : List Entry) (b : List ℕ) → AreTexts es
+    → ((q : List ℕ) → value_at m q ≡ last_value q es)
     → hstore_bytes es ≡ Some b → FormHstore value_at b m
 spelled value_at m es b h has e =
     let p = parts_of (count_bytes (length es)) (entries_bytes es) b e in
@@ -105,28 +116,36 @@ module _ {S : Type 0} where
   abbrev entries_of : HashMap (String Global) (Option (String Global)) S → List Entry
   entries_of m = in_key_order (map owned_entry m.entries)
 
-  has_entries : (m : HashMap (String Global) (Option (String Global)) S) (q : List ℕ) → value_at m q ≡ lookup (bytes_eq q) (entries_of m)
+  has_entries : (m : HashMap (String Global) (Option (String Global)) S) (q : List ℕ) → value_at m q
+      ≡ lookup (bytes_eq q) (entries_of m)
   has_entries m q = found m.entries q ∙ sym (in_order_lookup q (map owned_entry m.entries))
 
-  has_last : (m : HashMap (String Global) (Option (String Global)) S) (q : List ℕ) → value_at m q ≡ last_value q (entries_of m)
+  has_last : (m : HashMap (String Global) (Option (String Global)) S) (q : List ℕ) → value_at m q
+      ≡ last_value q (entries_of m)
   has_last m q = has_entries m q ∙ last_found q (entries_of m) (in_order (map owned_entry m.entries))
 
   -- same maps have the same entries in key order
   same_entries : (m n : HashMap (String Global) (Option (String Global)) S) → SameMap m n → entries_of m ≡ entries_of n
   same_entries m n h =
-      sorted_same (entries_of m) (entries_of n) (in_order (map owned_entry m.entries)) (in_order (map owned_entry n.entries))
+      sorted_same (entries_of m) (entries_of n) (in_order (map owned_entry m.entries))
+          (in_order (map owned_entry n.entries))
       (λ q. sym (has_entries m q) ∙ h q ∙ has_entries n q)
 
-  map_kept : (m : HashMap (String Global) (Option (String Global)) S) (o : Option (List ℕ)) → hstore_bytes (entries_of m) ≡ o
+  map_kept : (m : HashMap (String Global) (Option (String Global)) S) (o : Option (List ℕ))
+      → hstore_bytes (entries_of m) ≡ o
       → WrittenAsKept (FormHstore value_at) first_fault_hstore SameMap m (wire_of o)
   map_kept m None e = tt
   map_kept m (Some b) e =
       let law = hstore_grammar (value_at {S = S}) in
-      let h = spelled value_at m (entries_of m) b (ordered_texts (map owned_entry m.entries) (owned_texts m.entries)) (has_last m) e in
+      let h = spelled value_at m (entries_of m) b (ordered_texts (map owned_entry m.entries) (owned_texts m.entries))
+          (has_last m) e in
       (law.passes b m h, λ n k. (h.0, h.1, h.2, h.3, λ q. sym (k q) ∙ h.4 q), λ n k. law.single b m n h k)
 
   -- a map is lawful, and is read back as itself
-  pub hstore_lawful : IsLawful (SameMap {S = S}) ReadsHstore (λ m. wire_hstore (map owned_entry m.entries)) (BackKept SameMap)
-  hstore_lawful = kept_lawful (FormHstore value_at) first_fault_hstore SameMap SameMap (λ m. wire_hstore (map owned_entry m.entries))
-      (λ m n h. ap (λ es. wire_of (hstore_bytes es)) (same_entries m n h)) (λ l m n h k q. sym (h q) ∙ k q) (λ b m h q. refl)
+  pub hstore_lawful : IsLawful (SameMap {S = S}) ReadsHstore (λ m. wire_hstore (map owned_entry m.entries))
+      (BackKept SameMap)
+  hstore_lawful = kept_lawful (FormHstore value_at) first_fault_hstore SameMap SameMap
+      (λ m. wire_hstore (map owned_entry m.entries))
+      (λ m n h. ap (λ es. wire_of (hstore_bytes es)) (same_entries m n h)) (λ l m n h k q. sym (h q) ∙ k q)
+          (λ b m h q. refl)
       (λ m. map_kept m (hstore_bytes (entries_of m)) refl)

@@ -29,7 +29,8 @@ WrittenAsBytes reads v (Err r) = Unit {0}
 -- Reading, writing and what a written value is read back as belong together: the same values are written as the same
 -- and read back as the same; what bytes give is written as bytes that read as it, and what NULL gives as a cell that
 -- reads as it, or either is refused; and the cell that a value is written as reads as what the value is read back as.
-pub record IsLawful {A : Type 0} (same : A → A → Type 0) (reads : Cell → Outcome A → Type 0) (wire : A → Wire) (back : A → Outcome A → Type 0) : Type 0 where
+pub record IsLawful {A : Type 0} (same : A → A → Type 0) (reads : Cell → Outcome A → Type 0) (wire : A → Wire)
+    (back : A → Outcome A → Type 0) : Type 0 where
   pub same_wire : (v w : A) → same v w → wire v ≡ wire w
   pub same_back : (v w : A) (o : Outcome A) → same v w → back v o → back w o
   pub from_bytes : (b : List ℕ) (v : A) → reads (Some b) (Ok v) → WrittenAsBytes reads v (wire v)
@@ -45,11 +46,13 @@ WrittenFinite w (Err r) = Unit {0}
 
 -- what finite bytes of that width give is written as such bytes, or refused
 abbrev pub KeepsFinite : {A : Type 0} → Width → (Cell → Outcome A → Type 0) → (A → Wire) → Type 0
-KeepsFinite {A} w reads wire = (b : List ℕ) (v : A) → IsFiniteCell w b → reads (Some b) (Ok v) → WrittenFinite w (wire v)
+KeepsFinite {A} w reads wire = (b : List ℕ) (v : A) → IsFiniteCell w b → reads (Some b) (Ok v)
+    → WrittenFinite w (wire v)
 
 -- ---- what a written value is read back as, by the shape of the value
 
--- a plain value: one that holds what is kept of the written value, which is all of it but for timestamps, which are truncated
+-- a plain value: one that holds what is kept of the written value, which is all of it but for timestamps, which are
+-- truncated
 abbrev pub BackKept : {A : Type 0} → (A → A → Type 0) → A → Outcome A → Type 0
 BackKept kept v (Ok w) = kept v w
 BackKept kept v (Err r) = ⊥
@@ -66,14 +69,16 @@ InSome back (Ok None) = ⊥
 InSome back (Ok (Some v)) = back (Ok v)
 InSome back (Err r) = back (Err r)
 
--- None as None; Some as None where the value inside is written as NULL, and otherwise as Some of what that is read back as
+-- None as None; Some as None where the value inside is written as NULL, and otherwise as Some of what that is read
+-- back as
 abbrev pub BackOption : {A : Type 0} → (A → Wire) → (A → Outcome A → Type 0) → Option A → Outcome (Option A) → Type 0
 BackOption wire back None outcome = IsNoneOutcome outcome
 BackOption wire back (Some v) outcome = IfNull (wire v) (IsNoneOutcome outcome) (InSome (back v) outcome)
 
 -- WasNull where the value inside is written as NULL, and otherwise a box of what that is read back as
 abbrev pub BackBox : {A B : Type 0} → (B → A) → (A → Wire) → (A → Outcome A → Type 0) → B → Outcome B → Type 0
-BackBox inside wire back v outcome = IfNull (wire (inside v)) (IsWasNull outcome) (InBox inside (back (inside v)) outcome)
+BackBox inside wire back v outcome =
+    IfNull (wire (inside v)) (IsWasNull outcome) (InBox inside (back (inside v)) outcome)
 
 -- an infinity
 abbrev pub IsInfinityOutcome : {A B : Type 0} → (B → Special A) → Special A → Outcome B → Type 0
@@ -91,15 +96,18 @@ abbrev pub InValue : {A B : Type 0} → (B → Special A) → (Outcome A → Typ
 InValue view back (Ok s) = OfValue (λ v. back (Ok v)) (view s)
 InValue view back (Err r) = back (Err r)
 
--- what a value is read back as: as its cell is read, where what the value inside is read back as stands for its reading.
--- So it is WasNull where the cell is NULL, Size where it has another width, the infinity where it is one's, and otherwise
+-- what a value is read back as: as its cell is read, where what the value inside is read back as stands for its
+-- reading.
+-- So it is WasNull where the cell is NULL, Size where it has another width, the infinity where it is one's, and
+-- otherwise
 -- Value of what the value inside is read back as, or its fault
 abbrev pub BackValue : {A B : Type 0} → Width → (B → Special A) → Wire → (Outcome A → Type 0) → Outcome B → Type 0
 BackValue w view (Ok c) back outcome = ReadsSpecial w view (λ _. back) c outcome
 BackValue w view (Err r) back outcome = InValue view back outcome
 
 -- an infinity as itself, and a value as its cell is read back
-abbrev pub BackSpecial : {A B : Type 0} → Width → (B → Special A) → (A → Wire) → (A → Outcome A → Type 0) → Special A → Outcome B → Type 0
+abbrev pub BackSpecial : {A B : Type 0} → Width → (B → Special A) → (A → Wire) → (A → Outcome A → Type 0) → Special A
+    → Outcome B → Type 0
 BackSpecial w view wire back pos_infinity outcome = IsInfinityOutcome view pos_infinity outcome
 BackSpecial w view wire back neg_infinity outcome = IsInfinityOutcome view neg_infinity outcome
 BackSpecial w view wire back (value v) outcome = BackValue w view (wire v) (back v) outcome

@@ -21,7 +21,8 @@ module _ {C D : Type 0} (related : C → D → Type 0) where
   flipped (c ∷ cs) (d ∷ ds) h = (h.0, flipped cs ds h.1)
 
   -- where each item gives what the one related to it gives, so do the lists
-  pub related_give : {A : Type 0} (P : C → Outcome A → Type 0) (Q : D → Outcome A → Type 0) → ((c : C) (d : D) (o : Outcome A) → related c d → P c o → Q d o)
+  pub related_give : {A : Type 0} (P : C → Outcome A → Type 0) (Q : D → Outcome A → Type 0)
+      → ((c : C) (d : D) (o : Outcome A) → related c d → P c o → Q d o)
       → (cs : List C) (ds : List D) (o : Outcome (List A)) → SameList related cs ds → ReadsAll P cs o → ReadsAll Q ds o
   related_give P Q f [] [] (Ok []) h k = tt
   related_give P Q f [] [] (Ok (v ∷ vs)) h k = absurd k
@@ -29,7 +30,8 @@ module _ {C D : Type 0} (related : C → D → Type 0) where
   related_give P Q f [] (d ∷ ds) o h k = absurd h
   related_give P Q f (c ∷ cs) [] o h k = absurd h
   related_give P Q f (c ∷ cs) (d ∷ ds) (Ok []) h k = absurd k
-  related_give P Q f (c ∷ cs) (d ∷ ds) (Ok (v ∷ vs)) h k = (f c d (Ok v) h.0 k.0, related_give P Q f cs ds (Ok vs) h.1 k.1)
+  related_give P Q f (c ∷ cs) (d ∷ ds) (Ok (v ∷ vs)) h k =
+      (f c d (Ok v) h.0 k.0, related_give P Q f cs ds (Ok vs) h.1 k.1)
   related_give P Q f (c ∷ cs) (d ∷ ds) (Err r) h k = elim k [
     | inl z ↦ inl (f c d (Err r) h.0 z)
     | inr z ↦ inr (z.0, f c d (Ok z.0) h.0 z.1, related_give P Q f cs ds (Err r) h.1 z.2)

@@ -9,7 +9,8 @@ use Rattle.pg_write.specs.Writing.{Writes}
 
 -- the cell reads as a value, which is written; or the cell is refused, or the value that it reads as, or memory ran
 -- out, and the bytes are as they were
-abbrev pub Rewrites : {A : Type 0} → (Cell → Outcome A → Type 0) → (A → Wire) → Cell → List ℕ → List ℕ → Result IsNull Fault → Type 0
+abbrev pub Rewrites : {A : Type 0} → (Cell → Outcome A → Type 0) → (A → Wire) → Cell → List ℕ → List ℕ
+    → Result IsNull Fault → Type 0
 Rewrites {A} reads wire c old new (Ok null) = (v : A) × reads c (Ok v) × Writes (wire v) old new (Ok null)
 Rewrites {A} reads wire c old new (Err f) =
     (new ≡ old) × IfSome (refusal_of f) (λ r. reads c (Err r) ⊎ ((v : A) × reads c (Ok v) × (wire v ≡ Err r)))
@@ -21,4 +22,5 @@ IsCellOf reads wire v c = (wire v ≡ Ok c) × reads c (Ok v)
 -- where the cell is rewritten it is given again, or memory runs out
 abbrev pub IsRewrittenAsItself : {A : Type 0} → (Cell → Outcome A → Type 0) → (A → Wire) → Cell → Type 0
 IsRewrittenAsItself reads wire c =
-    (old new : List ℕ) (result : Result IsNull Fault) → Rewrites reads wire c old new result → Writes (Ok c) old new result
+    (old new : List ℕ) (result : Result IsNull Fault) → Rewrites reads wire c old new result
+        → Writes (Ok c) old new result

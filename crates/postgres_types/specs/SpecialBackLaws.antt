@@ -9,10 +9,12 @@ use Rattle.pg_base.specs.Cells.{Cell}
 use Rattle.pg_types.specs.Content.{Content, BuiltInType, is_row}
 use Rattle.pg_types.specs.Faults.{Outcome}
 use Rattle.pg_base.specs.Timestamps.{accepts_timestamps}
-use Rattle.pg_base.specs.Special.{Special, pos_infinity, neg_infinity, value, infinity, minus_infinity, IsFiniteCell, FormSpecial, ReadsSpecial, SameSpecial, wire_special}
+use Rattle.pg_base.specs.Special.{Special, pos_infinity, neg_infinity, value, infinity, minus_infinity}
+use Rattle.pg_base.specs.Special.{IsFiniteCell, FormSpecial, ReadsSpecial, SameSpecial, wire_special}
 use Rattle.pg_base.proofs.SpecialLaws.{infinities_apart, infinity_width, minus_infinity_width}
 use Rattle.pg_types.proofs.Contents.{type-same}
-use Rattle.postgres_types.specs.ReadingBack.{IsLawful, KeepsFinite, WrittenFinite, WrittenAsBytes, OfValue, BackValue, BackSpecial}
+use Rattle.postgres_types.specs.ReadingBack.{IsLawful, KeepsFinite, WrittenFinite, WrittenAsBytes, OfValue}
+use Rattle.postgres_types.specs.ReadingBack.{BackValue, BackSpecial}
 
 -- no type is that of a date and of a timestamp
 pub not_both : (ty : Content) → IsTrue (is_row DateRow ty) → IsTrue (accepts_timestamps ty) → ⊥
@@ -25,7 +27,8 @@ pub row_accepted : (x y : Bool) → IsTrue (x && y) → IsTrue x
 row_accepted x y h = (and_parts x y h).0
 
 module _ {A B : Type 0} (w : Width) (view : B → Special A) where
-  form_map : (F G : A → Type 0) → ((v : A) → F v → G v) → (b : List ℕ) (s : Special A) → FormSpecial w F b s → FormSpecial w G b s
+  form_map : (F G : A → Type 0) → ((v : A) → F v → G v) → (b : List ℕ) (s : Special A) → FormSpecial w F b s
+      → FormSpecial w G b s
   form_map F G f b pos_infinity h = h
   form_map F G f b neg_infinity h = h
   form_map F G f b (value v) h = (h.0, f v h.1)
@@ -36,12 +39,15 @@ module _ {A B : Type 0} (w : Width) (view : B → Special A) where
   of_value_map F G f (value v) h = f v h
 
   -- what is said of the value inside may be replaced
-  special_map : (P Q : Cell → Outcome A → Type 0) (c : Cell) → ((o : Outcome A) → P c o → Q c o) → (o : Outcome B) → ReadsSpecial w view P c o → ReadsSpecial w view Q c o
+  special_map : (P Q : Cell → Outcome A → Type 0) (c : Cell) → ((o : Outcome A) → P c o → Q c o) → (o : Outcome B)
+      → ReadsSpecial w view P c o → ReadsSpecial w view Q c o
   special_map P Q None f o h = h
-  special_map P Q (Some b) f (Ok v) h = form_map (λ u. P (Some b) (Ok u)) (λ u. Q (Some b) (Ok u)) (λ u. f (Ok u)) b (view v) h
+  special_map P Q (Some b) f (Ok v) h =
+      form_map (λ u. P (Some b) (Ok u)) (λ u. Q (Some b) (Ok u)) (λ u. f (Ok u)) b (view v) h
   special_map P Q (Some b) f (Err r) h = elim h [ inl z ↦ inl z | inr z ↦ inr (z.0, f (Err r) z.1) ]
 
-  value_map : (P Q : Outcome A → Type 0) → ((o : Outcome A) → P o → Q o) → (u : Wire) (o : Outcome B) → BackValue w view u P o → BackValue w view u Q o
+  value_map : (P Q : Outcome A → Type 0) → ((o : Outcome A) → P o → Q o) → (u : Wire) (o : Outcome B)
+      → BackValue w view u P o → BackValue w view u Q o
   value_map P Q f (Ok c) o h = special_map (λ _. P) (λ _. Q) c f o h
   value_map P Q f (Err r) (Ok s) h = of_value_map (λ v. P (Ok v)) (λ v. Q (Ok v)) (λ v. f (Ok v)) (view s) h
   value_map P Q f (Err r) (Err g) h = f (Err g) h
@@ -86,7 +92,8 @@ module _ {A B : Type 0} (w : Width) (view : B → Special A) where
     same_view_back (value x) pos_infinity o h k = absurd h
     same_view_back (value x) neg_infinity o h k = absurd h
     same_view_back (value x) (value y) o h k =
-        value_map (back x) (back y) (λ q. law.same_back x y q h) (wire y) o (subst (λ u. BackValue w view u (back x) o) (law.same_wire x y h) k)
+        value_map (back x) (back y) (λ q. law.same_back x y q h) (wire y) o
+            (subst (λ u. BackValue w view u (back x) o) (law.same_wire x y h) k)
 
     infinity_reads : (o : Outcome B) → Back pos_infinity o → Reads (Some (infinity w)) o
     infinity_reads (Ok v) h = subst (FormSpecial w (λ u. reads (Some (infinity w)) (Ok u)) (infinity w)) (sym h) refl
@@ -97,37 +104,50 @@ module _ {A B : Type 0} (w : Width) (view : B → Special A) where
     infinity_back (Err r) h = elim h [ inl z ↦ z.0 (infinity_width w) | inr z ↦ z.0.not_infinity refl ]
 
     minus_infinity_reads : (o : Outcome B) → Back neg_infinity o → Reads (Some (minus_infinity w)) o
-    minus_infinity_reads (Ok v) h = subst (FormSpecial w (λ u. reads (Some (minus_infinity w)) (Ok u)) (minus_infinity w)) (sym h) refl
+    minus_infinity_reads (Ok v) h = subst
+        (FormSpecial w (λ u. reads (Some (minus_infinity w)) (Ok u)) (minus_infinity w)) (sym h) refl
     minus_infinity_reads (Err r) h = absurd h
 
     minus_infinity_back : (o : Outcome B) → Reads (Some (minus_infinity w)) o → Back neg_infinity o
     minus_infinity_back (Ok v) h = minus_infinity_form (λ u. reads (Some (minus_infinity w)) (Ok u)) (view v) h
-    minus_infinity_back (Err r) h = elim h [ inl z ↦ z.0 (minus_infinity_width w) | inr z ↦ z.0.not_minus_infinity refl ]
+    minus_infinity_back (Err r) h = elim h
+        [ inl z ↦ z.0 (minus_infinity_width w) | inr z ↦ z.0.not_minus_infinity refl ]
 
-    special_back_reads : (s : Special A) (c : Cell) (o : Outcome B) → wire_special w wire s ≡ Ok c → Back s o → Reads c o
-    special_back_reads pos_infinity c o e h = let is : Some (infinity w) ≡ c = cc in subst (λ d. Reads d o) is (infinity_reads o h)
-    special_back_reads neg_infinity c o e h = let is : Some (minus_infinity w) ≡ c = cc in subst (λ d. Reads d o) is (minus_infinity_reads o h)
+    special_back_reads : (s : Special A) (c : Cell) (o : Outcome B) → wire_special w wire s ≡ Ok c → Back s o
+        → Reads c o
+    special_back_reads pos_infinity c o e h = let is : Some (infinity w) ≡ c = cc in
+        subst (λ d. Reads d o) is (infinity_reads o h)
+    special_back_reads neg_infinity c o e h = let is : Some (minus_infinity w) ≡ c = cc in
+        subst (λ d. Reads d o) is (minus_infinity_reads o h)
     special_back_reads (value x) c o e h =
-        special_map (λ _. back x) reads c (λ q. law.back_reads x c q e) o (subst (λ u. BackValue w view u (back x) o) e h)
+        special_map (λ _. back x) reads c (λ q. law.back_reads x c q e) o
+            (subst (λ u. BackValue w view u (back x) o) e h)
 
-    special_reads_back : (s : Special A) (c : Cell) (o : Outcome B) → wire_special w wire s ≡ Ok c → Reads c o → Back s o
-    special_reads_back pos_infinity c o e h = let is : c ≡ Some (infinity w) = cc in infinity_back o (subst (λ d. Reads d o) is h)
-    special_reads_back neg_infinity c o e h = let is : c ≡ Some (minus_infinity w) = cc in minus_infinity_back o (subst (λ d. Reads d o) is h)
+    special_reads_back : (s : Special A) (c : Cell) (o : Outcome B) → wire_special w wire s ≡ Ok c → Reads c o
+        → Back s o
+    special_reads_back pos_infinity c o e h = let is : c ≡ Some (infinity w) = cc in
+        infinity_back o (subst (λ d. Reads d o) is h)
+    special_reads_back neg_infinity c o e h = let is : c ≡ Some (minus_infinity w) = cc in
+        minus_infinity_back o (subst (λ d. Reads d o) is h)
     special_reads_back (value x) c o e h =
-        subst (λ u. BackValue w view u (back x) o) (sym e) (special_map reads (λ _. back x) c (λ q. law.reads_back x c q e) o h)
+        subst (λ u. BackValue w view u (back x) o) (sym e)
+            (special_map reads (λ _. back x) c (λ q. law.reads_back x c q e) o h)
 
-    value_written : (v : B) (x : A) (u : Wire) → view v ≡ value x → WrittenFinite w u → WrittenAsBytes reads x u → WrittenAsBytes Reads v u
+    value_written : (v : B) (x : A) (u : Wire) → view v ≡ value x → WrittenFinite w u → WrittenAsBytes reads x u
+        → WrittenAsBytes Reads v u
     value_written v x (Ok None) e f h = h
     value_written v x (Ok (Some b)) e f h = subst (FormSpecial w (λ u. reads (Some b) (Ok u)) b) (sym e) (f, h)
     value_written v x (Err r) e f h = tt
 
-    special_written : (b : List ℕ) (v : B) (s : Special A) → view v ≡ s → FormSpecial w (λ u. reads (Some b) (Ok u)) b s → WrittenAsBytes Reads v (wire_special w wire s)
+    special_written : (b : List ℕ) (v : B) (s : Special A) → view v ≡ s
+        → FormSpecial w (λ u. reads (Some b) (Ok u)) b s → WrittenAsBytes Reads v (wire_special w wire s)
     special_written b v pos_infinity e h = infinity_reads (Ok v) e
     special_written b v neg_infinity e h = minus_infinity_reads (Ok v) e
     special_written b v (value x) e h = value_written v x (wire x) e (finite b x h.0 h.1) (law.from_bytes b x h.1)
 
     -- values with infinities are lawful where the values inside are, and stay finite
-    pub special_lawful : IsLawful (λ v u. SameSpecial same (view v) (view u)) Reads (λ v. wire_special w wire (view v)) (λ v. Back (view v))
+    pub special_lawful : IsLawful (λ v u. SameSpecial same (view v) (view u)) Reads (λ v. wire_special w wire (view v))
+        (λ v. Back (view v))
     special_lawful = record {
       same_wire = λ v u. same_view_wire (view v) (view u);
       same_back = λ v u. same_view_back (view v) (view u);
@@ -137,8 +157,10 @@ module _ {A B : Type 0} (w : Width) (view : B → Special A) where
       reads_back = λ v. special_reads_back (view v);
     }
 
-module _ {A B : Type 0} (w : Width) (view : B → Special A) (reads : Cell → Outcome A → Type 0) (wire : A → Wire) (finite : KeepsFinite w reads wire) where
-  view_finite : (b : List ℕ) (s : Special A) → IsFiniteCell w b → FormSpecial w (λ u. reads (Some b) (Ok u)) b s → WrittenFinite w (wire_special w wire s)
+module _ {A B : Type 0} (w : Width) (view : B → Special A) (reads : Cell → Outcome A → Type 0) (wire : A → Wire)
+    (finite : KeepsFinite w reads wire) where
+  view_finite : (b : List ℕ) (s : Special A) → IsFiniteCell w b → FormSpecial w (λ u. reads (Some b) (Ok u)) b s
+      → WrittenFinite w (wire_special w wire s)
   view_finite b pos_infinity f h = absurd (f.not_infinity h)
   view_finite b neg_infinity f h = absurd (f.not_minus_infinity h)
   view_finite b (value x) f h = finite b x f h.1

@@ -1,5 +1,6 @@
 -- The bytes of a written array are an array of the cells that its elements are written as.
-use Rattle.std.specs.Prelude.{◌≡◌, ◌++◌, ℕ, ℤ, pos, List, [], ◌∷◌, length, Option, Some, None, Ok, Err, Bool, true, false, option_map, if◌then◌else◌, refl}
+use Rattle.std.specs.Prelude.{◌≡◌, ◌++◌, ℕ, ℤ, pos, List, [], ◌∷◌, length, Option, Some, None, Ok, Err, Bool, true}
+use Rattle.std.specs.Prelude.{false, option_map, if◌then◌else◌, refl}
 use Rattle.std.proofs.Common.{sym, ◌∙◌, ap, subst, arith, append_assoc, inl}
 use Rattle.std.specs.Int.{w32, to_be_bytes}
 use Rattle.pg_base.specs.Appending.{Wire, wire_of}
@@ -25,33 +26,40 @@ frame_after_cell : (w : Wire) (c : Cell) → element_frame_cell w ≡ Ok c → w
 frame_after_cell (Ok d) c e = ap Ok (has_frame d c (frame d) e)
 frame_after_cell (Err r) c e = cc
 
-in_front_of : (w : Wire) (r : Outcome (List Cell)) (cs : List Cell) → cons_cell w r ≡ Ok cs → (c : Cell) × (ds : List Cell) × (w ≡ Ok c) × (r ≡ Ok ds) × (cs ≡ c ∷ ds)
+in_front_of : (w : Wire) (r : Outcome (List Cell)) (cs : List Cell) → cons_cell w r ≡ Ok cs → (c : Cell)
+    × (ds : List Cell) × (w ≡ Ok c) × (r ≡ Ok ds) × (cs ≡ c ∷ ds)
 in_front_of (Err x) r cs e = cc
 in_front_of (Ok c) (Err x) cs e = cc
 in_front_of (Ok c) (Ok ds) cs e = (c, ds, refl, refl, cc)
 
 -- the cells of elements are those that they are written as
-pub elements_written : {A : Type 0} (wire : A → Wire) (vs : List A) (cs : List Cell) → element_cells wire vs ≡ Ok cs → AllWritten wire vs cs
+pub elements_written : {A : Type 0} (wire : A → Wire) (vs : List A) (cs : List Cell) → element_cells wire vs ≡ Ok cs
+    → AllWritten wire vs cs
 elements_written wire [] cs e = let none : cs ≡ [] = cc in subst (AllWritten wire []) (sym none) tt
 elements_written wire (v ∷ vs) cs e =
     let p = in_front_of (element_frame_cell (wire v)) (element_cells wire vs) cs e in
     subst (AllWritten wire (v ∷ vs)) (sym p.4) (frame_after_cell (wire v) p.0 p.2, elements_written wire vs p.1 p.3)
 
-mapped : (f : List ℕ → List ℕ) (o : Option (List ℕ)) (s : List ℕ) → option_map f o ≡ Some s → (x : List ℕ) × (o ≡ Some x) × (s ≡ f x)
+mapped : (f : List ℕ → List ℕ) (o : Option (List ℕ)) (s : List ℕ) → option_map f o ≡ Some s → (x : List ℕ)
+    × (o ≡ Some x) × (s ≡ f x)
 mapped f None s e = cc
 mapped f (Some x) s e = (x, refl, cc)
 
 -- what is written as an array of cells is one
-pub array_body : (lower_bound : ℤ) (oid : ℕ) (cs : List Cell) (b : List ℕ) → array_bytes lower_bound oid cs ≡ Some b → ArrayBody b (length cs) cs []
+pub array_body : (lower_bound : ℤ) (oid : ℕ) (cs : List Cell) (b : List ℕ) → array_bytes lower_bound oid cs ≡ Some b
+    → ArrayBody b (length cs) cs []
 array_body lower_bound oid cs b e =
     let p = parts_of (array_head lower_bound oid cs) (frames cs) b e in
     let one : List ℕ = be w32 (pos 1) in
     let skipped : List ℕ = be w32 (flags_of cs) ++ to_be_bytes w32 oid in
     let first : List ℕ = be w32 lower_bound in
-    let h = mapped (λ n. one ++ (be w32 (flags_of cs) ++ (to_be_bytes w32 oid ++ (n ++ first)))) (count_bytes (length cs)) p.0 p.2 in
-    let is : b ≡ one ++ (skipped ++ (h.0 ++ (first ++ p.1))) = p.4 ∙ ap (λ x. x ++ p.1) h.2 ∙ ap (λ x. one ++ (skipped ++ x)) (append_assoc h.0 first p.1) in
+    let h = mapped (λ n. one ++ (be w32 (flags_of cs) ++ (to_be_bytes w32 oid ++ (n ++ first))))
+        (count_bytes (length cs)) p.0 p.2 in
+    let is : b ≡ one ++ (skipped ++ (h.0 ++ (first ++ p.1))) = p.4 ∙ ap (λ x. x ++ p.1) h.2
+        ∙ ap (λ x. one ++ (skipped ++ x)) (append_assoc h.0 first p.1) in
     let dimension : IsCount one 1 = (record { sfits = omega arith }, refl) in
-    (p.1, (1, one, skipped, h.0 ++ (first ++ p.1), is, dimension, refl, (h.0, first, refl, count_is (length cs) h.0 h.1, refl)), (frames_alone cs p.1 p.3, omega arith, inl refl))
+    (p.1, (1, one, skipped, h.0 ++ (first ++ p.1), is, dimension, refl,
+        (h.0, first, refl, count_is (length cs) h.0 h.1, refl)), (frames_alone cs p.1 p.3, omega arith, inl refl))
 
 wire_of_bytes : (o : Option (List ℕ)) (c : Cell) → wire_of o ≡ Ok c → (b : List ℕ) × (o ≡ Some b) × (c ≡ Some b)
 wire_of_bytes None c e = cc
@@ -61,7 +69,8 @@ wire_of_bytes (Some b) c e = (b, refl, cc)
 pub array_cell : (lower_bound : ℤ) (oid : ℕ) (r : Outcome (List Cell)) (c : Cell) → wire_array lower_bound oid r ≡ Ok c
     → (cs : List Cell) × (b : List ℕ) × (r ≡ Ok cs) × (array_bytes lower_bound oid cs ≡ Some b) × (c ≡ Some b)
 array_cell lower_bound oid (Err x) c e = cc
-array_cell lower_bound oid (Ok cs) c e = let p = wire_of_bytes (array_bytes lower_bound oid cs) c e in (cs, p.0, refl, p.1, p.2)
+array_cell lower_bound oid (Ok cs) c e = let p = wire_of_bytes (array_bytes lower_bound oid cs) c e in
+    (cs, p.0, refl, p.1, p.2)
 
 -- what is not refused meets the test
 pub tested : (t : Bool) (w : Wire) (c : Cell) → (if t then w else Err transmit) ≡ Ok c → (t ≡ true) × (w ≡ Ok c)

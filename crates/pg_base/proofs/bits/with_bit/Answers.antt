@@ -4,7 +4,9 @@ use Rattle.pg_base.proofs.BitLemmas.{set_bit, clear_bit}
 use Rattle.pg_base.proofs.bits.with_bit.Goals as goal
 
 pub returns-then-bit : goal.returns-then-bit
-returns-then-bit c = λ at h. set_bit c.args.byte c.args.place at c.requires h ∙ ap (λ t. cond (at == c.args.place) t (bit_of c.args.byte at)) (sym c.if-bit.true)
+returns-then-bit c = λ at h. set_bit c.args.byte c.args.place at c.requires h
+    ∙ ap (λ t. cond (at == c.args.place) t (bit_of c.args.byte at)) (sym c.if-bit.true)
 
 pub returns-else-bit : goal.returns-else-bit
-returns-else-bit c = λ at h. clear_bit c.args.byte c.args.place at c.requires h ∙ ap (λ t. cond (at == c.args.place) t (bit_of c.args.byte at)) (sym c.if-bit.false)
+returns-else-bit c = λ at h. clear_bit c.args.byte c.args.place at c.requires h
+    ∙ ap (λ t. cond (at == c.args.place) t (bit_of c.args.byte at)) (sym c.if-bit.false)

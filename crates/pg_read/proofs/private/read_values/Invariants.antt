@@ -7,4 +7,5 @@ use Rattle.pg_read.proofs.private.read_values.Given as goal
 -- the cells so far, and that the list has what they give
 abbrev pub invariant-loop : goal.invariant-loop
 invariant-loop g l =
-    (cs : List Cell) × (length cs ≡ l.counter) × HaveBeenRead (g.T.FromSql.reads (content l.type_)) l.fn.buf.now cs l.values.items l.buf.now
+    (cs : List Cell) × (length cs ≡ l.counter)
+        × HaveBeenRead (g.T.FromSql.reads (content l.type_)) l.fn.buf.now cs l.values.items l.buf.now

@@ -6,4 +6,5 @@ use Rattle.pg_write.proofs.arrays.element_cells.Given as goal
 
 -- the cells so far
 abbrev pub invariant-loop-value : goal.invariant-loop-value
-invariant-loop-value g l = element_cells (g.T.ToSql.wire (content l.element)) (take l.value-index l.values) ≡ Ok (map owned_cell l.cells.items)
+invariant-loop-value g l = element_cells (g.T.ToSql.wire (content l.element)) (take l.value-index l.values)
+    ≡ Ok (map owned_cell l.cells.items)

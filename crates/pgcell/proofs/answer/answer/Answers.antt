@@ -26,7 +26,8 @@ returns-in-Some-Norm-clause-ok c =
     let asked = rw c.in-Some-Norm.field-0-is at (rw c.in-Some-Norm.is at c.in_ok-parse.ensures) in
     let told = rw c.borrowed.ensures at c.norm.ensures.ok in
     ok_weaker {P = (text : List ℕ) × AnswersNorm name.base.now name.form cell text × (new ≡ old ++ text)} c.norm.result
-    (λ answer. (answer.0, answers_line c.args.line.now (Some (norm (name.base.now, name.form) cell)) answer.0 asked answer.1, answer.2)) told
+    (λ answer. (answer.0, answers_line c.args.line.now
+        (Some (norm (name.base.now, name.form) cell)) answer.0 asked answer.1, answer.2)) told
 
 pub returns-in-Some-TypeOf-clause-ok : goal.returns-in-Some-TypeOf-clause-ok
 returns-in-Some-TypeOf-clause-ok c =
@@ -35,7 +36,8 @@ returns-in-Some-TypeOf-clause-ok c =
     let new = c.show_type.new.pending.items in
     let asked = rw c.in-Some-TypeOf.field-0-is at (rw c.in-Some-TypeOf.is at c.in_ok-parse.ensures) in
     ok_weaker {P = (text : List ℕ) × AnswersType oid text × (new ≡ old ++ text)} c.show_type.result
-    (λ answer. (answer.0, answers_line c.args.line.now (Some (type_of oid)) answer.0 asked answer.1, answer.2)) c.show_type.ensures.ok
+    (λ answer. (answer.0, answers_line c.args.line.now (Some (type_of oid)) answer.0 asked answer.1, answer.2))
+        c.show_type.ensures.ok
 
 pub returns-in-Some-Lsn-clause-ok : goal.returns-in-Some-Lsn-clause-ok
 returns-in-Some-Lsn-clause-ok c =
@@ -43,4 +45,5 @@ returns-in-Some-Lsn-clause-ok c =
     let answer = lsn_answer (lsn_of position) in
     let asked = rw c.in-Some-Lsn.field-0-is at (rw c.in-Some-Lsn.is at c.in_ok-parse.ensures) in
     ok_weaker {P = c.show_lsn.new.pending.items ≡ c.args.pending.now.items ++ answer} c.show_lsn.result
-    (λ printed. (answer, answers_line c.args.line.now (Some (lsn position)) answer asked refl, printed)) c.show_lsn.ensures.ok
+    (λ printed. (answer, answers_line c.args.line.now (Some (lsn position)) answer asked refl, printed))
+        c.show_lsn.ensures.ok

@@ -10,4 +10,5 @@ returns-clause-outcome c =
     let rest = c.split_at.result.1.now in
     let cut : c.in_ok-dimensions.bytes.now ≡ skipped ++ rest = grind (arith, common_steps) in
     let one : c.in_ok-dimensions.dimensions ≡ 1 = omega arith in
-    one_dimension c.args.raw.now count.0 c.in_ok-dimensions.bytes.now skipped rest c.in_ok-dimensions.dimensions c.split_dimension.result count.1 count.2 one cut c.split_at.ensures.front_len c.split_dimension.ensures.outcome
+    one_dimension c.args.raw.now count.0 c.in_ok-dimensions.bytes.now skipped rest c.in_ok-dimensions.dimensions
+        c.split_dimension.result count.1 count.2 one cut c.split_at.ensures.front_len c.split_dimension.ensures.outcome

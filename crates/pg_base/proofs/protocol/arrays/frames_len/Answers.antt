@@ -12,7 +12,8 @@ returns-in_err-len-clause-len c =
     let so_far = c.loop-cell.invariant in
     rw (p.1, p.2) (
       none.0,
-      no_frame owned_cell c.args.cells.now c.loop-cell.cell-index _ c.loop-cell-test.true c.cell-item.is so_far.0 so_far.1 (ap frame (sym c.bytes_of.ensures) ∙ none.1),
+      no_frame owned_cell c.args.cells.now c.loop-cell.cell-index _ c.loop-cell-test.true c.cell-item.is so_far.0
+          so_far.1 (ap frame (sym c.bytes_of.ensures) ∙ none.1),
     )
 
 pub loop-cell-preserved : goal.loop-cell-preserved
@@ -20,7 +21,8 @@ loop-cell-preserved c =
     let here = c.in_ok-len.ensures.len in
     let so_far = c.loop-cell.invariant in (
       so_far.0 ++ here.0,
-      next_bytes owned_cell c.args.cells.now c.loop-cell.cell-index _ c.loop-cell-test.true c.cell-item.is so_far.0 here.0 so_far.1 (ap frame (sym c.bytes_of.ensures) ∙ here.1),
+      next_bytes owned_cell c.args.cells.now c.loop-cell.cell-index _ c.loop-cell-test.true c.cell-item.is so_far.0
+          here.0 so_far.1 (ap frame (sym c.bytes_of.ensures) ∙ here.1),
       omega (arith, so_far.2, here.2, length-append so_far.0 here.0),
       omega (arith, so_far.3, c.in_ok-len.ensures.short),
     )

@@ -15,7 +15,8 @@ returns-in_err-cell g c =
     let reads = g.T.FromSql.reads (content c.args.element.now) in
     let so_far = c.loop-cell.invariant in
     let damaged = rw c.in_err-cell.was at c.in-Some.ensures in
-    rw (p.1, p.2) (array_truncated reads g.row.N c.args.raw.now c.in_ok-cells.cells c.loop-cell.cells so_far.0 c.loop-cell.values.items c.in_ok-cells.ensures.outcome so_far.1 so_far.2 so_far.3
+    rw (p.1, p.2) (array_truncated reads g.row.N c.args.raw.now c.in_ok-cells.cells c.loop-cell.cells so_far.0
+        c.loop-cell.values.items c.in_ok-cells.ensures.outcome so_far.1 so_far.2 so_far.3
     (refusal_of c.in_err-cell.field-0.0) damaged.0)
 
 pub returns-then-len : goal.returns-then-len
@@ -24,7 +25,8 @@ returns-then-len g c =
     let so_far = c.loop-cell.invariant in
     let taken = rw c.in_ok-cell.was at c.in-Some.ensures in
     let full : length c.loop-cell.values.items ≡ g.row.N = omega arith in
-    array_long reads g.row.N c.args.raw.now c.in_ok-cells.cells c.loop-cell.cells so_far.0 c.loop-cell.values.items c.in_ok-cells.ensures.outcome so_far.1 so_far.2 so_far.3
+    array_long reads g.row.N c.args.raw.now c.in_ok-cells.cells c.loop-cell.cells so_far.0 c.loop-cell.values.items
+        c.in_ok-cells.ensures.outcome so_far.1 so_far.2 so_far.3
     c.next.new.self taken.1 (cell_of c.in_ok-cell.cell) (λ i. (c.type_inv.raw i).fits) taken.0 taken.2 taken.3 full
 
 pub returns-in_err-value : goal.returns-in_err-value
@@ -34,7 +36,8 @@ returns-in_err-value g c =
     let so_far = c.loop-cell.invariant in
     let taken = rw c.in_ok-cell.was at c.in-Some.ensures in
     let wanted : length c.loop-cell.values.items < g.row.N = omega (arith, so_far.3) in
-    rw (p.1, p.2) (array_refused reads g.row.N c.args.raw.now c.in_ok-cells.cells c.loop-cell.cells so_far.0 c.loop-cell.values.items c.in_ok-cells.ensures.outcome so_far.1 so_far.2 so_far.3
+    rw (p.1, p.2) (array_refused reads g.row.N c.args.raw.now c.in_ok-cells.cells c.loop-cell.cells so_far.0
+        c.loop-cell.values.items c.in_ok-cells.ensures.outcome so_far.1 so_far.2 so_far.3
     c.next.new.self taken.1 (cell_of c.in_ok-cell.cell) (λ i. (c.type_inv.raw i).fits) taken.0 taken.2 taken.3 wanted
     (refusal_of c.in_err-value.field-0.0) c.in_err-value.ensures.outcome)
 
@@ -45,12 +48,15 @@ loop-cell-preserved g c =
     let cell : Cell = cell_of c.in_ok-cell.cell in
     let taken = rw c.in_ok-cell.was at c.in-Some.ensures in
     let cells : List Cell = so_far.0 ++ cell ∷ [] in
-    let pushed = value_next reads so_far.0 cell c.loop-cell.values.items c.in_ok-value.value so_far.2 c.in_ok-value.ensures.outcome in
+    let pushed = value_next reads so_far.0 cell c.loop-cell.values.items c.in_ok-value.value so_far.2
+        c.in_ok-value.ensures.outcome in
     let wanted : length c.loop-cell.values.items < g.row.N = omega (arith, so_far.3) in (
       cells,
-      taken_next c.in_ok-cells.cells c.loop-cell.cells c.next.new.self so_far.0 cell taken.1 so_far.1 taken.0 taken.2 taken.3,
+      taken_next c.in_ok-cells.cells c.loop-cell.cells c.next.new.self so_far.0 cell taken.1 so_far.1 taken.0 taken.2
+          taken.3,
       rw c.in_ok-push.ensures.items pushed,
-      rw c.in_ok-push.ensures.items (omega (arith, wanted, length-append c.loop-cell.values.items (c.in_ok-value.value ∷ []))),
+      rw c.in_ok-push.ensures.items (omega
+          (arith, wanted, length-append c.loop-cell.values.items (c.in_ok-value.value ∷ []))),
     )
 
 pub returns-in-Ok : goal.returns-in-Ok
@@ -58,7 +64,8 @@ returns-in-Ok g c =
     let reads = g.T.FromSql.reads (content c.args.element.now) in
     let so_far = c.loop-cell.invariant in
     let whole : length c.loop-cell.values.items ≡ g.row.N = omega (arith, c.in-Ok.ensures.1) in
-    rw c.in-Ok.ensures.0 (array_ends reads g.row.N c.args.raw.now c.in_ok-cells.cells c.loop-cell.cells so_far.0 c.loop-cell.values.items c.in_ok-cells.ensures.outcome so_far.1 so_far.2 so_far.3 c.in_default.ensures.0 whole)
+    rw c.in-Ok.ensures.0 (array_ends reads g.row.N c.args.raw.now c.in_ok-cells.cells c.loop-cell.cells so_far.0
+        c.loop-cell.values.items c.in_ok-cells.ensures.outcome so_far.1 so_far.2 so_far.3 c.in_default.ensures.0 whole)
 
 pub returns-in-Err : goal.returns-in-Err
 returns-in-Err g c =
@@ -66,4 +73,5 @@ returns-in-Err g c =
     let so_far = c.loop-cell.invariant in
     let short : length c.loop-cell.values.items < g.row.N = grind (arith, so_far.3, c.in-Err.ensures.1) in
     let got : c.len-in-Err.result ≡ length c.loop-cell.values.items = omega (arith, ap vec_len c.in-Err.ensures.0) in
-    rw got (array_short reads g.row.N c.args.raw.now c.in_ok-cells.cells c.loop-cell.cells so_far.0 c.loop-cell.values.items c.in_ok-cells.ensures.outcome so_far.1 so_far.2 so_far.3 c.in_default.ensures.0 short)
+    rw got (array_short reads g.row.N c.args.raw.now c.in_ok-cells.cells c.loop-cell.cells so_far.0
+        c.loop-cell.values.items c.in_ok-cells.ensures.outcome so_far.1 so_far.2 so_far.3 c.in_default.ensures.0 short)

@@ -7,7 +7,8 @@ use Rattle.pg_base.proofs.protocol.hstore.HstoreEntries.next.Goals as goal
 pub returns-in-Err : goal.returns-in-Err
 returns-in-Err c =
     let fault = c.in-Err.ensures.outcome in (
-      IfSome_then (refusal_of c.in-Err.fault) fault (λ r e. entry_fault_next c.args.self.now _ _ r c.self.view_is c.if-self-eq0.false e),
+      IfSome_then (refusal_of c.in-Err.fault) fault
+          (λ r e. entry_fault_next c.args.self.now _ _ r c.self.view_is c.if-self-eq0.false e),
       c.in-Err.ensures.never_memory,
       refl,
     )
