@@ -52,11 +52,13 @@ run_ends items reads start n x cs now many h =
 module _ {A X : Type 0} (items : X → List A) (reads : Cell → Outcome A → Type 0) (start : List ℕ) (cs : List Cell)
     (vs : List A) (now : List ℕ)
     (so_far : HaveBeenRead reads start cs vs now) (n : ℕ) (f : Fault) where
-  -- a run stops after values that were read where memory runs out
-  pub run_unkept : length cs ≤ n → AreBytes start → refusal_of f ≡ None → ReadsRun items reads start n (Err f) now
-  run_unkept few bytes is =
-      let more = remaining_cells start now cs n so_far.spelled few (row_bytes start now cs so_far.spelled bytes) in
-      (cs ++ more.0, more.1, more.2, rw is (cs, vs, so_far.values, inl (more.0, refl, so_far.spelled)))
+  -- a run stops after one more cell where memory runs out
+  pub run_unkept : (c : Cell) (new : List ℕ) → SpellsAll start (cs ++ c ∷ []) new → length cs < n → AreBytes start
+      → refusal_of f ≡ None → ReadsRun items reads start n (Err f) new
+  run_unkept c new spelled few bytes is =
+      let more = remaining_cells start new (cs ++ c ∷ []) n spelled (omega (arith, few, length-append cs (c ∷ [])))
+          (row_bytes start new (cs ++ c ∷ []) spelled bytes) in
+      ((cs ++ c ∷ []) ++ more.0, more.1, more.2, rw is (cs, c, vs, so_far.values, (more.0, refl, spelled)))
 
 module _ {A X : Type 0} (items : X → List A) (reads : Cell → Outcome A → Type 0) (memory_free : Cell → Type 0)
     (start : List ℕ) (cs : List Cell) (vs : List A) (now : List ℕ)
@@ -71,7 +73,7 @@ module _ {A X : Type 0} (items : X → List A) (reads : Cell → Outcome A → T
   stops_after : (fault : Option Refusal) (c : Cell) (rest ends : List ℕ) (ds : List Cell)
       → SpellsAll start (cs ++ c ∷ []) rest → IfSome fault (λ r. reads c (Err r))
       → RunStops reads start n ((cs ++ c ∷ []) ++ ds) ends fault rest
-  stops_after None c rest ends ds spelled h = (cs, vs, so_far.values, inr (c, (ds, refl, spelled)))
+  stops_after None c rest ends ds spelled h = (cs, c, vs, so_far.values, (ds, refl, spelled))
   stops_after (Some r) c rest ends ds spelled h = inl (cs, c, vs, so_far.values, h, (ds, refl, spelled))
 
   stops_at : AreBytes now → (ds : List Cell) (rest : List ℕ) → CellsInRow now 1 ds rest

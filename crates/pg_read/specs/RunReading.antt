@@ -24,12 +24,11 @@ abbrev pub StopsTruncated : {A : Type 0} → (Cell → Outcome A → Type 0) →
 StopsTruncated {A} reads n cs rest r new = (vs : List A) × ReadsAll reads cs (Ok vs) × (length cs < n) × (r ≡ size)
     × (new ≡ after_truncated rest)
 
--- memory runs out: the slice stands after first cells that each give a value, or after one more, whose value was not
--- kept
+-- memory runs out: the slice stands after first cells that each give a value and one more, whose value was not read or
+-- not kept
 abbrev pub StopsOutOfMemory : {A : Type 0} → (Cell → Outcome A → Type 0) → List ℕ → List Cell → List ℕ → Type 0
 StopsOutOfMemory {A} reads old cs new =
-    (ds : List Cell) × (vs : List A) × ReadsAll reads ds (Ok vs)
-        × (StandsAfter old cs ds new ⊎ ((c : Cell) × StandsAfter old cs (ds ++ c ∷ []) new))
+    (ds : List Cell) × (c : Cell) × (vs : List A) × ReadsAll reads ds (Ok vs) × StandsAfter old cs (ds ++ c ∷ []) new
 
 -- with which fault n cells are not read, and where the slice stands
 abbrev pub RunStops : {A : Type 0} → (Cell → Outcome A → Type 0) → List ℕ → ℕ → List Cell → List ℕ → Option Refusal

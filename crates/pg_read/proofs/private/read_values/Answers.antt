@@ -32,9 +32,9 @@ returns-in_err-push-clause-run g c =
     let next = run_next reads g.T.FromSql.memory_free c.args.buf.now.now so_far.0 c.loop.values.items c.loop.buf.now
         so_far.2 c.in_ok-value.value c.read_value.new.buf.now
     c.in_ok-value.ensures in
-    rw p.1 (run_unkept (λ (v : Vec g.row.T.Denot Global). v.items) reads c.args.buf.now.now (so_far.0 ++ next.0 ∷ [])
-    (c.loop.values.items ++ c.in_ok-value.value ∷ []) c.read_value.new.buf.now next.1 c.args.n p.0
-    (omega (arith, so_far.1, length-append so_far.0 (next.0 ∷ []))) c.holds_bytes.ensures (ap refusal_of p.2))
+    rw p.1 (run_unkept (λ (v : Vec g.row.T.Denot Global). v.items) reads c.args.buf.now.now so_far.0
+        c.loop.values.items c.loop.buf.now so_far.2 c.args.n p.0 next.0 c.read_value.new.buf.now next.1.spelled
+        (omega (arith, so_far.1)) c.holds_bytes.ensures (ap refusal_of p.2))
 
 pub loop-preserved : goal.loop-preserved
 loop-preserved g c =
