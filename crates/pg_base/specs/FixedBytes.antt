@@ -1,4 +1,4 @@
--- Identifiers: MACADDR (macaddr_send, macaddr_recv), of six bytes, and UUID (uuid_send, uuid_recv), of sixteen.
+-- Bytes of a fixed number: MACADDR (macaddr_send, macaddr_recv), of six, and UUID (uuid_send, uuid_recv), of sixteen.
 use Rattle.std.specs.Prelude.{◌≡◌, ℕ, ◌==◌, List, length, Some, if◌then◌else◌, Ok, Err}
 use Rattle.pg_base.specs.Cells.{Cell}
 use Rattle.pg_types.specs.Faults.{Outcome, transmit}
@@ -14,6 +14,6 @@ FormFixedBytes width b v = (v ≡ b) × (length b ≡ width)
 abbrev pub ReadsFixedBytes : ℕ → Cell → Outcome (List ℕ) → Type 0
 ReadsFixedBytes width = ReadsPlain (FormFixedBytes width) (first_fault_number width)
 
--- the cell of an identifier: its bytes, or Transmit where they are not as many as the width
+-- the cell of such bytes: they themselves, or Transmit where they are not as many as the width
 abbrev pub wire_fixed_bytes : ℕ → List ℕ → Wire
 wire_fixed_bytes width v = if length v == width then Ok (Some v) else Err transmit
