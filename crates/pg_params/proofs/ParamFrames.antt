@@ -13,7 +13,7 @@ use Rattle.pg_types.specs.Faults.{refusal_of, transmit}
 use Rattle.pg_types.specs.declared.fault.Fault.{Fault}
 use Rattle.pg_types.specs.declared.format.IsNull.TheVariants.{No}
 use Rattle.pg_write.specs.ArrayWriting.{element_frame_cell, with_frame}
-use Rattle.pg_params.specs.ParamWriting.{AppendsFrame, FramesFrom}
+use Rattle.pg_params.specs.ParamWriting.{AppendsFrameOrPart, FramesFrom}
 use Rattle.pg_write.specs.Writing.{Writes}
 
 cond_fails : (t : Bool) (b : List ℕ) → t ≡ false → cond t (Some b) None ≡ None
@@ -28,7 +28,7 @@ cond_holds false b e = let no : ⊥ = cc in absurd no
 pub long_frame : (b : List ℕ) → 2147483647 < length b → frame (Some b) ≡ None
 long_frame b h =
     let t : nat_le (length b) 2147483647 ≡ false = grind (arith, nat_tests) in
-        cond_fails (nat_le (length b) 2147483647) (be w32 (pos (length b)) ++ b) t
+    cond_fails (nat_le (length b) 2147483647) (be w32 (pos (length b)) ++ b) t
 
 -- and fewer have their number and themselves as their frame
 pub frame_bytes : (b : List ℕ) (n : ℕ) → length b ≤ 2147483647 → n ≡ length b → frame (Some b)
@@ -36,7 +36,7 @@ pub frame_bytes : (b : List ℕ) (n : ℕ) → length b ≤ 2147483647 → n ≡
 frame_bytes b n h e =
     let t : nat_le (length b) 2147483647 ≡ true = grind (arith, nat_tests) in
     cond_holds (nat_le (length b) 2147483647) (be w32 (pos (length b)) ++ b) t
-        ∙ ap (λ y. Some (to_be_bytes w32 y ++ b)) (sym e)
+    ∙ ap (λ y. Some (to_be_bytes w32 y ++ b)) (sym e)
 
 module _ (old head b written : List ℕ) (four : length head ≡ 4) (is : written ≡ (old ++ head) ++ b) where
   -- what the buffer held comes first
@@ -52,19 +52,26 @@ module _ (old head b written : List ℕ) (four : length head ≡ 4) (is : writte
 -- a cell that was written after four bytes, which became its length
 pub frame_after_cell : (w : Wire) (old head mid written new : List ℕ) (n : ℕ) (r : Result ⊤ Fault) → n ≡ length old
     → length head ≡ 4 → mid ≡ old ++ head → Writes w mid written (Ok No)
-    → FramesFrom n written new r → AppendsFrame w old new r
+    → FramesFrom n written new r → AppendsFrameOrPart w old new r
 frame_after_cell w old head mid written new n (Ok done) at four m cell gives =
     let is : written ≡ (old ++ head) ++ cell.0 = cell.2 ∙ ap (λ s. s ++ cell.0) m in
     let whole : frame (Some cell.0) ≡ Some gives.0 =
-        ap (λ s. frame (Some s)) (sym (behind old head cell.0 written four is))
-        ∙ ap (λ k. frame (Some (drop (k + 4) written))) (sym at) ∙ gives.1 in
-    (Some cell.0, gives.0, cell.1, whole, gives.2 ∙ ap (λ k. take k written ++ gives.0) at
-        ∙ ap (λ s. s ++ gives.0) (front old head cell.0 written four is))
+    ap (λ s. frame (Some s)) (sym (behind old head cell.0 written four is))
+    ∙ ap (λ k. frame (Some (drop (k + 4) written))) (sym at) ∙ gives.1 in (
+      Some cell.0,
+      gives.0,
+      cell.1,
+      whole,
+      gives.2 ∙ ap (λ k. take k written ++ gives.0) at
+          ∙ ap (λ s. s ++ gives.0) (front old head cell.0 written four is),
+    )
 frame_after_cell w old head mid written new n (Err f) at four m cell gives =
     let is : written ≡ (old ++ head) ++ cell.0 = cell.2 ∙ ap (λ s. s ++ cell.0) m in
     let none : frame (Some cell.0) ≡ None = ap (λ s. frame (Some s)) (sym (behind old head cell.0 written four is))
-        ∙ ap (λ k. frame (Some (drop (k + 4) written))) (sym at) ∙ gives.2 in
+    ∙ ap (λ k. frame (Some (drop (k + 4) written))) (sym at) ∙ gives.2 in
     let refused : element_frame_cell w ≡ Err transmit = ap element_frame_cell cell.1
-        ∙ ap (with_frame (Some cell.0)) none in
-    (ap (take (length old)) gives.0 ∙ front old head cell.0 written four is, subst
-        (λ x. IfSome (refusal_of x) (λ r. element_frame_cell w ≡ Err r)) (sym gives.1) refused)
+    ∙ ap (with_frame (Some cell.0)) none in (
+      ap (take (length old)) gives.0 ∙ front old head cell.0 written four is,
+      subst
+          (λ x. IfSome (refusal_of x) (λ r. element_frame_cell w ≡ Err r)) (sym gives.1) refused,
+    )

@@ -14,7 +14,7 @@ use Rattle.pg_base.proofs.FrameLists.{frames-append}
 use Rattle.pg_base.proofs.Concat.{concat-nil}
 use Rattle.pg_write.proofs.ElementCells.{next_cell}
 use Rattle.pg_write.specs.ArrayWriting.{element_cells, element_frame_cell, with_frame}
-use Rattle.pg_params.specs.ParamWriting.{AppendsFrame, Binds}
+use Rattle.pg_params.specs.ParamWriting.{AppendsFrameOrPart, Binds}
 
 -- one frame more
 next_frame : (cs : List Cell) (c : Cell) (bs b : List ℕ) → frames cs ≡ Some bs → frame c ≡ Some b
@@ -44,7 +44,7 @@ module _ {A B : Type 0} (f : A × B → Wire) (xs : List A) (ys : List B) (same 
 
     -- one more parameter was appended
     pub next_param : {u : ⊤} (old mid new : List ℕ) → Binds f (take i (zip xs ys)) old mid (Ok u)
-        → AppendsFrame (f here) mid new (Ok u) → Binds f (take (i + 1) (zip xs ys)) old new (Ok u)
+        → AppendsFrameOrPart (f here) mid new (Ok u) → Binds f (take (i + 1) (zip xs ys)) old new (Ok u)
     next_param old mid new (cs, bs, cells, all, was) (c, b, cell, one, is) =
         let has : element_frame_cell (f here) ≡ Ok c = ap element_frame_cell cell ∙ ap (with_frame c) one in (
           cs ++ c ∷ [],
@@ -56,16 +56,18 @@ module _ {A B : Type 0} (f : A × B → Wire) (xs : List A) (ys : List B) (same 
 
     -- the parameter here is refused, and what was appended is taken back
     pub refused_param : {u : ⊤} (fault : Fault) (old mid low new : List ℕ)
-        → Binds f (take i (zip xs ys)) old mid (Ok u) → AppendsFrame (f here) mid low (Err fault) → new
+        → Binds f (take i (zip xs ys)) old mid (Ok u) → AppendsFrameOrPart (f here) mid low (Err fault) → new
         ≡ take (length old) low
         → Binds f (zip xs ys) old new (Err (i, fault))
     refused_param fault old mid low new (cs, bs, cells, all, was) (front, why) cut =
         let rest = drop (length mid) low in
         let is : low ≡ old ++ (bs ++ rest) = sym (take-append-drop (length mid) low)
-            ∙ ap (λ s. s ++ rest) (front ∙ was) ∙ append_assoc old bs rest in
-        let back : new ≡ old = cut ∙ ap (take (length old)) is ∙ take-append_seam old (bs ++ rest) in
-        (back, is_ok (element_cells f (take i (zip xs ys))) cs cells,
-            (here, slice_get_read (zip xs ys) (length (zip xs ys)) i here refl within stands, why))
+        ∙ ap (λ s. s ++ rest) (front ∙ was) ∙ append_assoc old bs rest in
+        let back : new ≡ old = cut ∙ ap (take (length old)) is ∙ take-append_seam old (bs ++ rest) in (
+          back,
+          is_ok (element_cells f (take i (zip xs ys))) cs cells,
+          (here, slice_get_read (zip xs ys) (length (zip xs ys)) i here refl within stands, why),
+        )
 
   -- all were appended
   pub all_params : {u : ⊤} (i : ℕ) (old new : List ℕ) → length xs ≤ i → Binds f (take i (zip xs ys)) old new (Ok u)

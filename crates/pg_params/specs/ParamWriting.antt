@@ -8,10 +8,16 @@ use Rattle.pg_types.specs.declared.fault.Fault.{Fault}
 use Rattle.pg_types.specs.declared.fault.Fault.TheVariants.{Transmit}
 use Rattle.pg_write.specs.ArrayWriting.{element_cells, element_frame_cell}
 
--- the frame of the cell was appended; or there is none, and what was written of it follows the old bytes
+-- the frame of the cell was appended; or it is refused with this fault or has no frame, or memory ran out, and the bytes
+-- are as they were
 abbrev pub AppendsFrame : Wire → List ℕ → List ℕ → Result ⊤ Fault → Type 0
 AppendsFrame w old new (Ok done) = (c : Cell) × (b : List ℕ) × (w ≡ Ok c) × (frame c ≡ Some b) × (new ≡ old ++ b)
-AppendsFrame w old new (Err f) = (take (length old) new ≡ old)
+AppendsFrame w old new (Err f) = (new ≡ old) × IfSome (refusal_of f) (λ r. element_frame_cell w ≡ Err r)
+
+-- the same, but after a refusal what was written of the frame follows the old bytes
+abbrev pub AppendsFrameOrPart : Wire → List ℕ → List ℕ → Result ⊤ Fault → Type 0
+AppendsFrameOrPart w old new (Ok done) = AppendsFrame w old new (Ok done)
+AppendsFrameOrPart w old new (Err f) = (take (length old) new ≡ old)
     × IfSome (refusal_of f) (λ r. element_frame_cell w ≡ Err r)
 
 -- what stands four bytes after the place n got its length at n; or it has no frame
@@ -26,4 +32,4 @@ Binds wire vs old new (Ok done) = (cs : List Cell) × (b : List ℕ) × (element
     × (frames cs ≡ Some b) × (new ≡ old ++ b)
 Binds {A} wire vs old new (Err (p, f)) =
     (new ≡ old) × IsOk (element_cells wire (take p vs))
-        × ((v : A) × (slice_get vs p ≡ Some v) × IfSome (refusal_of f) (λ r. element_frame_cell (wire v) ≡ Err r))
+    × ((v : A) × (slice_get vs p ≡ Some v) × IfSome (refusal_of f) (λ r. element_frame_cell (wire v) ≡ Err r))

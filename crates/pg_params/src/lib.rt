@@ -4,7 +4,7 @@
 ghost use Rattle.std.specs.Prelude.{◌≡◌, ◌≤◌, ◌+◌, ◌++◌, drop, length, take, zip};
 ghost use Rattle.std.specs.Int.{to_be_bytes, w32};
 ghost use Rattle.pg_types.specs.Content.{content};
-ghost use Rattle.pg_params.specs.ParamWriting.{AppendsFrame, Binds, FramesFrom};
+ghost use Rattle.pg_params.specs.ParamWriting.{AppendsFrame, AppendsFrameOrPart, Binds, FramesFrom};
 ghost use Rattle.pg_write.specs.Writing.{Writes};
 
 use bytes::{BufMut, BytesMut};
@@ -17,6 +17,45 @@ use std::alloc::Global;
 
 /// How many bytes the length of a cell takes.
 const LEN: usize = 4;
+
+/// Appends the frame of the value, as a field of a binary COPY or a parameter of a Bind message is
+/// laid out: the length of its cell in 4 bytes, big-endian, and the cell's bytes; for NULL the
+/// length -1.
+///
+/// A refusal is that of its checked writing, or `Transmit` where its cell passes 2,147,483,647
+/// bytes. It leaves the buffer's bytes as they were, `Memory` too.
+pub fn frame_value<T: ToSql>(
+    alloc: Global,
+    value: &T,
+    ty: &PgType,
+    out: &mut BytesMut,
+) -> Result<(), Fault>
+    ensures { AppendsFrame (T.checked (content ty.now) value.now) out.old.items out.new.items result }
+{
+    let start = out.len();
+    let outcome = value_to_sql(alloc, value, ty, out);
+    if outcome.is_err() {
+        out.truncate(start);
+    }
+    outcome
+}
+
+/// Appends the frame of the value. A refusal leaves what was appended so far.
+fn value_to_sql<T: ToSql>(
+    alloc: Global,
+    value: &T,
+    ty: &PgType,
+    out: &mut BytesMut,
+) -> Result<(), Fault>
+    ensures { AppendsFrameOrPart (T.checked (content ty.now) value.now) out.old.items out.new.items result }
+{
+    let start = out.len();
+    out.put_i32(-1)?;
+    let IsNull::No = value.to_sql_checked(alloc, ty, out)? else {
+        return Ok(());
+    };
+    frame_from(start, out)
+}
 
 /// Appends the frames of the parameters in their order, each for the type that stands at its place:
 /// the length of its cell in 4 bytes, big-endian, and the cell's bytes; for NULL the length -1.
@@ -51,7 +90,7 @@ fn param_to_sql(
     ty: &PgType,
     out: &mut BytesMut,
 ) -> Result<(), Fault>
-    ensures { AppendsFrame ((ToSql-box param.now).ToSql.checked (content ty.now) param.now.value)
+    ensures { AppendsFrameOrPart ((ToSql-box param.now).ToSql.checked (content ty.now) param.now.value)
         out.old.items out.new.items result }
 {
     let start = out.len();

@@ -34,7 +34,7 @@ module _ {A : Type 0} (same : A → A → Type 0) (reads : Cell → Outcome A �
     itself : (d : Cell) → wire u ≡ Ok d → IsRewrittenAsItself reads wire d
     itself d e old new (Ok null) h =
         subst (λ w. Writes w old new (Ok null))
-            (law.same_wire h.0 u (single d (Ok h.0) (Ok u) h.1 (kept same reads wire back law c u d read e)) ∙ e) h.2
+        (law.same_wire h.0 u (single d (Ok h.0) (Ok u) h.1 (kept same reads wire back law c u d read e)) ∙ e) h.2
     itself d e old new (Err f) h = (h.0, IfSome_then (refusal_of f) h.1 (not_refused d e))
 
     -- the cell that is written is the written form of what was read, and reads as it

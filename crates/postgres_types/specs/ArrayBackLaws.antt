@@ -35,7 +35,7 @@ module _ {A : Type 0} (same : A → A → Type 0) (reads : Cell → Outcome A �
   same_cells (v ∷ vs) [] h = absurd h
   same_cells (v ∷ vs) (w ∷ ws) h =
       ap (λ u. cons_cell (element_frame_cell u) (element_cells wire vs)) (law.same_wire v w h.0)
-          ∙ ap (cons_cell (element_frame_cell (wire w))) (same_cells vs ws h.1)
+      ∙ ap (cons_cell (element_frame_cell (wire w))) (same_cells vs ws h.1)
 
   all_same_back : (vs ws : List A) (o : Outcome (List A)) → SameList same vs ws → ReadsAll back vs o
       → ReadsAll back ws o
@@ -106,7 +106,7 @@ module _ {A X : Type 0} (items : X → List A) (same : A → A → Type 0) (read
     (wires : Content → A → Wire) (back : A → Outcome A → Type 0)
     (ty element : Content) (law : IsLawful same reads (wires element) back)
     (wanted : ℕ → Bool) (elements : ℕ → List Cell → List ℕ → Outcome (List A) → Type 0)
-        (its_cells : ReadsItsCells reads wanted elements) where
+    (its_cells : ReadsItsCells reads wanted elements) where
   abbrev wire : A → Wire
   wire = wires element
 
@@ -120,7 +120,7 @@ module _ {A X : Type 0} (items : X → List A) (same : A → A → Type 0) (read
   abbrev written_of : ℕ → Outcome (List Cell) → Wire
   written_of n cells =
       if wanted n then (if nat_le n 2147483647 then wire_array (lower_bound_of ty)
-          (oid_of element) cells else Err transmit) else Err transmit
+      (oid_of element) cells else Err transmit) else Err transmit
 
   list_same_wire : (vs ws : List A) → SameList same vs ws → Written vs ≡ Written ws
   list_same_wire vs ws h =
@@ -145,7 +145,7 @@ module _ {A X : Type 0} (items : X → List A) (same : A → A → Type 0) (read
         let e = body_single cell.bytes n (length cell.cells) cs cell.cells rest [] p cell.body in
         its_cells.given cell.cells o many
         (subst (λ x. elements x cell.cells [] o) e.0
-            (subst (λ x. elements n x [] o) e.1 (subst (λ x. elements n cs x o) e.2 h)))
+        (subst (λ x. elements n x [] o) e.1 (subst (λ x. elements n cs x o) e.2 h)))
 
     sound_head : (r : Refusal) → first_fault_of (head_checks cell.bytes) ≡ Some r → ⊥
     sound_head r = no_fault (first_fault_of (head_checks cell.bytes)) r
@@ -171,7 +171,7 @@ module _ {A X : Type 0} (items : X → List A) (same : A → A → Type 0) (read
   list_back_reads x c (Ok y) e h =
       let cell = list_cell wires wanted ty element (items x) c e in
       bytes_read (items x) c cell y (all_reads same reads wire back law (items x) cell.cells
-          (Ok (items y)) cell.written h)
+      (Ok (items y)) cell.written h)
   list_back_reads x c (Err r) e h =
       let cell = list_cell wires wanted ty element (items x) c e in
       bytes_refused (items x) c cell r (all_reads same reads wire back law (items x) cell.cells (Err r) cell.written h)
@@ -180,12 +180,12 @@ module _ {A X : Type 0} (items : X → List A) (same : A → A → Type 0) (read
   list_reads_back x c (Ok y) e h =
       let cell = list_cell wires wanted ty element (items x) c e in
       all_back same reads wire back law (items x) cell.cells (Ok (items y)) cell.written
-          (cells_read (items x) c cell y (subst (λ d. Reads d (Ok y)) cell.is h))
+      (cells_read (items x) c cell y (subst (λ d. Reads d (Ok y)) cell.is h))
   list_reads_back x c (Err r) e h =
       let cell = list_cell wires wanted ty element (items x) c e in
       let o : Outcome X = Err r in
       all_back same reads wire back law (items x) cell.cells (Err r) cell.written
-          (cells_refused (items x) c cell r (subst (λ d. Reads d o) cell.is h))
+      (cells_refused (items x) c cell r (subst (λ d. Reads d o) cell.is h))
 
   -- a list that was read is written as bytes that read as it
   list_written : (x : X) (cs : List Cell) (w : Wire) → ReadsAll reads cs (Ok (items x)) → Written (items x) ≡ w
@@ -293,21 +293,21 @@ module _ {A X : Type 0} (items : X → List A) (same : A → A → Type 0) (acce
 
     by_element_lawful : (ty : Content) (element : Option Content) → IsTrue (accepted_element accepted element)
         → IsLawful Same (ByElementReads element) (λ x. wire_wanted wanted (wire_by_element wire ty element) (items x))
-            (Back element)
+        (Back element)
     by_element_lawful ty None h = absurd (true≢false (sym h))
     by_element_lawful ty (Some element) h =
         list_lawful items same (reads element) wire (back element) ty element (law element h) wanted
-            (elements (reads element)) (its_cells (reads element))
+        (elements (reads element)) (its_cells (reads element))
 
   -- lists are lawful for the arrays of what lawful elements accept
   pub array_lawful : (ty : Content) → IsTrue (accepted_list accepted ty)
       → IsLawful Same (ReadsByElement (λ element. ReadsList items (reads element)) (element_of ty))
-          (λ x. wire_list wire ty (items x)) (Back (element_of ty))
+      (λ x. wire_list wire ty (items x)) (Back (element_of ty))
   array_lawful ty h = by_element_lawful (λ n. true) ReadsElements all_lengths ty (element_of ty) h
 
   -- and so are those of so many elements
   pub fixed_lawful : (expected : ℕ) (ty : Content) → IsTrue (accepted_list accepted ty)
       → IsLawful Same (ReadsByElement (λ element. ReadsArray items (ReadsFixed expected (reads element)))
-          (element_of ty)) (λ x. wire_fixed expected wire ty (items x)) (Back (element_of ty))
+      (element_of ty)) (λ x. wire_fixed expected wire ty (items x)) (Back (element_of ty))
   fixed_lawful expected ty h = by_element_lawful (λ n. n == expected) (ReadsFixed expected)
       (λ r. one_length r expected) ty (element_of ty) h

@@ -25,7 +25,7 @@ module _ {A B : Type 0} (inside : B → A) (same : A → A → Type 0) (reads : 
       → BackBox inside wire back w o
   box_same_back v w o h k =
       if_null_map (wire (inside w)) (IsWasNull o) (InBox inside (back (inside v)) o) (InBox inside (back (inside w)) o)
-          (in_box_map (inside v) (inside w) h o)
+      (in_box_map (inside v) (inside w) h o)
       (subst (λ u. BackFrom u (inside v) o) (law.same_wire (inside v) (inside w) h) k)
 
   box_written : (v : B) (w : Wire) → WrittenAsBytes reads (inside v) w → WrittenAsBytes (ReadsBox inside reads) v w

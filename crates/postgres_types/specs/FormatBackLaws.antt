@@ -80,14 +80,14 @@ text_written versioned s = written_if (ReadsText (λ t. t) versioned) s (is_utf8
 
 pub text_lawful : {A : Type 0} (bytes_of : A → List ℕ) (versioned : Bool)
     → IsLawful (λ v w. bytes_of v ≡ bytes_of w) (ReadsText bytes_of versioned) (λ v. wire_text versioned (bytes_of v))
-        (BackKept (λ v w. bytes_of v ≡ bytes_of w))
+    (BackKept (λ v w. bytes_of v ≡ bytes_of w))
 text_lawful bytes_of versioned =
     plain_lawful bytes_of (FormText (λ t. t) versioned) (first_fault_text versioned) (text_grammar (λ t. t) versioned)
-        (wire_text versioned) (text_written versioned)
+    (wire_text versioned) (text_written versioned)
 
 pub bytes_lawful : {A : Type 0} (bytes_of : A → List ℕ)
     → IsLawful (λ v w. bytes_of v ≡ bytes_of w) (ReadsBytes bytes_of) (λ v. wire_bytes (bytes_of v))
-        (BackKept (λ v w. bytes_of v ≡ bytes_of w))
+    (BackKept (λ v w. bytes_of v ≡ bytes_of w))
 bytes_lawful bytes_of = plain_lawful bytes_of (FormBytes (λ s. s)) first_fault_bytes
     (bytes_grammar (λ s. s)) wire_bytes (λ s. refl)
 
@@ -145,4 +145,4 @@ pub fixed_bytes_lawful : (width : ℕ)
     → IsLawful (λ v w. v ≡ w) (ReadsFixedBytes width) (wire_fixed_bytes width) (BackKept (λ v w. v ≡ w))
 fixed_bytes_lawful width =
     plain_lawful (λ v. v) (FormFixedBytes width) (first_fault_number width) (fixed_bytes_grammar width)
-        (wire_fixed_bytes width) (identifier_written width)
+    (wire_fixed_bytes width) (identifier_written width)

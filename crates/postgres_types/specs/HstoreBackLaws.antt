@@ -34,8 +34,8 @@ Owned = String Global × Option (String Global)
 -- ---- what a map has at a key
 found_or : (t : Bool) (v : Option (String Global)) (rest : Option (Option (String Global))) (old : Option Cell)
     → option_map (λ o. option_map string_bytes o) rest ≡ old
-        → option_map (λ o. option_map string_bytes o) (cond t (Some v) rest)
-        ≡ cond t (Some (option_map string_bytes v)) old
+    → option_map (λ o. option_map string_bytes o) (cond t (Some v) rest)
+    ≡ cond t (Some (option_map string_bytes v)) old
 found_or true v rest old e = refl
 found_or false v rest old e = e
 
@@ -128,7 +128,7 @@ module _ {S : Type 0} where
   same_entries : (m n : HashMap (String Global) (Option (String Global)) S) → SameMap m n → entries_of m ≡ entries_of n
   same_entries m n h =
       sorted_same (entries_of m) (entries_of n) (in_order (map owned_entry m.entries))
-          (in_order (map owned_entry n.entries))
+      (in_order (map owned_entry n.entries))
       (λ q. sym (has_entries m q) ∙ h q ∙ has_entries n q)
 
   map_kept : (m : HashMap (String Global) (Option (String Global)) S) (o : Option (List ℕ))
@@ -138,7 +138,7 @@ module _ {S : Type 0} where
   map_kept m (Some b) e =
       let law = hstore_grammar (value_at {S = S}) in
       let h = spelled value_at m (entries_of m) b (ordered_texts (map owned_entry m.entries) (owned_texts m.entries))
-          (has_last m) e in
+      (has_last m) e in
       (law.passes b m h, λ n k. (h.0, h.1, h.2, h.3, λ q. sym (k q) ∙ h.4 q), λ n k. law.single b m n h k)
 
   -- a map is lawful, and is read back as itself
@@ -147,5 +147,5 @@ module _ {S : Type 0} where
   hstore_lawful = kept_lawful (FormHstore value_at) first_fault_hstore SameMap SameMap
       (λ m. wire_hstore (map owned_entry m.entries))
       (λ m n h. ap (λ es. wire_of (hstore_bytes es)) (same_entries m n h)) (λ l m n h k q. sym (h q) ∙ k q)
-          (λ b m h q. refl)
+      (λ b m h q. refl)
       (λ m. map_kept m (hstore_bytes (entries_of m)) refl)

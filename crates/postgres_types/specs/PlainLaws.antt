@@ -64,18 +64,21 @@ module _ {A C : Type 0} (content_of : A → C) (form : List ℕ → C → Type 0
   all_kept : (v : A) (x : Wire) → WrittenAsBytes (ReadsPlain form first_fault) (content_of v) x
       → WrittenAsKept (λ b w. form b (content_of w)) first_fault (λ u w. content_of u ≡ content_of w) v x
   all_kept v (Ok None) h = h
-  all_kept v (Ok (Some b)) h =
-      (grammar.passes b (content_of v) h, λ w e. subst (form b) e h, λ w k. grammar.single b (content_of v)
-          (content_of w) h k)
+  all_kept v (Ok (Some b)) h = (
+    grammar.passes b (content_of v) h,
+    λ w e. subst (form b) e h,
+    λ w k. grammar.single b (content_of v)
+        (content_of w) h k,
+  )
   all_kept v (Err r) h = tt
 
   -- a type whose format is a grammar is lawful, where each content is written as bytes that read as it: the value is
   -- read back as itself
   pub plain_lawful : (wire : C → Wire) → ((x : C) → WrittenAsBytes (ReadsPlain form first_fault) x (wire x))
       → IsLawful (λ v w. content_of v ≡ content_of w) (ReadsPlain (λ b v. form b (content_of v)) first_fault)
-          (λ v. wire (content_of v)) (BackKept (λ v w. content_of v ≡ content_of w))
+      (λ v. wire (content_of v)) (BackKept (λ v w. content_of v ≡ content_of w))
   plain_lawful wire written = kept_lawful (λ b v. form b (content_of v)) first_fault
       (λ v w. content_of v ≡ content_of w)
       (λ v w. content_of v ≡ content_of w) (λ v. wire (content_of v))
       (λ v w e. ap wire e) (λ u v w e k. sym e ∙ k) (λ b v h. refl)
-          (λ v. all_kept v (wire (content_of v)) (written (content_of v)))
+      (λ v. all_kept v (wire (content_of v)) (written (content_of v)))

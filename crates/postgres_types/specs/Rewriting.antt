@@ -23,4 +23,4 @@ IsCellOf reads wire v c = (wire v ≡ Ok c) × reads c (Ok v)
 abbrev pub IsRewrittenAsItself : {A : Type 0} → (Cell → Outcome A → Type 0) → (A → Wire) → Cell → Type 0
 IsRewrittenAsItself reads wire c =
     (old new : List ℕ) (result : Result IsNull Fault) → Rewrites reads wire c old new result
-        → Writes (Ok c) old new result
+    → Writes (Ok c) old new result

@@ -93,7 +93,7 @@ module _ {A B : Type 0} (w : Width) (view : B → Special A) where
     same_view_back (value x) neg_infinity o h k = absurd h
     same_view_back (value x) (value y) o h k =
         value_map (back x) (back y) (λ q. law.same_back x y q h) (wire y) o
-            (subst (λ u. BackValue w view u (back x) o) (law.same_wire x y h) k)
+        (subst (λ u. BackValue w view u (back x) o) (law.same_wire x y h) k)
 
     infinity_reads : (o : Outcome B) → Back pos_infinity o → Reads (Some (infinity w)) o
     infinity_reads (Ok v) h = subst (FormSpecial w (λ u. reads (Some (infinity w)) (Ok u)) (infinity w)) (sym h) refl
@@ -121,7 +121,7 @@ module _ {A B : Type 0} (w : Width) (view : B → Special A) where
         subst (λ d. Reads d o) is (minus_infinity_reads o h)
     special_back_reads (value x) c o e h =
         special_map (λ _. back x) reads c (λ q. law.back_reads x c q e) o
-            (subst (λ u. BackValue w view u (back x) o) e h)
+        (subst (λ u. BackValue w view u (back x) o) e h)
 
     special_reads_back : (s : Special A) (c : Cell) (o : Outcome B) → wire_special w wire s ≡ Ok c → Reads c o
         → Back s o
@@ -131,7 +131,7 @@ module _ {A B : Type 0} (w : Width) (view : B → Special A) where
         minus_infinity_back o (subst (λ d. Reads d o) is h)
     special_reads_back (value x) c o e h =
         subst (λ u. BackValue w view u (back x) o) (sym e)
-            (special_map reads (λ _. back x) c (λ q. law.reads_back x c q e) o h)
+        (special_map reads (λ _. back x) c (λ q. law.reads_back x c q e) o h)
 
     value_written : (v : B) (x : A) (u : Wire) → view v ≡ value x → WrittenFinite w u → WrittenAsBytes reads x u
         → WrittenAsBytes Reads v u

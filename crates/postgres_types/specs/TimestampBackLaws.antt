@@ -46,7 +46,7 @@ module _ {A : Type 0} (w : Width) (low high : ℤ) (names : ℤ → A → Type 0
     (written : (v : A) → IsWrittenCount w low high (count_of v) (wire v))
     (one : (z : ℤ) (v : A) → names z v → count_of v ≡ z)
     (back : (v : A) (b : List ℕ) → wire v ≡ Ok (Some b) → (o : Outcome A) → ReadsCount w low high names (Some b) o
-        → IsOkAnd o (kept v))
+    → IsOkAnd o (kept v))
     (named : (v u : A) → kept v u → names (count_of v) u)
     (counted : (v u : A) → same v u → count_of v ≡ count_of u)
     (respects : (v u t : A) → same v u → kept v t → kept u t) where
@@ -82,7 +82,7 @@ pub date_lawful : IsLawful (λ v w. epoch_day v ≡ epoch_day w) ReadsDate wire_
 date_lawful = count_lawful w32 first_day last_day IsDayOf (λ v. epoch_day v -ℤ base_day) wire_date
     (λ v w. epoch_day v ≡ epoch_day w) (λ v w. epoch_day v ≡ epoch_day w)
     date_written days_named days_back (λ v u h. omega (arith, signed_arith, h)) (λ v u h. ap (λ z. z -ℤ base_day) h)
-        (λ v u t h k. sym h ∙ k)
+    (λ v u t h k. sym h ∙ k)
 
 micros_named : (z : ℤ) (v : Time) → IsAfterMidnight z v → pos (time_nanos v / 1000) ≡ z
 micros_named z v h = omega (arith, signed_arith, h)
@@ -92,7 +92,7 @@ pub time_lawful : IsLawful (λ v w. time_nanos v ≡ time_nanos w) ReadsTime wir
 time_lawful = count_lawful w64 (pos 0) last_micros IsAfterMidnight
     (λ v. pos (time_nanos v / 1000)) wire_time KeptMicrosOfDay (λ v w. time_nanos v ≡ time_nanos w)
     time_written micros_named time_back (λ v u h. omega (arith, signed_arith, h)) (λ v u h. ap (λ n. pos (n / 1000)) h)
-        (λ v u t h k. k ∙ ap (λ n. n / 1000 * 1000) h)
+    (λ v u t h k. k ∙ ap (λ n. n / 1000 * 1000) h)
 
 thousandth_of : (z : ℤ) → int_div (z *ℤ pos 1000) (pos 1000) ≡ z
 thousandth_of (pos n) = omega (arith, signed_arith)
@@ -118,7 +118,7 @@ pub datetime_lawful : IsLawful (λ v w. civil_nanos v ≡ civil_nanos w) ReadsDa
 datetime_lawful = count_lawful w64 first_civil last_civil (IsAfterBase civil_nanos)
     (λ v. whole_micros (civil_nanos v)) wire_datetime (KeptMicros civil_nanos) (λ v w. civil_nanos v ≡ civil_nanos w)
     datetime_written (timestamp_named civil_nanos) datetime_back (λ v u h. h) (λ v u h. ap whole_micros h)
-        (timestamp_respects civil_nanos)
+    (timestamp_respects civil_nanos)
 
 pub instant_lawful : IsLawful (λ v w. instant_nanos v ≡ instant_nanos w) ReadsInstant wire_instant
     (BackKept (KeptMicros instant_nanos))
@@ -126,7 +126,7 @@ instant_lawful = count_lawful w64 first_instant last_instant (IsAfterBase instan
     (λ v. whole_micros (instant_nanos v)) wire_instant (KeptMicros instant_nanos)
     (λ v w. instant_nanos v ≡ instant_nanos w)
     instant_written (timestamp_named instant_nanos) instant_back (λ v u h. h) (λ v u h. ap whole_micros h)
-        (timestamp_respects instant_nanos)
+    (timestamp_respects instant_nanos)
 
 -- dates, civil datetimes and instants write finite cells as finite cells
 pub date_finite : (w : Width) → KeepsFinite w ReadsDate wire_date
@@ -136,12 +136,12 @@ date_finite w = finite_kept w ReadsDate wire_date
 pub datetime_finite : (w : Width) → KeepsFinite w ReadsDateTime wire_datetime
 datetime_finite w = finite_kept w ReadsDateTime wire_datetime
     (again_by w64 first_civil last_civil (IsAfterBase civil_nanos)
-        (λ v. whole_micros (civil_nanos v)) wire_datetime datetime_written (timestamp_named civil_nanos))
+    (λ v. whole_micros (civil_nanos v)) wire_datetime datetime_written (timestamp_named civil_nanos))
 
 pub instant_finite : (w : Width) → KeepsFinite w ReadsInstant wire_instant
 instant_finite w = finite_kept w ReadsInstant wire_instant
     (again_by w64 first_instant last_instant (IsAfterBase instant_nanos)
-        (λ v. whole_micros (instant_nanos v)) wire_instant instant_written (timestamp_named instant_nanos))
+    (λ v. whole_micros (instant_nanos v)) wire_instant instant_written (timestamp_named instant_nanos))
 
 int8_lawful : IsLawful (λ m n. m ≡ n) (ReadsSigned w64) (wire_signed w64) (BackKept (λ m n. m ≡ n))
 int8_lawful = signed_lawful w64 int8_grammar
@@ -172,10 +172,10 @@ module _ {A : Type 0} (nanos : A → ℤ) where
   timestamp_lawful = kept_lawful (FormTimestamp nanos) (first_fault_number 8) (KeptMicros nanos)
       (λ v w. nanos v ≡ nanos w) (λ v. wire_timestamp (nanos v))
       (λ v u h. ap wire_timestamp h) (timestamp_respects nanos) timestamp_whole
-          (λ v. timestamp_kept v (wire_timestamp (nanos v)) refl)
+      (λ v. timestamp_kept v (wire_timestamp (nanos v)) refl)
 
   -- and write finite cells as finite cells
   pub timestamp_finite : (w : Width) → KeepsFinite w (ReadsTimestamp nanos) (λ v. wire_timestamp (nanos v))
   timestamp_finite w b v finite h =
       subst (λ z. WrittenFinite w (wire_signed w64 z)) (sym (timestamp_named nanos h.0 v h.2))
-          (signed_finite w w64 b h.0 finite h.1)
+      (signed_finite w w64 b h.0 finite h.1)

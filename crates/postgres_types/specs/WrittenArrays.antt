@@ -54,12 +54,23 @@ array_body lower_bound oid cs b e =
     let skipped : List ℕ = be w32 (flags_of cs) ++ to_be_bytes w32 oid in
     let first : List ℕ = be w32 lower_bound in
     let h = mapped (λ n. one ++ (be w32 (flags_of cs) ++ (to_be_bytes w32 oid ++ (n ++ first))))
-        (count_bytes (length cs)) p.0 p.2 in
+    (count_bytes (length cs)) p.0 p.2 in
     let is : b ≡ one ++ (skipped ++ (h.0 ++ (first ++ p.1))) = p.4 ∙ ap (λ x. x ++ p.1) h.2
-        ∙ ap (λ x. one ++ (skipped ++ x)) (append_assoc h.0 first p.1) in
-    let dimension : IsCount one 1 = (record { sfits = omega arith }, refl) in
-    (p.1, (1, one, skipped, h.0 ++ (first ++ p.1), is, dimension, refl,
-        (h.0, first, refl, count_is (length cs) h.0 h.1, refl)), (frames_alone cs p.1 p.3, omega arith, inl refl))
+    ∙ ap (λ x. one ++ (skipped ++ x)) (append_assoc h.0 first p.1) in
+    let dimension : IsCount one 1 = (record { sfits = omega arith }, refl) in (
+      p.1,
+      (
+        1,
+        one,
+        skipped,
+        h.0 ++ (first ++ p.1),
+        is,
+        dimension,
+        refl,
+        (h.0, first, refl, count_is (length cs) h.0 h.1, refl),
+      ),
+      (frames_alone cs p.1 p.3, omega arith, inl refl),
+    )
 
 wire_of_bytes : (o : Option (List ℕ)) (c : Cell) → wire_of o ≡ Ok c → (b : List ℕ) × (o ≡ Some b) × (c ≡ Some b)
 wire_of_bytes None c e = cc

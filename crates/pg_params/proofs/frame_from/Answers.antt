@@ -6,8 +6,13 @@ pub returns-then-len-gt-MAX_LEN : goal.returns-then-len-gt-MAX_LEN
 returns-then-len-gt-MAX_LEN c =
     let cell = drop (c.args.start + 4) c.args.out.now.items in
     let many : 2147483647 < length cell =
-        omega (arith, c.if-len-gt-MAX_LEN.true, c.len.ensures.value, length-drop
-        (c.args.start + 4) c.args.out.now.items) in
+    omega (
+      arith,
+      c.if-len-gt-MAX_LEN.true,
+      c.len.ensures.value,
+      length-drop
+          (c.args.start + 4) c.args.out.now.items,
+    ) in
     (refl, refl, long_frame cell many)
 
 pub returns : goal.returns
@@ -15,6 +20,6 @@ returns c =
     let cell = drop (c.args.start + 4) c.args.out.now.items in
     let len = c.len.result - c.args.start - 4 in
     let same : len ≡ length cell = omega
-        (arith, c.len.ensures.value, length-drop (c.args.start + 4) c.args.out.now.items) in
+    (arith, c.len.ensures.value, length-drop (c.args.start + 4) c.args.out.now.items) in
     let few : length cell ≤ 2147483647 = omega (arith, same, c.if-len-gt-MAX_LEN.false) in
     (_, frame_bytes cell len few same, c.set_len.ensures)

@@ -10,18 +10,18 @@ pub loop-place-preserved : goal.loop-place-preserved
 loop-place-preserved g c =
     let element_frame_cell = rw c.in_default.is at c.param_to_sql.ensures in
     next_param (λ p. (goal.ToSql-dyn g (p.0.vtable, p.0.value)).ToSql.checked (content p.1) p.0.value)
-        c.args.params.now c.args.types.now c.requires c.loop-place.place _ _ c.loop-place-test.true
-        c.index-params-place.is c.index-types-place.is c.args.out.now.items c.loop-place.out.items
-        c.param_to_sql.new.out.items c.loop-place.invariant element_frame_cell
+    c.args.params.now c.args.types.now c.requires c.loop-place.place _ _ c.loop-place-test.true
+    c.index-params-place.is c.index-types-place.is c.args.out.now.items c.loop-place.out.items
+    c.param_to_sql.new.out.items c.loop-place.invariant element_frame_cell
 
 pub returns-in-Err : goal.returns-in-Err
 returns-in-Err g c =
     let refused = rw c.in-Err.is at c.param_to_sql.ensures in
     let cut = rw c.len-start.ensures.value at c.truncate.ensures.items in
     refused_param (λ p. (goal.ToSql-dyn g (p.0.vtable, p.0.value)).ToSql.checked (content p.1) p.0.value)
-        c.args.params.now c.args.types.now c.requires c.loop-place.place _ _ c.loop-place-test.true
-        c.index-params-place.is c.index-types-place.is c.in-Err.fault c.args.out.now.items c.loop-place.out.items
-        c.param_to_sql.new.out.items c.truncate.new.self.items c.loop-place.invariant refused cut
+    c.args.params.now c.args.types.now c.requires c.loop-place.place _ _ c.loop-place-test.true
+    c.index-params-place.is c.index-types-place.is c.in-Err.fault c.args.out.now.items c.loop-place.out.items
+    c.param_to_sql.new.out.items c.truncate.new.self.items c.loop-place.invariant refused cut
 
 pub returns : goal.returns
 returns g c = all_params (λ p. (goal.ToSql-dyn g (p.0.vtable, p.0.value)).ToSql.checked (content p.1) p.0.value)

@@ -7,4 +7,4 @@ use Rattle.pg_params.proofs.params_to_sql.Given as goal
 abbrev pub invariant-loop-place : goal.invariant-loop-place
 invariant-loop-place g l =
     Binds (λ p. (goal.ToSql-dyn g (p.0.vtable, p.0.value)).ToSql.checked (content p.1) p.0.value)
-        (take l.place (zip l.params l.types)) l.initial.out.items l.out.items (Ok tt)
+    (take l.place (zip l.params l.types)) l.initial.out.items l.out.items (Ok tt)

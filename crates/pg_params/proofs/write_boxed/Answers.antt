@@ -8,5 +8,5 @@ pub returns : goal.returns
 returns g c =
     let same = c.deref_box-1.ensures.1 in
     subst (λ w. Writes w c.args.out.now.items c.to_sql_checked.new.out.items c.to_sql_checked.result)
-        (λ i. (g.dyn-1.0.entry (same i).0).1.ToSql.checked (content c.args.ty.now) (same i).1)
-        c.to_sql_checked.ensures.0
+    (λ i. (g.dyn-1.0.entry (same i).0).1.ToSql.checked (content c.args.ty.now) (same i).1)
+    c.to_sql_checked.ensures.0

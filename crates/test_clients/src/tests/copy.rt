@@ -1,9 +1,9 @@
 //! A program that writes a binary COPY.
 
 use postgres_types::private::BytesMut;
-use postgres_types::protocol::{frame_to_sql, int2_to_sql, int4_to_sql};
-use postgres_types::{Fault, IsNull, ToSql, Type};
-use rows::same;
+use postgres_types::protocol::{int2_to_sql, int4_to_sql};
+use postgres_types::{Fault, Type, frame_value};
+use rows::{code, same};
 use std::alloc::Global;
 use std::test::Fail;
 
@@ -13,31 +13,15 @@ type Row<'a> = (i32, Option<&'a str>);
 /// Appends a whole binary COPY of the rows: its signature, the flags, the length of a header
 /// extension, the tuples, and the trailer.
 fn copy_rows(alloc: Global, rows: &[Row<'_>], out: &mut BytesMut) -> Result<(), Fault> {
-    let mut cell = BytesMut::new(alloc);
     out.extend_from_slice(b"PGCOPY\n\xff\r\n\0")?;
     int4_to_sql(alloc, 0, out)?;
     int4_to_sql(alloc, 0, out)?;
     for (number, text) in rows {
         int2_to_sql(alloc, 2, out)?;
-        copy_field(alloc, number, &Type::INT4, &mut cell, out)?;
-        copy_field(alloc, text, &Type::TEXT, &mut cell, out)?;
+        frame_value(alloc, number, &Type::INT4, out)?;
+        frame_value(alloc, text, &Type::TEXT, out)?;
     }
     int2_to_sql(alloc, -1, out)
-}
-
-/// Appends a field of a tuple: the frame of the value's cell. `cell` is a scratch buffer.
-fn copy_field<T: ToSql>(
-    alloc: Global,
-    value: &T,
-    ty: &Type,
-    cell: &mut BytesMut,
-    out: &mut BytesMut,
-) -> Result<(), Fault> {
-    cell.clear();
-    match value.to_sql_checked(alloc, ty, cell)? {
-        IsNull::Yes => frame_to_sql(alloc, None, out),
-        IsNull::No => frame_to_sql(alloc, Some(cell.as_slice()), out),
-    }
 }
 
 /// The rows of 1 and `ab`, and of -2 and NULL.
@@ -54,4 +38,14 @@ fn a_binary_copy_is_written(rt: HostRuntime) -> Result<(), Fail> {
     let mut out = BytesMut::new(rt.alloc());
     copy_rows(rt.alloc(), &[(1, Some("ab")), (-2, None)], &mut out)?;
     same(out.as_slice(), &COPY)
+}
+
+#[test]
+fn a_refused_field_leaves_the_buffer(rt: HostRuntime) -> Result<(), Fail> {
+    let alloc = rt.alloc();
+    let mut out = BytesMut::new(alloc);
+    out.extend_from_slice(b"kept")?;
+    let refused = frame_value(alloc, &"ab", &Type::INT4, &mut out);
+    same(refused.map_err(|fault| fault.code()), Err(code::WRONG_TYPE))?;
+    same(out.as_slice(), b"kept".as_slice())
 }

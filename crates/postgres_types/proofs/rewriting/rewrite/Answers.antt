@@ -10,7 +10,7 @@ returns-clause-written g c = λ ok v read.
     let law = (g.met.T.Paired c.lifetimes claim).lawful ty ok in
     let single = (g.met.T.FromSql c.lifetimes claim).single ty ok in
     written g.T.FromSql.same (g.T.FromSql.reads ty) (g.T.ToSql.wire ty) (g.T.Paired.back ty) law single
-        (cell_of c.args.raw) c.in_ok-value.value c.in_ok-value.ensures.outcome
+    (cell_of c.args.raw) c.in_ok-value.value c.in_ok-value.ensures.outcome
     v c.args.out.now.items c.to_sql.new.out.items c.to_sql.result read c.to_sql.ensures.writes
 
 pub returns-clause-again : goal.returns-clause-again
@@ -20,5 +20,5 @@ returns-clause-again g c = λ ok.
     let law = (g.met.T.Paired c.lifetimes claim).lawful ty ok in
     let single = (g.met.T.FromSql c.lifetimes claim).single ty ok in
     again g.T.FromSql.same (g.T.FromSql.reads ty) (g.T.ToSql.wire ty) (g.T.Paired.back ty) law single
-        (cell_of c.args.raw) c.in_ok-value.value c.in_ok-value.ensures.outcome
+    (cell_of c.args.raw) c.in_ok-value.value c.in_ok-value.ensures.outcome
     c.args.out.now.items c.to_sql.new.out.items c.to_sql.result c.to_sql.ensures.writes
