@@ -1,3 +1,4 @@
+-- The lemmas of this crate's proofs.
 pub mod ArrayHeads
 pub mod ArrayLaws
 pub mod BitCells

@@ -44,8 +44,8 @@ module _ (old head b written : List ℕ) (four : length head ≡ 4) (is : writte
   front = ap (take (length old)) (is ∙ append_assoc old head b) ∙ take-append_seam old (head ++ b)
 
   -- and after it, past the length, the cell
-  behind : drop (length old + 4) written ≡ b
-  behind =
+  cell_is : drop (length old + 4) written ≡ b
+  cell_is =
       let n : length (old ++ head) ≡ length old + 4 = omega (arith, four, length-append old head) in
       ap (drop (length old + 4)) is ∙ drop_at (old ++ head) b (length old + 4) n
 
@@ -56,7 +56,7 @@ pub frame_after_cell : (w : Wire) (old head mid written new : List ℕ) (n : ℕ
 frame_after_cell w old head mid written new n (Ok done) at four m cell gives =
     let is : written ≡ (old ++ head) ++ cell.0 = cell.2 ∙ ap (λ s. s ++ cell.0) m in
     let whole : frame (Some cell.0) ≡ Some gives.0 =
-    ap (λ s. frame (Some s)) (sym (behind old head cell.0 written four is))
+    ap (λ s. frame (Some s)) (sym (cell_is old head cell.0 written four is))
     ∙ ap (λ k. frame (Some (drop (k + 4) written))) (sym at) ∙ gives.1 in (
       Some cell.0,
       gives.0,
@@ -67,7 +67,7 @@ frame_after_cell w old head mid written new n (Ok done) at four m cell gives =
     )
 frame_after_cell w old head mid written new n (Err f) at four m cell gives =
     let is : written ≡ (old ++ head) ++ cell.0 = cell.2 ∙ ap (λ s. s ++ cell.0) m in
-    let none : frame (Some cell.0) ≡ None = ap (λ s. frame (Some s)) (sym (behind old head cell.0 written four is))
+    let none : frame (Some cell.0) ≡ None = ap (λ s. frame (Some s)) (sym (cell_is old head cell.0 written four is))
     ∙ ap (λ k. frame (Some (drop (k + 4) written))) (sym at) ∙ gives.2 in
     let refused : element_frame_cell w ≡ Err transmit = ap element_frame_cell cell.1
     ∙ ap (with_frame (Some cell.0)) none in (

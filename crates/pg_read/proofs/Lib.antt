@@ -1,3 +1,4 @@
+-- The lemmas of this crate's proofs.
 mod ArrayCellSteps
 mod FixedSizeSteps
 mod LastEntries

@@ -1,3 +1,4 @@
+-- The lemmas of this crate's proofs.
 mod Answers
 mod Digits
 mod Lines

@@ -1,1 +1,2 @@
+-- The lemmas of this crate's proofs.
 mod RewritingLemmas

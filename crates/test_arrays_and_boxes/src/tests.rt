@@ -1,3 +1,5 @@
+//! The tests, by topic.
+
 mod array_cells;
 mod boxes;
 mod cells;

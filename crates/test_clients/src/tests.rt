@@ -1,3 +1,5 @@
+//! The tests, by topic.
+
 mod bind;
 mod copy;
 mod formats;

@@ -1,3 +1,5 @@
+//! The tests, by topic.
+
 mod civil;
 mod infinities;
 mod timestamps;

@@ -1,2 +1,4 @@
+//! The tests, by topic.
+
 mod hstore;
 mod json;

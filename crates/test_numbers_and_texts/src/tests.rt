@@ -1,3 +1,5 @@
+//! The tests, by topic.
+
 mod bytea;
 mod memory;
 mod numbers;

@@ -1,3 +1,5 @@
+//! The tests, by topic.
+
 mod bits;
 mod lsn;
 mod network;

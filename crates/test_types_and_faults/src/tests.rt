@@ -1,3 +1,5 @@
+//! The tests, by topic.
+
 mod catalog;
 mod debug;
 mod failing_rows;

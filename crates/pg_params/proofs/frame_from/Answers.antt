@@ -1,3 +1,4 @@
+-- What the proof of `frame_from` answers by hand.
 use Rattle.std.proofs.Common.{◌≡◌, ◌<◌, ◌≤◌, ◌-◌, ◌+◌, drop, length, arith, refl, length-drop}
 use Rattle.pg_params.proofs.ParamFrames.{long_frame, frame_bytes}
 use Rattle.pg_params.proofs.frame_from.Goals as goal

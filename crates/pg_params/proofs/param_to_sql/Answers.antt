@@ -1,3 +1,4 @@
+-- What the proof of `param_to_sql` answers by hand.
 use Rattle.std.proofs.Common.{refl}
 use Rattle.pg_params.proofs.ParamFrames.{frame_after_cell}
 use Rattle.pg_params.proofs.param_to_sql.Goals as goal

@@ -1,3 +1,4 @@
+-- What the proof of `params_to_sql` answers by hand.
 use Rattle.std.proofs.Common.{[], append-nil, refl, sym}
 use Rattle.pg_types.specs.Content.{content}
 use Rattle.pg_params.proofs.ParamLists.{all_params, next_param, refused_param}
@@ -17,11 +18,11 @@ loop-place-preserved g c =
 pub returns-in-Err : goal.returns-in-Err
 returns-in-Err g c =
     let refused = rw c.in-Err.is at c.param_to_sql.ensures in
-    let cut = rw c.len-start.ensures.value at c.truncate.ensures.items in
+    let truncated = rw c.len-start.ensures.value at c.truncate.ensures.items in
     refused_param (λ p. (goal.ToSql-dyn g (p.0.vtable, p.0.value)).ToSql.checked (content p.1) p.0.value)
     c.args.params.now c.args.types.now c.requires c.loop-place.place _ _ c.loop-place-test.true
     c.index-params-place.is c.index-types-place.is c.in-Err.fault c.args.out.now.items c.loop-place.out.items
-    c.param_to_sql.new.out.items c.truncate.new.self.items c.loop-place.invariant refused cut
+    c.param_to_sql.new.out.items c.truncate.new.self.items c.loop-place.invariant refused truncated
 
 pub returns : goal.returns
 returns g c = all_params (λ p. (goal.ToSql-dyn g (p.0.vtable, p.0.value)).ToSql.checked (content p.1) p.0.value)

@@ -1,3 +1,4 @@
+-- The invariants and measures of `params_to_sql`.
 use Rattle.std.proofs.Common.{Ok, take, zip}
 use Rattle.pg_types.specs.Content.{content}
 use Rattle.pg_params.specs.ParamWriting.{Binds}

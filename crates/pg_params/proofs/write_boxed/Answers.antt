@@ -1,3 +1,4 @@
+-- What the proof of `write_boxed` answers by hand.
 use Rattle.std.proofs.Common.{subst}
 use Rattle.pg_types.specs.Content.{content}
 use Rattle.pg_write.specs.Writing.{Writes}

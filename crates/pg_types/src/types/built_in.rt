@@ -1,3 +1,4 @@
+//! The rows of the table of built-in types.
 ghost use Rattle.std.specs.Prelude.{◌≡◌, ◌≢◌, IfSome, IsNone};
 ghost use Rattle.pg_types.specs.BuiltInRows.{row_oid, row_name, row_element};
 

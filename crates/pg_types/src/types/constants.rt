@@ -1,3 +1,5 @@
+//! The built-in types, by name.
+
 use super::built_in::BuiltIn;
 use super::{Inner, PgType};
 

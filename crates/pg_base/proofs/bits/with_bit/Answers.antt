@@ -1,3 +1,4 @@
+-- What the proof of `with_bit` answers by hand.
 use Rattle.std.proofs.Common.{cond, ◌==◌, ap, sym, ◌∙◌}
 use Rattle.pg_base.specs.Bits.{bit_of}
 use Rattle.pg_base.proofs.BitLemmas.{set_bit, clear_bit}

@@ -1,3 +1,4 @@
+-- The invariants and measures of the functions of the cycle `numbers`.
 use Rattle.std.proofs.Common.{◌≡◌, drop}
 use Rattle.serde_json.specs.View.{items_view, members_view}
 use Rattle.serde_json.specs.Written.{items_have_float, members_have_float}

@@ -1,3 +1,4 @@
+-- What the proof of `read_list` answers by hand.
 use Rattle.std.proofs.Common.{◌++◌, ◌∷◌, [], List, Vec, Global}
 use Rattle.std.proofs.lemmas.Result.{err_from_is_err_and}
 use Rattle.pg_base.specs.Cells.{Cell, cell_of}

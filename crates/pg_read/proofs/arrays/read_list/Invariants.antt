@@ -1,3 +1,4 @@
+-- The invariants and measures of `read_list`.
 use Rattle.std.proofs.Common.{List, Ok}
 use Rattle.pg_base.specs.Cells.{Cell}
 use Rattle.pg_types.specs.Content.{content}

@@ -1,3 +1,4 @@
+-- What the proof of `date_of` answers by hand.
 use Rattle.std.proofs.Common.{arith, refl, ap}
 use Rattle.jiff.proofs.SpanFacts.{signed_arith}
 use Rattle.jiff.specs.Words.{epoch_day}

@@ -1,3 +1,4 @@
+-- What the proof of `read_cell` answers by hand.
 use Rattle.std.proofs.Common.{◌≡◌, ◌++◌, arith, length, pos}
 use Rattle.std.proofs.lemmas.Int.{ints}
 use Rattle.std.proofs.lemmas.Grind.{common_steps}

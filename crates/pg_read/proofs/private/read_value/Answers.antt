@@ -1,3 +1,4 @@
+-- What the proof of `read_value` answers by hand.
 use Rattle.std.proofs.Common.{◌∷◌, [], refl, arith, inl}
 use Rattle.pg_base.specs.Cells.{cell_of}
 use Rattle.pg_read.proofs.private.read_value.Goals as goal

@@ -1,3 +1,4 @@
+-- What the proof of `read_values` answers by hand.
 use Rattle.std.proofs.Common.{arith, ◌∷◌, ◌++◌, [], Vec, Global, Ok, ap, length-append}
 use Rattle.std.proofs.lemmas.Result.{err_from_is_err_and}
 use Rattle.pg_types.specs.Content.{content}

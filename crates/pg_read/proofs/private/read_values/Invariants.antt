@@ -1,3 +1,4 @@
+-- The invariants and measures of `read_values`.
 use Rattle.std.proofs.Common.{◌≡◌, List, length}
 use Rattle.pg_base.specs.Cells.{Cell}
 use Rattle.pg_types.specs.Content.{content}

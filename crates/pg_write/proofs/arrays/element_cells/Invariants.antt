@@ -1,3 +1,4 @@
+-- The invariants and measures of `element_cells`.
 use Rattle.std.proofs.Common.{◌≡◌, map, take, Ok}
 use Rattle.pg_base.specs.Arrays.{owned_cell}
 use Rattle.pg_types.specs.Content.{content}

@@ -1,3 +1,4 @@
+-- What the proof of `list_to_sql` answers by hand.
 use Rattle.std.proofs.Common.{map, sym, ap, ◌∙◌}
 use Rattle.std.proofs.lemmas.Int.{to_z-of_z}
 use Rattle.std.specs.Cow.{cow_value}

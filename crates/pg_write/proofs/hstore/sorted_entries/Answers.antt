@@ -1,3 +1,4 @@
+-- What the proof of `sorted_entries` answers by hand.
 use Rattle.std.proofs.Common.{◌≡◌, ◌++◌, [], List, None, map, sym, ap, ◌∙◌, subst, rules, append-nil, Global}
 use Rattle.std.proofs.Common.{Option, String}
 use Rattle.std.specs.List.{IsDistinct}

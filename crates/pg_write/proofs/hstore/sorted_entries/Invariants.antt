@@ -1,3 +1,4 @@
+-- The invariants and measures of `sorted_entries`.
 use Rattle.std.proofs.Common.{◌≡◌, ◌++◌, map}
 use Rattle.pg_base.specs.Hstore.{borrowed_entry, owned_entry}
 use Rattle.pg_write.proofs.hstore.sorted_entries.Given as goal

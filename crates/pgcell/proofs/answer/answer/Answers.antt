@@ -1,3 +1,4 @@
+-- What the proof of `answer` answers by hand.
 use Rattle.std.proofs.Common.{◌≡◌, ◌++◌, ℕ, List, None, Some, refl, codes}
 use Rattle.postgres_types.specs.Lsn.{lsn_of}
 use Rattle.pgcell.proofs.Outcomes.{on_ok}

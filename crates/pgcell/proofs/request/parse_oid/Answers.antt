@@ -1,3 +1,4 @@
+-- What the proof of `parse_oid` answers by hand.
 use Rattle.std.proofs.Common.{subst, sym, ◌∙◌}
 use Rattle.std.specs.Str.Parse.{ParsesUnsigned}
 use Rattle.pgcell.proofs.Digits.{oid_parsed, other_none}

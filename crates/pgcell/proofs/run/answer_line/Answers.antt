@@ -1,3 +1,4 @@
+-- What the proof of `answer_line` answers by hand.
 use Rattle.pgcell.proofs.Answers.{gains_one}
 use Rattle.pgcell.proofs.Outcomes.{ok_branch}
 use Rattle.pgcell.proofs.run.answer_line.Goals as goal

@@ -1,3 +1,4 @@
+-- What the proof of `finish` answers by hand.
 use Rattle.std.proofs.Common.{◌≡◌, [], ◌∷◌, length, arith}
 use Rattle.std.proofs.lemmas.Bool.Decides.{nat_tests}
 use Rattle.pgcell.specs.Run.{Answered}

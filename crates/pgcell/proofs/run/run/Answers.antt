@@ -1,3 +1,4 @@
+-- What the proof of `run` answers by hand.
 use Rattle.std.proofs.Common.{[], ◌≡◌, take, arith}
 use Rattle.std.specs.Io.KnownBytes.{Appends, Consumes, IsAtEnd}
 use Rattle.pgcell.specs.declared.run.RunFault.TheVariants.{Write, Memory}

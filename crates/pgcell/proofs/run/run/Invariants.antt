@@ -1,3 +1,4 @@
+-- The invariants and measures of `run`.
 use Rattle.std.proofs.Common.{◌≡◌, []}
 use Rattle.pgcell.specs.Lines.{IsOneLine}
 use Rattle.pgcell.specs.Run.{IsUnderWay}

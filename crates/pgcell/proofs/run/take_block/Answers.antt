@@ -1,3 +1,4 @@
+-- What the proof of `take_block` answers by hand.
 use Rattle.std.proofs.Common.{◌++◌, List, ℕ, ◌∷◌, ◌∙◌, subst}
 use Rattle.pgcell.specs.Run.{TakesLines}
 use Rattle.pgcell.proofs.Lines.{takes_some, takes_next}

@@ -1,3 +1,4 @@
+-- The invariants and measures of `take_block`.
 use Rattle.std.proofs.Common.{length, ◌++◌}
 use Rattle.pgcell.specs.Lines.{IsOneLine}
 use Rattle.pgcell.specs.Run.{TakesLines}

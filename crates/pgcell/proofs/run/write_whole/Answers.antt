@@ -1,3 +1,4 @@
+-- What the proof of `write_whole` answers by hand.
 use Rattle.std.proofs.KnownBytes.{Appends-kept}
 use Rattle.pgcell.proofs.Sent.{sent_more}
 use Rattle.pgcell.proofs.run.write_whole.Goals.{in-Ok, in-Err}

@@ -1,3 +1,4 @@
+-- The invariants and measures of `write_whole`.
 use Rattle.std.proofs.Common.{◌≤◌, length, take}
 use Rattle.std.specs.Io.KnownBytes.{Appends}
 use Rattle.pgcell.proofs.run.write_whole.Given as goal

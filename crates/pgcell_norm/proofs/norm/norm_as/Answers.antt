@@ -1,3 +1,4 @@
+-- What the proof of `norm_as` answers by hand.
 use Rattle.std.proofs.Common.{◌≡◌, ◌++◌, ℕ, List, Option, OnOk, option_map, subst}
 use Rattle.postgres_types.specs.Cells.{cell_of}
 use Rattle.postgres_types.specs.Content.{Content, content}

@@ -1,3 +1,4 @@
+-- What the proof of `rewrite_as` answers by hand.
 use Rattle.postgres_types.specs.Cells.{cell_of}
 use Rattle.postgres_types.specs.Content.{Content, content}
 use Rattle.postgres_types.specs.OptionReading.{ReadsOption}

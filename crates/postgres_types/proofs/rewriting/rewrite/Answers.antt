@@ -1,3 +1,4 @@
+-- What the proof of `rewrite` answers by hand.
 use Rattle.pg_base.specs.Cells.{cell_of}
 use Rattle.pg_types.specs.Content.{content}
 use Rattle.postgres_types.proofs.RewritingLemmas.{again, written}

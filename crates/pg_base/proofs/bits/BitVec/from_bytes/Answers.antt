@@ -1,3 +1,4 @@
+-- What the proof of `BitVec::from_bytes` answers by hand.
 use Rattle.std.proofs.Common.{◌≡◌, ◌*◌, length, ap, arith}
 use Rattle.pg_base.proofs.BitLemmas.{all_bits}
 use Rattle.pg_base.proofs.bits.BitVec.from_bytes.Goals as goal

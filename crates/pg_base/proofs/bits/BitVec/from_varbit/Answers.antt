@@ -1,3 +1,4 @@
+-- What the proof of `BitVec::from_varbit` answers by hand.
 use Rattle.std.proofs.Common.{Fits, w8, ◌≡◌, ℕ, ◌∙◌, ◌+◌, get_or, length, ap, sym, rules, arith}
 use Rattle.pg_base.specs.Bits.{bytes_for, first_bits, pad_of, without_low}
 use Rattle.pg_base.proofs.PadLemmas.{masked_view, masked_packed, none_tidy}

@@ -1,3 +1,4 @@
+-- What the proof of `BitVec::get` answers by hand.
 use Rattle.std.proofs.Common.{◌∙◌, ◌%◌, ◌/◌, Some, ap, sym}
 use Rattle.std.specs.List.{slice_get}
 use Rattle.pg_base.specs.Bits.{bit_of}

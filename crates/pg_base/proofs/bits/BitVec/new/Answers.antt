@@ -1,3 +1,4 @@
+-- What the proof of `BitVec::new` answers by hand.
 use Rattle.std.proofs.Common.{refl}
 use Rattle.pg_base.specs.Bits.{first_bits, packed}
 use Rattle.pg_base.proofs.bits.BitVec.new.Goals as goal

@@ -1,3 +1,4 @@
+-- What the proof of `BitVec::pop` answers by hand.
 use Rattle.std.proofs.Common.{length, set, get_or, ◌≡◌, ◌-◌, ◌∙◌, ◌%◌, ◌/◌, ◌∷◌, [], ◌++◌, false, ap, sym, arith}
 use Rattle.std.proofs.lemmas.List.{nil_from_length}
 use Rattle.std.specs.Vec.{vec_len}

@@ -1,3 +1,4 @@
+-- What the proof of `BitVec::push` answers by hand.
 use Rattle.std.proofs.Common.{length, ◌≡◌, ◌+◌, ◌∙◌, ◌%◌, ◌/◌, ◌<◌, ◌∷◌, [], ◌++◌, false, ap, sym, refl, arith}
 use Rattle.std.specs.Prelude.{nat_lt, List, Bool, true, Result, Ok, Err, ⊤, IsErr}
 use Rattle.std.specs.Result.{IsErrAnd}

@@ -1,3 +1,4 @@
+-- What the proof of `array_from_sql` answers by hand.
 use Rattle.std.proofs.Common.{◌≡◌, ◌++◌, arith}
 use Rattle.std.proofs.lemmas.Grind.{common_steps}
 use Rattle.pg_base.proofs.ArrayHeads.{one_dimension}

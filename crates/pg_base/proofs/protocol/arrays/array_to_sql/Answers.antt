@@ -1,3 +1,4 @@
+-- What the proof of `array_to_sql` answers by hand.
 use Rattle.std.proofs.Common.{map, subst}
 use Rattle.std.proofs.lemmas.Int.{to_z-of_z}
 use Rattle.std.specs.Int.{w32}

@@ -1,3 +1,4 @@
+-- What the proof of `extend_by_frames` answers by hand.
 use Rattle.std.proofs.Common.{sym, subst}
 use Rattle.pg_base.specs.Appending.{Extends, HasRoomFor}
 use Rattle.pg_base.specs.Arrays.{owned_cell}

@@ -1,3 +1,4 @@
+-- The invariants and measures of `extend_by_frames`.
 use Rattle.std.proofs.Common.{map, take}
 use Rattle.pg_base.specs.Appending.{Extends}
 use Rattle.pg_base.specs.Arrays.{owned_cell}

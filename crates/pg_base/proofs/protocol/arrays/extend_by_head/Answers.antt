@@ -1,3 +1,4 @@
+-- What the proof of `extend_by_head` answers by hand.
 use Rattle.std.proofs.Common.{◌≡◌, ◌+◌, ◌++◌, List, ℕ, Some, option_map, pos, map, length, subst, sym, ap, arith, ◌∙◌}
 use Rattle.std.proofs.lemmas.Int.{of_z-to_z, to_z-of_z}
 use Rattle.std.specs.Int.{w32, to_be_bytes}

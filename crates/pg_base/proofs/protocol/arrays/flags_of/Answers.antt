@@ -1,3 +1,4 @@
+-- What the proof of `flags_of` answers by hand.
 use Rattle.std.proofs.Common.{refl}
 use Rattle.pg_base.specs.Arrays.{owned_cell}
 use Rattle.pg_base.proofs.FrameLists.{null_here, null_not_here, owned_not_null, owned_null}

@@ -1,3 +1,4 @@
+-- The invariants and measures of `flags_of`.
 use Rattle.std.proofs.Common.{◌≡◌, false, map, take}
 use Rattle.pg_base.specs.Arrays.{has_null, owned_cell}
 use Rattle.pg_base.proofs.protocol.arrays.flags_of.Given as goal

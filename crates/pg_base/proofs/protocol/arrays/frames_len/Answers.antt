@@ -1,3 +1,4 @@
+-- What the proof of `frames_len` answers by hand.
 use Rattle.std.proofs.Common.{◌++◌, sym, ap, ◌∙◌, arith, length-append}
 use Rattle.std.proofs.lemmas.Result.{err_from_is_err_and}
 use Rattle.pg_base.specs.Arrays.{owned_cell}

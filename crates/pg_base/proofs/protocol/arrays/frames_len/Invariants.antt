@@ -1,3 +1,4 @@
+-- The invariants and measures of `frames_len`.
 use Rattle.std.proofs.Common.{◌≡◌, ◌≤◌, ◌*◌, ℕ, List, Some, length, map, take}
 use Rattle.pg_base.specs.Arrays.{owned_cell}
 use Rattle.pg_base.specs.Cells.{frames}

@@ -1,3 +1,4 @@
+-- What the proof of `extend_by_bits` answers by hand.
 use Rattle.std.proofs.Common.{◌∙◌, ◌++◌, ◌∷◌, [], ap, sym, append_assoc}
 use Rattle.std.proofs.lemmas.List.{append-nil}
 use Rattle.pg_base.proofs.PadLemmas.{packed_parts, packed_none}

@@ -1,3 +1,4 @@
+-- What the proof of `varbit_from_sql` answers by hand.
 use Rattle.std.proofs.Common.{◌∙◌}
 use Rattle.pg_base.proofs.BitCells.{spelt}
 use Rattle.pg_base.proofs.protocol.bits.varbit_from_sql.Goals as goal

@@ -1,3 +1,4 @@
+-- What the proof of `varbit_to_sql` answers by hand.
 use Rattle.std.proofs.Common.{◌≡◌, ◌∙◌, ◌++◌, length, ap, refl, append_assoc, arith}
 use Rattle.std.specs.Int.{w32, to_be_bytes}
 use Rattle.std.proofs.lemmas.Int.{of_z-to_z}

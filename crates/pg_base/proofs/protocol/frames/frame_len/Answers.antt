@@ -1,3 +1,4 @@
+-- What the proof of `frame_len` answers by hand.
 use Rattle.std.proofs.Common.{negsuc, refl}
 use Rattle.std.specs.Int.{w32}
 use Rattle.pg_base.specs.Cells.{be}

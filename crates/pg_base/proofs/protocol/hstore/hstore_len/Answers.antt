@@ -1,3 +1,4 @@
+-- What the proof of `hstore_len` answers by hand.
 use Rattle.std.proofs.Common.{◌++◌, List, ℕ, arith, length-append}
 use Rattle.std.proofs.lemmas.Result.{err_from_is_err_and}
 use Rattle.pg_base.proofs.HstoreLengths.{entries_next, key_none, value_none, short_list}

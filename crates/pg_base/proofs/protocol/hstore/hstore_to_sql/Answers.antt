@@ -1,3 +1,4 @@
+-- What the proof of `hstore_to_sql` answers by hand.
 use Rattle.std.proofs.Common.{◌+◌, ◌≤◌, ◌++◌, List, ℕ, length, ap, ◌∙◌, arith, append_assoc, length-append}
 use Rattle.pg_base.proofs.HstoreLengths.{has_room, entries_next}
 use Rattle.pg_base.proofs.Concat.{no_refusal, appended}

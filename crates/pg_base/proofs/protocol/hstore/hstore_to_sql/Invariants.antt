@@ -1,3 +1,4 @@
+-- The invariants and measures of `hstore_to_sql`.
 use Rattle.std.proofs.Common.{◌≡◌, ◌≤◌, ◌+◌, ◌++◌, ℕ, List, Some, length, map, take}
 use Rattle.pg_base.specs.Hstore.{entries_bytes, borrowed_entry}
 use Rattle.pg_base.proofs.protocol.hstore.hstore_to_sql.Given as goal

@@ -1,3 +1,4 @@
+-- What the proof of `BoxedSliceFromSql::from_sql` answers by hand.
 use Rattle.std.proofs.Common.{Some, Vec, Global}
 use Rattle.std.specs.Box.{boxed_slice_items}
 use Rattle.pg_base.specs.ArrayTypes.{element_of}

@@ -1,3 +1,4 @@
+-- What the proof of `VecFromSql::from_sql` answers by hand.
 use Rattle.std.proofs.Common.{◌≡◌, ◌∙◌, Some, ap, sym}
 use Rattle.pg_base.specs.ArrayTypes.{element_of}
 use Rattle.pg_types.specs.Content.{content}

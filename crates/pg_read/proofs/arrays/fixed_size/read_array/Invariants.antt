@@ -1,3 +1,4 @@
+-- The invariants and measures of `read_array`.
 use Rattle.std.proofs.Common.{◌≤◌, length, List, Ok}
 use Rattle.pg_base.specs.Cells.{Cell}
 use Rattle.pg_types.specs.Content.{content}

@@ -1,3 +1,4 @@
+-- What the proof of `HashMapStringOptionStringFromSql::from_sql` answers by hand.
 use Rattle.std.proofs.Common.{◌++◌, ◌∷◌, [], string_bytes}
 use Rattle.std.proofs.lemmas.Map.Text.{hash_map_updates_text}
 use Rattle.std.proofs.lemmas.Option.{IfSome_then}

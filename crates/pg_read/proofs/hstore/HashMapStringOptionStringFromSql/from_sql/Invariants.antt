@@ -1,3 +1,4 @@
+-- The invariants and measures of `HashMapStringOptionStringFromSql::from_sql`.
 use Rattle.std.proofs.Common.{◌≡◌, ℕ, List}
 use Rattle.pg_base.specs.Hstore.{Entry, last_value, value_at}
 use Rattle.pg_base.proofs.HstoreLaws.{HaveBeenRead}

@@ -1,3 +1,4 @@
+-- What the proof of `IpCidrFromSql::from_sql` answers by hand.
 use Rattle.pg_read.proofs.Refusals.{cidr_refused}
 use Rattle.pg_read.proofs.network.IpCidrFromSql.from_sql.Goals as goal
 

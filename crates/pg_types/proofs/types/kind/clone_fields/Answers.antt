@@ -1,3 +1,4 @@
+-- What the proof of `clone_fields` answers by hand.
 use Rattle.std.proofs.Common.{take}
 use Rattle.std.proofs.lemmas.List.{take_more}
 use Rattle.pg_types.proofs.Fields.{fields_more}

@@ -1,3 +1,4 @@
+-- The invariants and measures of `clone_fields`.
 use Rattle.std.proofs.Common.{◌≡◌, take}
 use Rattle.pg_types.specs.Content.{fields_content}
 use Rattle.pg_types.proofs.types.kind.clone_fields.Given as goal

@@ -1,3 +1,4 @@
+-- The invariants and measures of `clone_labels`.
 use Rattle.std.proofs.Common.{◌≡◌, string_bytes, map, take}
 use Rattle.pg_types.proofs.types.kind.clone_labels.Given as goal
 

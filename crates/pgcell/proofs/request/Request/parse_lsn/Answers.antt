@@ -1,3 +1,4 @@
+-- What the proof of `Request::parse_lsn` answers by hand.
 use Rattle.std.proofs.Common.{Some, ap, refl}
 use Rattle.std.proofs.lemmas.Str.{is_utf8-from_IsUtf8}
 use Rattle.pgcell.specs.Request.{lsn}

@@ -1,3 +1,4 @@
+-- What the proof of `Name::parse` answers by hand.
 use Rattle.std.proofs.Common.{◌≡◌, ℕ, List, Some, None, subst}
 use Rattle.pgcell_norm.specs.declared.names.Form.{Form}
 use Rattle.pgcell_norm.proofs.Words.{a_name, name_if, no_text}

@@ -1,3 +1,4 @@
+-- What the proof of `HstoreEntries::next` answers by hand.
 use Rattle.std.proofs.Common.{refl}
 use Rattle.std.proofs.lemmas.Option.{IfSome_then}
 use Rattle.pg_types.specs.Faults.{refusal_of}
