@@ -17,4 +17,4 @@ one_dimension b h m x s d (Ok cells) e is one parts skipped p =
     (1, h, x, s, e ∙ ap (λ t. h ++ t) parts, subst (IsCount h) one is, skipped, p)
 one_dimension b h m x s d (Err f) e is one parts skipped p =
     IfSome_then (refusal_of f) p (λ r q. dimension_fault b h x s 1 r (e ∙ ap (λ t. h ++ t) parts)
-        (subst (IsCount h) one is) skipped q)
+    (subst (IsCount h) one is) skipped q)

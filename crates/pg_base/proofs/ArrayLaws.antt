@@ -31,7 +31,7 @@ long_whole : (s l x rest : List ℕ) (n : ℕ) → s ≡ l ++ (x ++ rest) → Is
 long_whole s l x rest n e p h =
     let four : length l ≡ 4 = be-length w32 l (pos n) p in
     let all : length s ≡ 8 + length rest =
-        omega (arith, ap length e, length-append l (x ++ rest), length-append x rest, four, h) in
+    omega (arith, ap length e, length-append l (x ++ rest), length-append x rest, four, h) in
     grind (arith, nat_tests)
 
 long_enough : (x s : List ℕ) → length x ≡ 8 → nat_le 8 (length (x ++ s)) ≡ true
@@ -46,8 +46,11 @@ record AreDimensions (d : ℕ) (s : List ℕ) (r : ToRead) : Type 0 where
 
 dimensions_then : (d : ℕ) (s : List ℕ) (r : ToRead) → SpellsDimensions d s r → AreDimensions d s r
 dimensions_then zero s r p =
-    record { passes = refl; behind = ap₂ (λ (n : ℕ) (x : List ℕ). let r : ToRead = record { left = n; bytes = x } in r)
-        (sym p.0) p.1 }
+    record {
+      passes = refl;
+      behind = ap₂ (λ (n : ℕ) (x : List ℕ). let r : ToRead = record { left = n; bytes = x } in r)
+          (sym p.0) p.1;
+    }
 dimensions_then (suc zero) s r p =
     let number = number_then s p.0 (p.1 ++ r.bytes) (pos r.left) p.2 p.3 in
     record {
@@ -97,5 +100,5 @@ body_single b n m cs ds u w p q =
     let many : n ≡ m = ap (λ (r : ToRead). r.left) e in
     let rest : p.0 ≡ q.0 = ap (λ (r : ToRead). r.bytes) e in
     let row = cells_single p.0 n cs ds u w p.2
-        (subst (λ x. CellsInRow x n ds w) (sym rest) (subst (λ x. CellsInRow q.0 x ds w) (sym many) q.2)) in
+    (subst (λ x. CellsInRow x n ds w) (sym rest) (subst (λ x. CellsInRow q.0 x ds w) (sym many) q.2)) in
     (many, row.0, row.1)

@@ -163,14 +163,14 @@ packed_at v k h = get_or-map-range_with_len (packed_byte v) 0 (bytes_for (length
 pub packed_below : (v : List Bool) (k : ℕ) → get_or (packed v) k 0 < 256
 packed_below v k =
     ⊎_elim (λ h. rw (packed_at v k h) (packed_byte_below v k))
-        (λ h. rw (get_or_past (packed v) k 0 (rw packed_len h)) (omega arith))
+    (λ h. rw (get_or_past (packed v) k 0 (rw packed_len h)) (omega arith))
     (cases_lt k (bytes_for (length v)))
 
 packed_bit_inside : (v : List Bool) (k j i : ℕ) → j < 8 → i ≡ 8 * k + j → k < bytes_for (length v)
     → nth_bit (packed v) i ≡ get_or v i false
 packed_bit_inside v k j i low e h =
     nth_bit_at (packed v) k j i low e ∙ ap (λ x. eqb (bit_at x (7 - j)) 1) (packed_at v k h)
-        ∙ ap (λ x. eqb x 1) (packed_byte_at v k j low) ∙
+    ∙ ap (λ x. eqb x 1) (packed_byte_at v k j low) ∙
     digit_is v (8 * k + j) ∙ ap (λ x. get_or v x false) (sym e)
 
 packed_bit_past : (v : List Bool) (i : ℕ) → bytes_for (length v) ≤ i / 8 → nth_bit (packed v) i ≡ get_or v i false
@@ -191,9 +191,9 @@ same_bit b c k i h e =
     let j : 7 - (7 - i) ≡ i = omega arith in
     let low : 7 - i < 8 = omega arith in
     let f = sym (nth_bit_at b k (7 - i) (8 * k + (7 - i)) low refl) ∙ e
-        ∙ nth_bit_at c k (7 - i) (8 * k + (7 - i)) low refl in
+    ∙ nth_bit_at c k (7 - i) (8 * k + (7 - i)) low refl in
     same_digit (bit_at (get_or b k 0) i) (bit_at (get_or c k 0) i) (bit_at-lt (get_or b k 0) i)
-        (bit_at-lt (get_or c k 0) i) (rw j at f)
+    (bit_at-lt (get_or c k 0) i) (rw j at f)
 
 -- bytes with the same bits are the same
 same_bytes : (b c : List ℕ) → length b ≡ length c → ((k : ℕ) → get_or b k 0 < 256) → ((k : ℕ) → get_or c k 0 < 256)
@@ -236,7 +236,7 @@ clear_bit byte place at p a =
     by_place at place (bit_of (bit_and byte (bit_not w8 (1 * 2 ^ (7 - place) % 2 ^ bits w8))) at) false (bit_of byte at)
     (λ e. rw e (ap (λ x. eqb x 1) (bit_at_clear_same w8 byte (7 - place) (omega arith))))
     (λ e. ap (λ x. eqb x 1) (bit_at_clear_other w8 byte (7 - place) (omega arith) (7 - at) (omega arith)
-        (λ f. e (omega arith))))
+    (λ f. e (omega arith))))
 
 -- ---- one bit of bytes
 -- x is byte k of b with t put at a place
@@ -259,7 +259,7 @@ put_near b k place i x t h put ne e =
     let there : get_or (set b k x) (i / 8) 0 ≡ x = rw e (get_or-set_same b k x 0 h) in
     let apart : eqb (i % 8) place ≡ false = ne_eqb (i % 8) place (λ f. ne (omega arith)) in
     ap (λ y. bit_of y (i % 8)) there ∙ put (i % 8) (omega arith)
-        ∙ ap (λ y. cond y t (bit_of (get_or b k 0) (i % 8))) apart ∙
+    ∙ ap (λ y. cond y t (bit_of (get_or b k 0) (i % 8))) apart ∙
     ap (λ y. bit_of (get_or b y 0) (i % 8)) (sym e)
 
 pub put_far : (b : List ℕ) (k i x : ℕ) → (i / 8 ≡ k → ⊥) → nth_bit (set b k x) i ≡ nth_bit b i
@@ -273,7 +273,7 @@ pub put_below : (b : List ℕ) (k x : ℕ) → k < length b → x < 256 → ((m 
     → get_or (set b k x) m 0 < 256
 put_below b k x h low below m =
     ⊎_elim (λ e. subst (λ y. get_or (set b k x) y 0 < 256) (sym e) (rw (get_or-set_same b k x 0 h) low))
-        (λ e. rw (get_or-set_other b k m x 0 e) (below m)) (cases_eq m k)
+    (λ e. rw (get_or-set_other b k m x 0 e) (below m)) (cases_eq m k)
 
 zero_at : (m : ℕ) → get_or {A = ℕ} (0 ∷ []) m 0 ≡ 0
 zero_at zero = refl
@@ -284,7 +284,7 @@ pub more_at : (b : List ℕ) (m : ℕ) → get_or (b ++ 0 ∷ []) m 0 ≡ get_or
 more_at b m =
     ⊎_elim (λ h. get_or_append_left b (0 ∷ []) 0 m h)
     (λ h. get_or-append_right b (0 ∷ []) (length b) m 0 refl h ∙ zero_at (m - length b) ∙ sym (get_or_past b m 0 h))
-        (cases_lt m (length b))
+    (cases_lt m (length b))
 
 -- ---- bytes that are packed
 -- bytes of which every one is needed and whose pad is 0 are packed
@@ -293,7 +293,7 @@ pub tidy : (n : ℕ) (b : List ℕ) → length b ≡ bytes_for n → ((k : ℕ) 
 tidy n b e below pad =
     packed_single (first_bits n b) b (e ∙ ap bytes_for (sym (first_bits_len n b))) below
     (λ i h. ⊎_elim (λ k. sym (first_bits_at n b i false k))
-        (λ k. pad i k ∙ sym (get_or_past (first_bits n b) i false (rw first_bits_len k))) (cases_lt i n))
+    (λ k. pad i k ∙ sym (get_or_past (first_bits n b) i false (rw first_bits_len k))) (cases_lt i n))
 
 -- packed bytes are as many as are needed, and their pad is 0
 pub tidy_len : (n : ℕ) (b : List ℕ) → b ≡ packed (first_bits n b) → length b ≡ bytes_for n
@@ -355,17 +355,17 @@ module _ (n : ℕ) (b : List ℕ) (e : b ≡ packed (first_bits n b)) where
     pushed_view =
         first_bits_more n (set c (n / 8) x) ∙
         ap (λ y. y ++ nth_bit (set c (n / 8) x) n ∷ [])
-            (first_bits_same n (set c (n / 8) x) b
-            (λ i h. put_other c (n / 8) (n % 8) i x t pushed_within put (λ f. omega arith) ∙ room.same i)) ∙
+        (first_bits_same n (set c (n / 8) x) b
+        (λ i h. put_other c (n / 8) (n % 8) i x t pushed_within put (λ f. omega arith) ∙ room.same i)) ∙
         ap (λ y. first_bits n b ++ y ∷ []) (put_same c (n / 8) (n % 8) n x t pushed_within (omega arith) put
-            (omega arith))
+        (omega arith))
 
     pub pushed_tidy : set c (n / 8) x ≡ packed (first_bits (n + 1) (set c (n / 8) x))
     pushed_tidy =
         tidy (n + 1) (set c (n / 8) x) (length-set c (n / 8) x ∙ room.count)
-            (put_below c (n / 8) x pushed_within low room.below)
+        (put_below c (n / 8) x pushed_within low room.below)
         (λ i h. put_other c (n / 8) (n % 8) i x t pushed_within put (λ f. omega arith) ∙ room.same i
-            ∙ tidy_pad n b e i (omega arith))
+        ∙ tidy_pad n b e i (omega arith))
 
   module _ (x : ℕ) (t : Bool) (first : n % 8 ≡ 0)
       (put : (at : ℕ) → at < 8 → bit_of x at ≡ cond (eqb at (n % 8)) t (bit_of 0 at)) (low : x < 256) where
@@ -406,7 +406,7 @@ module _ (n m : ℕ) (b : List ℕ) (e : b ≡ packed (first_bits n b)) (s : n �
     kept_below : (i : ℕ) → get_or (take k b) i 0 < 256
     kept_below i =
         ⊎_elim (λ h. rw (get_or-take k b i 0 h) (tidy_below n b e i))
-            (λ h. rw (get_or_past (take k b) i 0 (omega (arith, kept_len))) (omega arith)) (cases_lt i k)
+        (λ h. rw (get_or_past (take k b) i 0 (omega (arith, kept_len))) (omega arith)) (cases_lt i k)
 
     pub dropped_view : first_bits n b ≡ first_bits m (take k b) ++ nth_bit b m ∷ []
     dropped_view = popped (take k b) kept
@@ -425,12 +425,12 @@ module _ (n m : ℕ) (b : List ℕ) (e : b ≡ packed (first_bits n b)) (s : n �
     cleared_pad i h =
         ⊎_elim (λ f. put_same b (m / 8) (m % 8) i x false popped_within (omega arith) put (omega arith))
         (λ f. put_other b (m / 8) (m % 8) i x false popped_within put (λ g. f (omega arith))
-            ∙ tidy_pad n b e i (omega arith)) (cases_eq i m)
+        ∙ tidy_pad n b e i (omega arith)) (cases_eq i m)
 
     pub cleared_tidy : set b (m / 8) x ≡ packed (first_bits m (set b (m / 8) x))
     cleared_tidy =
         tidy m (set b (m / 8) x) (length-set b (m / 8) x ∙ tidy_len n b e ∙ omega arith)
-            (put_below b (m / 8) x popped_within low (tidy_below n b e)) cleared_pad
+        (put_below b (m / 8) x popped_within low (tidy_below n b e)) cleared_pad
 
 -- what reading a byte of a Vec gives
 pub byte_read : (v : Vec ℕ Global) (k x : ℕ) → k < vec_len v → x ≡ get_or v.items k x → x ≡ get_or v.items k 0

@@ -73,7 +73,7 @@ cell_passes s u c p = rw (p.has, p.whole) refl
 pub no_cell : (s : List ℕ) (r : Refusal) → first_fault_of (cell_checks s) ≡ Some r → SpellsNone s
 no_cell s r e t rest c is spells =
     let none : None ≡ Some r = sym (cell_passes (t ++ rest) rest c (cell_then t rest c spells))
-        ∙ ap (λ x. first_fault_of (cell_checks x)) (sym is) ∙ e in
+    ∙ ap (λ x. first_fault_of (cell_checks x)) (sym is) ∙ e in
     let no : ⊥ = cc in no
 
 -- bytes begin with one cell
@@ -94,10 +94,18 @@ cells_single s n (c ∷ cs) [] u w p q =
 cells_single s zero (c ∷ cs) (d ∷ ds) u w p q = absurd (omega (arith, p.1))
 cells_single s (suc n) (c ∷ cs) (d ∷ ds) u w p q =
     let first = cell_single p.0.0 p.0.1 q.0.0 q.0.1 c d (sym p.0.2 ∙ q.0.2) p.0.3 q.0.3 in
-    let h : CellsInRow p.0.1 n cs u = (p.0.4, omega
-        (arith, p.1), elim p.2 [ inl z ↦ inl (omega (arith, z)) | inr z ↦ inr z ]) in
-    let k : CellsInRow q.0.1 n ds w = (q.0.4, omega
-        (arith, q.1), elim q.2 [ inl z ↦ inl (omega (arith, z)) | inr z ↦ inr z ]) in
+    let h : CellsInRow p.0.1 n cs u = (
+      p.0.4,
+      omega
+          (arith, p.1),
+      elim p.2 [ inl z ↦ inl (omega (arith, z)) | inr z ↦ inr z ],
+    ) in
+    let k : CellsInRow q.0.1 n ds w = (
+      q.0.4,
+      omega
+          (arith, q.1),
+      elim q.2 [ inl z ↦ inl (omega (arith, z)) | inr z ↦ inr z ],
+    ) in
     let later = cells_single p.0.1 n cs ds u w h (subst (λ x. CellsInRow x n ds w) (sym first.1) k) in
     (ap₂ (λ (x : Cell) (xs : List Cell). x ∷ xs) first.0 later.0, later.1)
 
@@ -105,9 +113,14 @@ cells_single s (suc n) (c ∷ cs) (d ∷ ds) u w p q =
 pub frames_spell : (cs : List Cell) (b s : List ℕ) → frames cs ≡ Some b → SpellsAll (b ++ s) cs s
 frames_spell [] b s e = let none : b ≡ [] = cc in ap (λ x. x ++ s) none
 frames_spell (c ∷ cs) b s e =
-    let parts = parts_of (frame c) (frames cs) b e in
-    (parts.0, parts.1 ++ s, ap (λ x. x ++ s) parts.4
-        ∙ append_assoc parts.0 parts.1 s, frame_spells c parts.0 parts.2, frames_spell cs parts.1 s parts.3)
+    let parts = parts_of (frame c) (frames cs) b e in (
+      parts.0,
+      parts.1 ++ s,
+      ap (λ x. x ++ s) parts.4
+          ∙ append_assoc parts.0 parts.1 s,
+      frame_spells c parts.0 parts.2,
+      frames_spell cs parts.1 s parts.3,
+    )
 
 -- and alone where nothing does
 pub frames_alone : (cs : List Cell) (b : List ℕ) → frames cs ≡ Some b → SpellsAll b cs []
@@ -122,11 +135,11 @@ pub frames_single : FramesSingle
 frames_single cs ds b e f =
     let none : SpellsNone [] = no_cell [] size refl in
     (cells_single b (length cs + length ds) cs ds [] [] (frames_alone cs b e, omega arith, inr none)
-        (frames_alone ds b f, omega arith, inr none)).0
+    (frames_alone ds b f, omega arith, inr none)).0
 
 -- nor, whatever comes after them, of other cells that are as many
 pub frame_prefixes_single : FramePrefixesSingle
 frame_prefixes_single cs ds a b s t many e f is =
     let other : CellsInRow (a ++ s) (length cs) ds t =
-        (subst (λ x. SpellsAll x ds t) (sym is) (frames_spell ds b t f), omega (arith, many), inl (sym many)) in
+    (subst (λ x. SpellsAll x ds t) (sym is) (frames_spell ds b t f), omega (arith, many), inl (sym many)) in
     cells_single (a ++ s) (length cs) cs ds s t (frames_in_row cs a s e) other

@@ -30,9 +30,14 @@ less_or_not a b = grind arith
 -- any four bytes are those of a number
 four_bytes : (h : List ℕ) → AreBytes h → length h ≡ 4 → (z : ℤ) × IsBe w32 h z
 four_bytes h b l =
-    let fits : Fits w32 (from_be_bytes w32 h) = omega (arith, b 0, b 1, b 2, b 3) in
-    (to_z w32 (from_be_bytes w32 h), (sfits_to_z fits, sym (be_bytes_4 h (from_be_bytes w32 h) l b refl)
-        ∙ ap (to_be_bytes w32) (sym (of_z-to_z fits))))
+    let fits : Fits w32 (from_be_bytes w32 h) = omega (arith, b 0, b 1, b 2, b 3) in (
+      to_z w32 (from_be_bytes w32 h),
+      (
+        sfits_to_z fits,
+        sym (be_bytes_4 h (from_be_bytes w32 h) l b refl)
+            ∙ ap (to_be_bytes w32) (sym (of_z-to_z fits)),
+      ),
+    )
 
 -- with fewer than four bytes the length is truncated
 truncated_length : (s : List ℕ) → length s < 4 → SpellsNone s
@@ -80,9 +85,16 @@ pub cells_exist : (s : List ℕ) (n : ℕ) → AreBytes s → (cs : List Cell) �
 cells_exist s zero b = ([], s, (refl, omega arith, inl refl))
 cells_exist s (suc n) b = elim (next s b) [
   | inl p ↦
-      let r = cells_exist p.1 n (trailing_bytes s p.0 p.1 p.3 b) in
-      (p.2 ∷ r.0, r.1, ((p.0, p.1, p.3, p.4, r.2.0), omega
-          (arith, r.2.1), elim r.2.2 [ inl e ↦ inl (ap suc e) | inr h ↦ inr h ]))
+      let r = cells_exist p.1 n (trailing_bytes s p.0 p.1 p.3 b) in (
+        p.2 ∷ r.0,
+        r.1,
+        (
+          (p.0, p.1, p.3, p.4, r.2.0),
+          omega
+              (arith, r.2.1),
+          elim r.2.2 [ inl e ↦ inl (ap suc e) | inr h ↦ inr h ],
+        ),
+      )
   | inr h ↦ ([], s, (refl, omega arith, inr h))
 ]
 

@@ -20,13 +20,17 @@ has_four : (s : List ℕ) → 4 ≤ length s → has_number s ≡ true
 has_four s h = grind (arith, nat_tests)
 
 be_then : (n : ℤ) (u : List ℕ) → signed_in w32 (be w32 n) ≡ n → IsNumberThen (be w32 n ++ u) n u
-be_then n u back = record { has = has_four (be w32 n ++ u) (omega (arith, length-append (be w32 n) u)); number =
-    back; rest = refl }
+be_then n u back = record {
+  has = has_four (be w32 n ++ u) (omega (arith, length-append (be w32 n) u));
+  number =
+      back;
+  rest = refl;
+}
 
 pub number_then : (b h u : List ℕ) (n : ℤ) → b ≡ h ++ u → IsBe w32 h n → IsNumberThen b n u
 number_then b h u n e p =
     subst (λ s. IsNumberThen s n u) (sym (e ∙ ap (λ s. s ++ u) p.1))
-        (be_then n u (be-back w32 from_be_bytes-to_be_bytes_4 n p.0))
+    (be_then n u (be-back w32 from_be_bytes-to_be_bytes_4 n p.0))
 
 -- the bytes of a count are a count
 pub count_is : (n : ℕ) (s : List ℕ) → count_bytes n ≡ Some s → IsCount s n

@@ -52,16 +52,16 @@ module _ {X : Type 0} (view : X → Cell) (xs : List X) (i : ℕ) (x : X) (h : i
   frames_whole =
       ap frames whole ∙ frames-append (before ++ here ∷ []) behind
       ∙ ap (λ b. concat b (frames behind))
-          (frames-append before (here ∷ []) ∙ ap (concat (frames before)) (concat-nil (frame here)))
+      (frames-append before (here ∷ []) ∙ ap (concat (frames before)) (concat-nil (frame here)))
 
   -- what is left of room for all frames has room for the next
   pub next_room : (start now : Filled) → HasRoomFor (frames (map view xs)) start.spare
       → Extends (frames before) start now → HasRoomFor (frame here) now.spare
   next_room start now room so_far =
       let all : HasRoomFor (concat (concat (frames before) (frame here)) (frames behind)) start.spare =
-          subst (λ b. HasRoomFor b start.spare) frames_whole room in
+      subst (λ b. HasRoomFor b start.spare) frames_whole room in
       room_for_second (frames before) (frame here) start now
-          (room_for_first (concat (frames before) (frame here)) (frames behind) start.spare all) so_far
+      (room_for_first (concat (frames before) (frame here)) (frames behind) start.spare all) so_far
 
   -- one more frame was appended
   pub next_frame : (start now new : Filled) → Extends (frames before) start now → Extends (frame here) now new

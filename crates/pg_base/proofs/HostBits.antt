@@ -50,7 +50,7 @@ divided-zeros zero n (suc k) h divided = absurd (omega arith)
 divided-zeros (suc d) n (suc k) h divided =
     let whole = halved n k in
     above (n % 2) (count_trailing_zeros d (n / 2)) k (omega arith)
-        (divided-zeros d (n / 2) k (omega arith) (omega arith))
+    (divided-zeros d (n / 2) k (omega arith) (omega arith))
 
 -- n has fewer zeros at its end than that exactly where 2 ^ (d - len) does not divide it
 module _ (d n len : ℕ) where

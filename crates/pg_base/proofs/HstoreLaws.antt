@@ -36,15 +36,21 @@ some_not_negative (pos n) y x e = refl
 some_not_negative (negsuc n) y x e = let no : ⊥ = cc in absurd no
 
 key_passes : (s x u : List ℕ) → IsCellThen s (Some x) u → IsUtf8 x → first_fault_of (key_checks s) ≡ None
-key_passes s x u p h = rw (p.has, some_not_negative (number_in s)
-    (bytes_in s) x p.cell, p.whole, p.bytes, is_utf8-from_IsUtf8 x h) refl
+key_passes s x u p h = rw (
+  p.has,
+  some_not_negative (number_in s)
+      (bytes_in s) x p.cell,
+  p.whole,
+  p.bytes,
+  is_utf8-from_IsUtf8 x h,
+) refl
 
 -- the first fault of a text is that of a key
 key_fault_by : (t : Bool) (n : ℤ) (d : List ℕ) (r : Refusal)
     → first_fault_of ((t, size) ∷ (nat_le (count_or_zero n) (length d), size)
-        ∷ (is_utf8 (take (count_or_zero n) d), utf8) ∷ []) ≡ Some r
+    ∷ (is_utf8 (take (count_or_zero n) d), utf8) ∷ []) ≡ Some r
     → first_fault_of ((t, size) ∷ (not_negative n, key_length) ∷ (nat_le (count_or_zero n) (length d), size)
-        ∷ (is_utf8 (take (count_or_zero n) d), utf8) ∷ []) ≡ Some r
+    ∷ (is_utf8 (take (count_or_zero n) d), utf8) ∷ []) ≡ Some r
 key_fault_by false n d r e = e
 key_fault_by true (pos n) d r e = e
 key_fault_by true (negsuc n) d r e = let none : None ≡ Some r =
@@ -99,7 +105,7 @@ passed s rest [] n p = ap (λ x. first_fault_of (entries_checks n x)) p
 passed s rest (e ∷ es) n p =
     let first = entry_then p.0 p.1 e p.3 in
     rw p.2 (checks_passed (entry_checks (p.0 ++ p.1))
-        (entries_checks (and_more es n) (after_cell (after_cell (p.0 ++ p.1)))) first.passes
+    (entries_checks (and_more es n) (after_cell (after_cell (p.0 ++ p.1)))) first.passes
     ∙ ap (λ x. first_fault_of (entries_checks (and_more es n) x)) first.rest ∙ passed p.1 rest es n p.4)
 
 -- what is checked after sound entries is what is checked of the rest
@@ -119,7 +125,7 @@ entries_are s rest [] p = refl
 entries_are s rest (e ∷ es) p =
     let first = entry_then p.0 p.1 e p.3 in
     rw p.2 (ap₂ (λ (x : Entry) (xs : List Entry). x ∷ xs) first.entry
-        (ap (entries_in (length es)) first.rest ∙ entries_are p.1 rest es p.4))
+    (ap (entries_in (length es)) first.rest ∙ entries_are p.1 rest es p.4))
 
 -- bytes spell one list of entries
 entries_single : (b s u : List ℕ) (es fs : List Entry) → SpellsCount b (record { left = length es; bytes = s })
@@ -166,7 +172,7 @@ pub entry_fault : (b : List ℕ) (start now : ToRead) (es : List Entry) (r : Ref
     → first_fault_of (next_checks entry_checks now) ≡ Some r → first_fault_hstore b ≡ Some r
 entry_fault b start now es r c h e =
     counted b start c ∙ entries_pass start.bytes now.bytes es now.left start.left h.spelled h.so_many
-        ∙ next_fault now.left now.bytes r e
+    ∙ next_fault now.left now.bytes r e
 
 one_more : (s t u : List ℕ) (es : List Entry) (e : Entry) (rest : List ℕ) → SpellsEntries s es rest → rest ≡ t ++ u
     → SpellsEntry t e → SpellsEntries s (es ++ e ∷ []) u

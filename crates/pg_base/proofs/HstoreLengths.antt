@@ -31,12 +31,12 @@ entries-push xs e bs f g xs_are key value =
 -- the entry at a place, what comes before it, and what comes after it
 entry_at : (es : List BorrowedEntry) (i : ℕ) (d : BorrowedEntry) → i < length es
     → map borrowed_entry es ≡ map borrowed_entry (take i es) ++ borrowed_entry (get_or es i d)
-        ∷ map borrowed_entry (drop (i + 1) es)
+    ∷ map borrowed_entry (drop (i + 1) es)
 entry_at es i d h =
     let whole : es ≡ (take i es ++ get_or es i d ∷ []) ++ drop (i + 1) es = sym (take-append-drop (i + 1) es)
-        ∙ ap (λ l. l ++ drop (i + 1) es) (take_more es i d h) in
+    ∙ ap (λ l. l ++ drop (i + 1) es) (take_more es i d h) in
     ap (map borrowed_entry) (whole ∙ append_assoc (take i es) (get_or es i d ∷ []) (drop (i + 1) es))
-        ∙ map-append borrowed_entry (take i es) (get_or es i d ∷ drop (i + 1) es)
+    ∙ map-append borrowed_entry (take i es) (get_or es i d ∷ drop (i + 1) es)
 
 pub entries_next : (es : List BorrowedEntry) (i : ℕ) (d : BorrowedEntry) (bs f g : List ℕ) → i < length es
     → entries_bytes (map borrowed_entry (take i es)) ≡ Some bs
@@ -64,7 +64,7 @@ has_entry es i d bs total h so_far all =
     let before : List Entry = map borrowed_entry (take i es) in
     let behind : List Entry = map borrowed_entry (drop (i + 1) es) in
     let split = parts_of (entries_bytes before) (entries_bytes (e ∷ behind)) total
-        (sym (entries-append before (e ∷ behind)) ∙ ap entries_bytes (sym (entry_at es i d h)) ∙ all) in
+    (sym (entries-append before (e ∷ behind)) ∙ ap entries_bytes (sym (entry_at es i d h)) ∙ all) in
     let here = parts_of (concat (frame (Some e.0)) (frame e.1)) (entries_bytes behind) split.1 split.3 in
     let texts = parts_of (frame (Some e.0)) (frame e.1) here.0 here.2 in
     let same : Some bs ≡ Some split.0 = sym so_far ∙ split.2 in
@@ -75,8 +75,14 @@ has_entry es i d bs total h so_far all =
       value = texts.1;
       key_is = texts.2;
       value_is = texts.3;
-      fits = omega (arith, bs_len, sum_len total split.0 split.1 split.4, sum_len split.1 here.0 here.1 here.4, sum_len
-          here.0 texts.0 texts.1 texts.4);
+      fits = omega (
+        arith,
+        bs_len,
+        sum_len total split.0 split.1 split.4,
+        sum_len split.1 here.0 here.1 here.4,
+        sum_len
+            here.0 texts.0 texts.1 texts.4,
+      );
     }
 
 count_of : (t : Bool) (b x : List ℕ) → cond t (Some b) None ≡ Some x → x ≡ b
@@ -104,12 +110,18 @@ pub record HasRoom (e : Entry) (room : ℕ) : Type 0 where
 pub has_room : (es : List BorrowedEntry) (i : ℕ) (d : BorrowedEntry) (bs b : List ℕ) (start now : ℕ) → i < length es
     → entries_bytes (map borrowed_entry (take i es)) ≡ Some bs
     → hstore_bytes (map borrowed_entry es) ≡ Some b → start ≤ now + length bs → length b ≤ start + 4
-        → HasRoom (borrowed_entry (get_or es i d)) now
+    → HasRoom (borrowed_entry (get_or es i d)) now
 has_room es i d bs b start now h so_far all taken enough =
     let whole = whole_parts (map borrowed_entry es) b all in
     let has = has_entry es i d bs whole.0 h so_far whole.1 in
-    record { key = has.key; value = has.value; key_is = has.key_is; value_is = has.value_is; fits =
-        omega (arith, has.fits, whole.2) }
+    record {
+      key = has.key;
+      value = has.value;
+      key_is = has.key_is;
+      value_is = has.value_is;
+      fits =
+          omega (arith, has.fits, whole.2);
+    }
 
 -- where an entry has no bytes, there are none of all
 pub key_none : (es : List BorrowedEntry) (i : ℕ) (d : BorrowedEntry) (bs : List ℕ) → i < length es
@@ -134,5 +146,5 @@ pub short_list : (es : List BorrowedEntry) (i : ℕ) (bs : List ℕ) → length 
     → hstore_bytes (map borrowed_entry es) ≡ Some (be w32 (pos (length es)) ++ bs)
 short_list es i bs h whole are =
     let all : entries_bytes (map borrowed_entry es) ≡ Some bs =
-        ap (λ (l : List BorrowedEntry). entries_bytes (map borrowed_entry l)) (sym (take_all i es whole)) ∙ are in
+    ap (λ (l : List BorrowedEntry). entries_bytes (map borrowed_entry l)) (sym (take_all i es whole)) ∙ are in
     rw (short_count borrowed_entry es h, all) refl

@@ -29,7 +29,7 @@ json_single : {A : Type 0} (view_of : A → Data) (versioned : Bool) (b : List �
     → FormJson view_of versioned b v → FormJson view_of versioned b w → view_of v ≡ view_of w
 json_single view_of versioned b v w h k =
     let same : h.0 ≡ k.0 = sym (text_back versioned h.0) ∙ ap (text_in versioned) (sym h.1 ∙ k.1)
-        ∙ text_back versioned k.0 in
+    ∙ text_back versioned k.0 in
     let bytes : Some (view_of v) ≡ Some (view_of w) = cc (h.3, k.3, same) in
     cc
 

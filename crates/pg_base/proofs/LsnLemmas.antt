@@ -98,5 +98,10 @@ pub text_parses : (n : ℕ) → n < 2 ^ 64 → lsn_of (lsn_text n) ≡ Some n
 text_parses n small =
     let hi = half_of_digits (n / 2 ^ 32) (omega arith) in
     let lo = half_of_digits (n % 2 ^ 32) (omega arith) in
-    rw (before_slash _ (digits 16 true (n % 2 ^ 32)) hi.0.1, after_slash _
-        (digits 16 true (n % 2 ^ 32)) hi.0.1, hi.1, lo.1) (ap Some (concat_halves n small))
+    rw (
+      before_slash _ (digits 16 true (n % 2 ^ 32)) hi.0.1,
+      after_slash _
+          (digits 16 true (n % 2 ^ 32)) hi.0.1,
+      hi.1,
+      lo.1,
+    ) (ap Some (concat_halves n small))

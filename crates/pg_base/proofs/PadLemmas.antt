@@ -20,7 +20,7 @@ high_kept : (byte k i : ℕ) → k ≤ i → bit_at (without_low k byte) i ≡ b
 high_kept byte k i h =
     ap (λ y. bit_at y i) (sym (add-zero (byte / 2 ^ k * 2 ^ k))) ∙ bit_at_cat_high (byte / 2 ^ k) k 0 i (pow_pos k) h ∙
     sym (bit_at_cat_high (byte / 2 ^ k) k (byte % 2 ^ k) i (mod_below byte (2 ^ k) (pow_pos k)) h)
-        ∙ ap (λ y. bit_at y i) (div-add-mod' byte (2 ^ k))
+    ∙ ap (λ y. bit_at y i) (div-add-mod' byte (2 ^ k))
 
 pub without_low_le : (k byte : ℕ) → without_low k byte ≤ byte
 without_low_le k byte = div-mul-le_self byte (2 ^ k)
@@ -34,7 +34,7 @@ module _ (n m x : ℕ) (p : List ℕ) (count : length p ≡ bytes_for n) (last :
   masked_near : (i : ℕ) → i < n → i / 8 ≡ m → nth_bit (set p m x) i ≡ nth_bit p i
   masked_near i h e =
       ap (λ y. bit_of y (i % 8)) (masked_at i e)
-          ∙ ap (λ y. eqb y 1) (high_kept (get_or p m 0) (pad_of n) (7 - i % 8) (omega arith)) ∙
+      ∙ ap (λ y. eqb y 1) (high_kept (get_or p m 0) (pad_of n) (7 - i % 8) (omega arith)) ∙
       ap (λ y. bit_of (get_or p y 0) (i % 8)) (sym e)
 
   masked_inside : (i : ℕ) → i < n → nth_bit (set p m x) i ≡ nth_bit p i
@@ -70,7 +70,7 @@ packed_parts n p whole last count below e =
     let at : get_or p m 0 ≡ last = ap (λ y. get_or y m 0) e ∙ get_or_push whole last 0 m refl in
     let masked : x ≡ without_low (pad_of n) (get_or p m 0) = ap (without_low (pad_of n)) (sym at) in
     ap packed (sym (masked_view n m x p count end below masked)) ∙ sym (masked_packed n m x p count end below masked)
-        ∙ ap (λ y. set y m x) e ∙
+    ∙ ap (λ y. set y m x) e ∙
     set_at whole last [] x m refl
 
 pub packed_none : (n : ℕ) (p : List ℕ) → length p ≡ bytes_for n → length p ≡ 0 → packed (first_bits n p) ≡ []

@@ -41,8 +41,12 @@ module _ {A : Type 0} (same : A → A → Type 0) (law : IsEquivalence same) whe
 
   -- sameness of options is an equivalence where that of the values inside is
   pub option_equivalence : IsEquivalence (SameOption same)
-  option_equivalence = record { reflexive = option_reflexive; symmetric = option_symmetric; transitive =
-      option_transitive }
+  option_equivalence = record {
+    reflexive = option_reflexive;
+    symmetric = option_symmetric;
+    transitive =
+        option_transitive;
+  }
 
 module _ {A : Type 0} (same : A → A → Type 0) (law : IsEquivalence same) where
   list_reflexive : (vs : List A) → SameList same vs vs

@@ -35,7 +35,7 @@ dimension_checks (suc (suc d)) s = (false, dimensions) ∷ []
 abbrev pub head_checks : List ℕ → Checks
 head_checks b =
     count_checks b ++ (nat_le 8 (length (drop 4 b)), size)
-        ∷ dimension_checks (count_or_zero (number_in b)) (drop 8 (drop 4 b))
+    ∷ dimension_checks (count_or_zero (number_in b)) (drop 8 (drop 4 b))
 
 -- b is the bytes of an array: a head that states n elements, then the cells cs, and then rest
 abbrev pub ArrayBody : List ℕ → ℕ → List Cell → List ℕ → Type 0
@@ -64,7 +64,7 @@ flags_of cs = if has_null cs then pos 1 else pos 0
 abbrev pub array_head : ℤ → ℕ → List Cell → Option (List ℕ)
 array_head lower_bound oid cs =
     option_map (λ n. be w32 (pos 1) ++ be w32 (flags_of cs) ++ to_be_bytes w32 oid ++ n ++ be w32 lower_bound)
-        (count_bytes (length cs))
+    (count_bytes (length cs))
 
 -- the cell of an array: the head, and the frames of its elements' cells
 abbrev pub array_bytes : ℤ → ℕ → List Cell → Option (List ℕ)

@@ -83,4 +83,4 @@ FramesSingle = (cs ds : List Cell) (b : List ℕ) → frames cs ≡ Some b → f
 abbrev pub FramePrefixesSingle : Type 0
 FramePrefixesSingle =
     (cs ds : List Cell) (a b s t : List ℕ) → length cs ≡ length ds → frames cs ≡ Some a → frames ds ≡ Some b → a ++ s
-        ≡ b ++ t → (cs ≡ ds) × (s ≡ t)
+    ≡ b ++ t → (cs ≡ ds) × (s ≡ t)

@@ -65,7 +65,7 @@ TakesNext spells item old (Some (Ok v)) new =
     (new.left + 1 ≡ old.left) × (t : List ℕ) × (old.bytes ≡ t ++ new.bytes) × spells t v
 TakesNext spells item old (Some (Err f)) new =
     IfSome (refusal_of f) (λ r. first_fault_of (next_checks item old) ≡ Some r) × IsSome (refusal_of f)
-        × (new ≡ nothing)
+    × (new ≡ nothing)
 TakesNext spells item old None new = (old ≡ nothing) × (new ≡ nothing)
 
 -- whether the bytes after a length prefix are all there

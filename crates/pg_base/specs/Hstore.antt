@@ -54,13 +54,13 @@ last_value q (e ∷ es) = or_this q e (last_value q es)
 abbrev pub FormHstore : {A : Type 0} → (A → List ℕ → Option Cell) → List ℕ → A → Type 0
 FormHstore value_at b m =
     (es : List Entry) × (s : List ℕ) × SpellsCount b (record { left = length es; bytes = s }) × SpellsEntries s es []
-        × ((q : List ℕ) → value_at m q ≡ last_value q es)
+    × ((q : List ℕ) → value_at m q ≡ last_value q es)
 
 -- the checks of a key: bytes that are truncated are Size, a negative length KeyLength, and what is no UTF-8 Utf8
 abbrev pub key_checks : List ℕ → Checks
 key_checks s =
     (has_number s, size) ∷ (not_negative (number_in s), key_length) ∷ (has_cell s, size) ∷ (is_utf8 (bytes_in s), utf8)
-        ∷ []
+    ∷ []
 
 -- the checks of a value: the same, but a negative length is NULL, which has no text
 abbrev pub value_checks : List ℕ → Checks

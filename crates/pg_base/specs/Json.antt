@@ -32,7 +32,7 @@ document_of text = if is_utf8 text then read text else None
 abbrev pub document_checks : List ℕ → Checks
 document_checks text =
     (is_some (document_of text), json_text)
-        ∷ (not (unwrap_or (option_map has_float (document_of text)) false), json_number) ∷ []
+    ∷ (not (unwrap_or (option_map has_float (document_of text)) false), json_number) ∷ []
 
 -- no document is JsonText, and another number JsonNumber; before that, in JSONB, no bytes are Size, and another first
 -- byte

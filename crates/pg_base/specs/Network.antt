@@ -111,7 +111,7 @@ first_fault_netmask n = first_fault_of ((nat_le n.masklen (address_bits n.addres
 abbrev pub first_fault_network : Network → Option Refusal
 first_fault_network n =
     first_fault_of ((nat_le n.masklen (address_bits n.address), netmask)
-        ∷ (host_part (address_octets n.address) n.masklen == 0, host_bits) ∷ [])
+    ∷ (host_part (address_octets n.address) n.masklen == 0, host_bits) ∷ [])
 
 -- the parts n where there is no fault, and else the fault
 abbrev pub NetworkOrFault : Network → Option Refusal → Outcome Network → Type 0

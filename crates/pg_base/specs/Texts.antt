@@ -23,8 +23,8 @@ has_version ty = is_named (codes "ltree") ty || (is_named (codes "lquery") ty ||
 abbrev pub accepted_text : Content → Bool
 accepted_text ty =
     is_row Varchar ty || (is_row Text ty ||
-        (is_row Bpchar ty || (is_row Name ty ||
-        (is_row Unknown ty || (is_named (codes "citext") ty || has_version ty)))))
+    (is_row Bpchar ty || (is_row Name ty ||
+    (is_row Unknown ty || (is_named (codes "citext") ty || has_version ty)))))
 
 -- the bytes are the cell of this text, which is UTF-8; the first argument tells a text's bytes
 abbrev pub FormText : {A : Type 0} → (A → List ℕ) → Bool → List ℕ → A → Type 0

@@ -82,9 +82,15 @@ stops (suc n) s r e = (size_of_two (has_number s) (has_cell s) r e, inr (omega a
 pub all_taken : (start now : ToRead) (cs : List Cell) → HaveBeenTaken start cs now → now ≡ nothing
     → (length cs ≡ start.left) × CellsInRow start.bytes start.left cs []
 all_taken start now cs h end =
-    let many : length cs ≡ start.left = omega (arith, h.so_many, ap (λ (r : ToRead). r.left) end) in
-    (many, (subst (λ x. SpellsAll start.bytes cs x) (ap (λ (r : ToRead). r.bytes) end) h.spelled, omega
-        (arith, many), inl many))
+    let many : length cs ≡ start.left = omega (arith, h.so_many, ap (λ (r : ToRead). r.left) end) in (
+      many,
+      (
+        subst (λ x. SpellsAll start.bytes cs x) (ap (λ (r : ToRead). r.bytes) end) h.spelled,
+        omega
+            (arith, many),
+        inl many,
+      ),
+    )
 
 -- where the next step fails, these are all cells that are there, and a check after them fails
 cells_missing : (n : ℕ) (cs : List Cell) (rest : List ℕ) → length cs < n → first_fault_of (end_checks n cs rest)
@@ -142,7 +148,7 @@ pub all_remaining : (b : List ℕ) (start now : ToRead) (cs : List Cell) → Spe
     → (ds : List Cell) × (rest : List ℕ) × CellsInRow start.bytes start.left (cs ++ ds) rest
 all_remaining b start now cs p bytes h =
     remaining_cells start.bytes now.bytes cs start.left h.spelled (omega (arith, h.so_many))
-        (row_bytes start.bytes now.bytes cs h.spelled (head_bytes b start p bytes))
+    (row_bytes start.bytes now.bytes cs h.spelled (head_bytes b start p bytes))
 
 module _ {A X : Type 0} (items : X → List A) (reads : Cell → Outcome A → Type 0) (b : List ℕ) (start now : ToRead)
     (cs : List Cell) (vs : List A)
@@ -150,9 +156,13 @@ module _ {A X : Type 0} (items : X → List A) (reads : Cell → Outcome A → T
   -- a list is what was read where nothing is to be read
   pub list_ends : (x : X) → now ≡ nothing → items x ≡ vs → ReadsList items reads (Some b) (Ok x)
   list_ends x end is =
-      let all = all_taken start now cs taken end in
-      (start.left, cs, [], (start.bytes, head, all.1),
-          (subst (λ xs. ReadsAll reads cs (Ok xs)) (sym is) values, none_left start.left cs all.0))
+      let all = all_taken start now cs taken end in (
+        start.left,
+        cs,
+        [],
+        (start.bytes, head, all.1),
+        (subst (λ xs. ReadsAll reads cs (Ok xs)) (sym is) values, none_left start.left cs all.0),
+      )
 
   truncated : (r : Refusal) → first_fault_of (next_checks cell_checks now) ≡ Some r
       → ReadsList items reads (Some b) (Err r)
@@ -174,8 +184,14 @@ module _ {A X : Type 0} (items : X → List A) (reads : Cell → Outcome A → T
         let one = taken_next start now next cs c t taken n is spells in
         let all = all_remaining b start next (cs ++ c ∷ []) head bytes one in
         let fault : ReadsAll reads (cs ++ c ∷ []) (Err r) = fault_more reads cs (c ∷ []) vs r values (inl h) in
-        inr (start.left, (cs ++ c ∷ []) ++ all.0, all.1, (start.bytes, head, all.2), inl
-            (fault_stays reads (cs ++ c ∷ []) all.0 r fault))
+        inr (
+          start.left,
+          (cs ++ c ∷ []) ++ all.0,
+          all.1,
+          (start.bytes, head, all.2),
+          inl
+              (fault_stays reads (cs ++ c ∷ []) all.0 r fault),
+        )
 
     pub list_refused : (fault : Option Refusal) → IfSome fault (λ r. reads c (Err r))
         → IfSome fault (λ r. ReadsList items reads (Some b) (Err r))
@@ -186,7 +202,7 @@ pub same_items : {A X Y : Type 0} (items : X → List A) (others : Y → List A)
     (reads : Content → Cell → Outcome A → Type 0) (element : Option Content) (cell : Cell) (x : X) (y : Y) → others y
     ≡ items x
     → ReadsByElement (λ m. ReadsList items (reads m)) element cell (Ok x)
-        → ReadsByElement (λ m. ReadsList others (reads m)) element cell (Ok y)
+    → ReadsByElement (λ m. ReadsList others (reads m)) element cell (Ok y)
 same_items items others reads None cell x y e h = absurd h
 same_items items others reads (Some m) None x y e h = absurd h
 same_items items others reads (Some m) (Some b) x y e h =

@@ -39,7 +39,7 @@ more m n h = grind (arith, nat_tests)
 module _ {A : Type 0} (reads : Cell → Outcome A → Type 0) (expected : ℕ) (b : List ℕ) (start now : ToRead)
     (cs : List Cell) (vs : List A)
     (head : SpellsHead b start) (taken : HaveBeenTaken start cs now) (values : ReadsAll reads cs (Ok vs))
-        (within : length vs ≤ expected) where
+    (within : length vs ≤ expected) where
   abbrev Reads : Outcome (List A) → Type 0
   Reads = ReadsArray (λ vs. vs) (ReadsFixed expected reads) (Some b)
 
@@ -56,8 +56,8 @@ module _ {A : Type 0} (reads : Cell → Outcome A → Type 0) (expected : ℕ) (
       let enough : expected ≤ start.left = omega (arith, as_many reads cs vs values, all.0, whole) in
       let none_fails : first_fault_of (fixed_checks expected start.left cs []) ≡ None
       = rw (no_more expected (length cs) cells_within)
-          (checks_passed (end_checks start.left cs []) ((nat_le expected start.left, too_few expected start.left) ∷ [])
-          (none_left start.left cs all.0)
+      (checks_passed (end_checks start.left cs []) ((nat_le expected start.left, too_few expected start.left) ∷ [])
+      (none_left start.left cs all.0)
       ∙ (rw (no_more start.left expected enough) refl)) in
       (start.left, cs, [], (start.bytes, head, all.1), (read_within, none_fails))
 
@@ -69,19 +69,25 @@ module _ {A : Type 0} (reads : Cell → Outcome A → Type 0) (expected : ℕ) (
       let fewer : start.left < expected = omega (arith, many, short) in
       let failed : first_fault_of (fixed_checks expected start.left cs []) ≡ Some (too_few expected start.left)
       = rw (no_more expected (length cs) cells_within)
-          (checks_passed (end_checks start.left cs []) ((nat_le expected start.left, too_few expected start.left) ∷ [])
-          (none_left start.left cs all.0)
+      (checks_passed (end_checks start.left cs []) ((nat_le expected start.left, too_few expected start.left) ∷ [])
+      (none_left start.left cs all.0)
       ∙ (rw (more start.left expected fewer) refl)) in
-      inr (start.left, cs, [], (start.bytes, head, all.1), inr
-          (vs, read_within, failed ∙ ap (λ n. Some (too_few expected n)) many))
+      inr (
+        start.left,
+        cs,
+        [],
+        (start.bytes, head, all.1),
+        inr
+            (vs, read_within, failed ∙ ap (λ n. Some (too_few expected n)) many),
+      )
 
   truncated : (r : Refusal) → first_fault_of (next_checks cell_checks now) ≡ Some r → Reads (Err r)
   truncated r e =
       let all = all_there start now cs r taken e in
       let failed : first_fault_of (fixed_checks expected start.left cs now.bytes) ≡ Some r
       = rw (no_more expected (length cs) cells_within)
-          (check_failed (end_checks start.left cs now.bytes)
-          ((nat_le expected start.left, too_few expected start.left) ∷ []) r all.1) in
+      (check_failed (end_checks start.left cs now.bytes)
+      ((nat_le expected start.left, too_few expected start.left) ∷ []) r all.1) in
       inr (start.left, cs, now.bytes, (start.bytes, head, all.0), inr (vs, read_within, failed))
 
   -- the next step fails
@@ -101,12 +107,12 @@ module _ {A : Type 0} (reads : Cell → Outcome A → Type 0) (expected : ℕ) (
         let cells : List Cell = (cs ++ c ∷ []) ++ all.0 in
         let many : length cs ≡ expected = omega (arith, as_many reads cs vs values, full) in
         let longer : expected < length cells =
-            omega (arith, length-append (cs ++ c ∷ []) all.0, length-append cs (c ∷ []), many) in
+        omega (arith, length-append (cs ++ c ∷ []) all.0, length-append cs (c ∷ []), many) in
         let first : take expected cells ≡ cs
         = ap (take expected) (append_assoc cs (c ∷ []) all.0) ∙ ap (λ k. take k (cs ++ c ∷ all.0)) (sym many)
-            ∙ take-append_seam cs (c ∷ all.0) in
+        ∙ take-append_seam cs (c ∷ all.0) in
         let failed : first_fault_of (fixed_checks expected start.left cells all.1) ≡ Some (excess expected) =
-            rw (more expected (length cells) longer) refl in
+        rw (more expected (length cells) longer) refl in
         inr (start.left, cells, all.1, (start.bytes, head, all.2), inr (vs, (rw first values), failed))
 
     refused : length vs < expected → (r : Refusal) → reads c (Err r) → Reads (Err r)
@@ -114,7 +120,7 @@ module _ {A : Type 0} (reads : Cell → Outcome A → Type 0) (expected : ℕ) (
         let all = all_remaining b start next (cs ++ c ∷ []) head bytes one_more in
         let fault : ReadsAll reads (cs ++ c ∷ []) (Err r) = fault_more reads cs (c ∷ []) vs r values (inl h) in
         let few : length (cs ++ c ∷ []) ≤ expected =
-            omega (arith, length-append cs (c ∷ []), as_many reads cs vs values, wanted) in
+        omega (arith, length-append cs (c ∷ []), as_many reads cs vs values, wanted) in
         inr (
           start.left,
           (cs ++ c ∷ []) ++ all.0,

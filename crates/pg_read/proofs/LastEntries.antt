@@ -30,11 +30,11 @@ view_or false v rest u old e f = f
 pub put_in : {S : Type 0} (m n : HashMap (String Global) (Option (String Global)) S) (es : List Entry) (e : Entry)
     (k : List ℕ) (v : Option (String Global))
     → ((q : List ℕ) → value_at m q ≡ last_value q es)
-        → ((q : List ℕ) → get_by_text n q ≡ update bytes_eq (get_by_text m) k (Some v) q)
+    → ((q : List ℕ) → get_by_text n q ≡ update bytes_eq (get_by_text m) k (Some v) q)
     → k ≡ e.0 → option_map string_bytes v ≡ e.1 → (q : List ℕ) → value_at n q ≡ last_value q (es ++ e ∷ [])
 put_in m n es e k v before puts key value q =
     ap (option_map (λ o. option_map string_bytes o)) (puts q)
     ∙ ap (λ (b : List ℕ). option_map (λ o. option_map string_bytes o) (cond (bytes_eq b q) (Some v) (get_by_text m q)))
-        key
+    key
     ∙ view_or (bytes_eq e.0 q) v (get_by_text m q) e.1 (last_value q es) value (before q)
     ∙ sym (last_value-push q es e)

@@ -27,4 +27,4 @@ pub cidr_refused : (b : List ℕ) (f : Fault) (r : Result Network Fault) → IsE
 cidr_refused b f (Ok n) is h = absurd is
 cidr_refused b f (Err g) is h =
     refused-more (inet_checks b) ((host_part (drop 4 b) (slice_index b 1) == 0, host_bits) ∷ []) (refusal_of g)
-        (rw is h)
+    (rw is h)

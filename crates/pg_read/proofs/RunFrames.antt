@@ -20,9 +20,9 @@ module _ {A X : Type 0} (items : X → List A) (same : A → A → Type 0) (read
     never_stops rest (Some r) h = elim h [
       | inl z ↦
           let refused : ReadsAll reads (z.0 ++ z.1 ∷ []) (Err r) =
-              fault_more reads z.0 (z.1 ∷ []) z.2 r z.3 (inl z.4) in
+          fault_more reads z.0 (z.1 ∷ []) z.2 r z.3 (inl z.4) in
           let all : ReadsAll reads cs (Err r) =
-              subst (λ x. ReadsAll reads x (Err r)) (sym z.5.1) (fault_stays reads (z.0 ++ z.1 ∷ []) z.5.0 r refused) in
+          subst (λ x. ReadsAll reads x (Err r)) (sym z.5.1) (fault_stays reads (z.0 ++ z.1 ∷ []) z.5.0 r refused) in
           absurd (all_single same reads single cs (Err r) (Ok vs) all values)
       | inr z ↦ absurd (omega (arith, many, z.2))
     ]
@@ -37,8 +37,8 @@ module _ {A X : Type 0} (items : X → List A) (same : A → A → Type 0) (read
       → ReadsFrames items same reads old n result new
   run_frames result run cs b s vs are is many values =
       let row : CellsInRow old n cs s = subst (λ x. CellsInRow x n cs s) (sym is)
-          (subst (λ m. CellsInRow (b ++ s) m cs s) many (frames_in_row cs b s are)) in
+      (subst (λ m. CellsInRow (b ++ s) m cs s) many (frames_in_row cs b s are)) in
       let e = cells_single old n run.0 cs run.1 s run.2 row in
       answers_values cs vs many values s result
       (subst (λ x. RunEnds items reads old n cs x result new) e.1
-          (subst (λ x. RunEnds items reads old n x run.1 result new) e.0 run.3))
+      (subst (λ x. RunEnds items reads old n x run.1 result new) e.0 run.3))

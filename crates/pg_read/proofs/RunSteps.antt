@@ -57,7 +57,7 @@ module _ {A X : Type 0} (items : X → List A) (reads : Cell → Outcome A → T
       → refusal_of f ≡ None → ReadsRun items reads start n (Err f) new
   run_unkept c new spelled few bytes is =
       let more = remaining_cells start new (cs ++ c ∷ []) n spelled (omega (arith, few, length-append cs (c ∷ [])))
-          (row_bytes start new (cs ++ c ∷ []) spelled bytes) in
+      (row_bytes start new (cs ++ c ∷ []) spelled bytes) in
       ((cs ++ c ∷ []) ++ more.0, more.1, more.2, rw is (cs, c, vs, so_far.values, (more.0, refl, spelled)))
 
 module _ {A X : Type 0} (items : X → List A) (reads : Cell → Outcome A → Type 0) (memory_free : Cell → Type 0)
@@ -66,8 +66,13 @@ module _ {A X : Type 0} (items : X → List A) (reads : Cell → Outcome A → T
   -- it stops where no further cell is whole
   stops_truncated : SpellsNone now → refusal_of f ≡ Some size → new ≡ after_truncated now
       → ReadsRun items reads start n (Err f) new
-  stops_truncated none is stands = (cs, now, (so_far.spelled, omega (arith, few), inr none), rw is
-      (inr (vs, so_far.values, few, refl, stands)))
+  stops_truncated none is stands = (
+    cs,
+    now,
+    (so_far.spelled, omega (arith, few), inr none),
+    rw is
+        (inr (vs, so_far.values, few, refl, stands)),
+  )
 
   -- and where the next cell is not read, whether it is refused or memory runs out
   stops_after : (fault : Option Refusal) (c : Cell) (rest ends : List ℕ) (ds : List Cell)
@@ -84,10 +89,14 @@ module _ {A X : Type 0} (items : X → List A) (reads : Cell → Outcome A → T
   stops_at bytes (c ∷ []) rest row h =
       let spelled = spelled_next reads memory_free start cs vs now so_far c rest row.0 in
       let more = remaining_cells start rest (cs ++ c ∷ []) n spelled (omega (arith, few, length-append cs (c ∷ [])))
-          (row_bytes now rest (c ∷ []) row.0 bytes) in
-      let stops = stops_after (refusal_of f) c rest more.1 more.0 spelled h.0 in
-      ((cs ++ c ∷ []) ++ more.0, more.1, more.2, subst
-          (λ s. RunStops reads start n ((cs ++ c ∷ []) ++ more.0) more.1 (refusal_of f) s) (sym h.2) stops)
+      (row_bytes now rest (c ∷ []) row.0 bytes) in
+      let stops = stops_after (refusal_of f) c rest more.1 more.0 spelled h.0 in (
+        (cs ++ c ∷ []) ++ more.0,
+        more.1,
+        more.2,
+        subst
+            (λ s. RunStops reads start n ((cs ++ c ∷ []) ++ more.0) more.1 (refusal_of f) s) (sym h.2) stops,
+      )
   stops_at bytes (c ∷ d ∷ ds) rest row h = absurd (omega (arith, row.1))
 
   pub run_stops : AreBytes start → ReadsFrame reads memory_free now (Err f) new

@@ -35,8 +35,11 @@ module _ {A : Type 0} (same : A → A → Type 0) (reads : Cell → Outcome A �
       elim h [ inl z ↦ single c (Err r) (Ok w) z k.0 | inr z ↦ all_single cs (Err r) (Ok ws) z.2 k.1 ]
   all_single (c ∷ cs) (Err r) (Err f) h k = elim h [
     | inl z ↦ elim k [ inl y ↦ single c (Err r) (Err f) z y | inr y ↦ absurd (single c (Err r) (Ok y.0) z y.1) ]
-    | inr z ↦ elim k [ inl y ↦ absurd (single c (Ok z.0) (Err f) z.1 y) | inr y ↦
-        all_single cs (Err r) (Err f) z.2 y.2 ]
+    | inr z ↦ elim k [
+      | inl y ↦ absurd (single c (Ok z.0) (Err f) z.1 y)
+      | inr y ↦
+          all_single cs (Err r) (Err f) z.2 y.2
+    ]
   ]
 
   -- and so they do with checks after them
@@ -44,16 +47,28 @@ module _ {A : Type 0} (same : A → A → Type 0) (reads : Cell → Outcome A �
       → ReadsChecked reads checks cs s → SameOutcome (SameList same) r s
   checked_single checks cs (Ok vs) (Ok ws) h k = all_single cs (Ok vs) (Ok ws) h.0 k.0
   checked_single checks cs (Ok vs) (Err f) h k =
-      elim k [ inl y ↦ all_single cs (Ok vs) (Err f) h.0 y | inr y ↦
-      absurd (no_fault (first_fault_of checks) f h.1 y.2) ]
+      elim k [
+        | inl y ↦ all_single cs (Ok vs) (Err f) h.0 y
+        | inr y ↦
+            absurd (no_fault (first_fault_of checks) f h.1 y.2)
+      ]
   checked_single checks cs (Err r) (Ok ws) h k =
-      elim h [ inl z ↦ all_single cs (Err r) (Ok ws) z k.0 | inr z ↦
-      absurd (no_fault (first_fault_of checks) r k.1 z.2) ]
+      elim h [
+        | inl z ↦ all_single cs (Err r) (Ok ws) z k.0
+        | inr z ↦
+            absurd (no_fault (first_fault_of checks) r k.1 z.2)
+      ]
   checked_single checks cs (Err r) (Err f) h k = elim h [
-    | inl z ↦ elim k [ inl y ↦ all_single cs (Err r) (Err f) z y | inr y ↦
-        absurd (all_single cs (Err r) (Ok y.0) z y.1) ]
-    | inr z ↦ elim k [ inl y ↦ absurd (all_single cs (Ok z.0) (Err f) z.1 y) | inr y ↦ let e : Some r ≡ Some f =
-        sym z.2 ∙ y.2 in cc ]
+    | inl z ↦ elim k [
+      | inl y ↦ all_single cs (Err r) (Err f) z y
+      | inr y ↦
+          absurd (all_single cs (Err r) (Ok y.0) z y.1)
+    ]
+    | inr z ↦ elim k [
+      | inl y ↦ absurd (all_single cs (Ok z.0) (Err f) z.1 y)
+      | inr y ↦ let e : Some r ≡ Some f =
+          sym z.2 ∙ y.2 in cc
+    ]
   ]
 
 -- elements of such a count have one outcome
@@ -61,7 +76,7 @@ abbrev pub ElementsSingle : {A : Type 0} → (A → A → Type 0) → (ℕ → L
     → Type 0
 ElementsSingle {A} same elements =
     (n : ℕ) (cs : List Cell) (rest : List ℕ) (r s : Outcome (List A)) → elements n cs rest r → elements n cs rest s
-        → SameOutcome (SameList same) r s
+    → SameOutcome (SameList same) r s
 
 -- where elements have one outcome, so has the cell of their array
 module _ {A X : Type 0} (items : X → List A) (same : A → A → Type 0)
@@ -72,7 +87,7 @@ module _ {A X : Type 0} (items : X → List A) (same : A → A → Type 0)
   body_outcome b n m cs ds u w r s p q h k =
       let e = body_single b n m cs ds u w p q in
       single n cs u r s h (subst (λ x. elements x cs u s) (sym e.0)
-          (subst (λ x. elements m x u s) (sym e.1) (subst (λ x. elements m ds x s) (sym e.2) k)))
+      (subst (λ x. elements m x u s) (sym e.1) (subst (λ x. elements m ds x s) (sym e.2) k)))
 
   no_head_fault : (b : List ℕ) (n : ℕ) (cs : List Cell) (u : List ℕ) (r : Refusal) → ArrayBody b n cs u
       → first_fault_of (head_checks b) ≡ Some r → ⊥
@@ -90,10 +105,16 @@ module _ {A X : Type 0} (items : X → List A) (same : A → A → Type 0)
     | inr z ↦ body_outcome b z.0 k.0 z.1 k.1 z.2 k.2 (Err r) (Ok (items y)) z.3 k.3 z.4 k.4
   ]
   one_decoded b (Err r) (Err f) h k = elim h [
-    | inl z ↦ elim k [ inl y ↦ let e : Some r ≡ Some f = sym z ∙ y in cc | inr y ↦
-        absurd (no_head_fault b y.0 y.1 y.2 r y.3 z) ]
-    | inr z ↦ elim k [ inl y ↦ absurd (no_head_fault b z.0 z.1 z.2 f z.3 y) | inr y ↦
-        body_outcome b z.0 y.0 z.1 y.1 z.2 y.2 (Err r) (Err f) z.3 y.3 z.4 y.4 ]
+    | inl z ↦ elim k [
+      | inl y ↦ let e : Some r ≡ Some f = sym z ∙ y in cc
+      | inr y ↦
+          absurd (no_head_fault b y.0 y.1 y.2 r y.3 z)
+    ]
+    | inr z ↦ elim k [
+      | inl y ↦ absurd (no_head_fault b z.0 z.1 z.2 f z.3 y)
+      | inr y ↦
+          body_outcome b z.0 y.0 z.1 y.1 z.2 y.2 (Err r) (Err f) z.3 y.3 z.4 y.4
+    ]
   ]
 
   pub array_single : ReadsSingle (λ x y. SameList same (items x) (items y)) (ReadsArray items elements)
@@ -124,4 +145,4 @@ pub fixed_single : {A X : Type 0} (items : X → List A) (expected : ℕ) (same 
     → ReadsSingle (λ x y. SameList same (items x) (items y)) (ReadsArray items (ReadsFixed expected reads))
 fixed_single items expected same reads single =
     array_single items same (ReadsFixed expected reads)
-        (λ n cs rest. checked_single same reads single (fixed_checks expected n cs rest) (take expected cs))
+    (λ n cs rest. checked_single same reads single (fixed_checks expected n cs rest) (take expected cs))

@@ -56,7 +56,7 @@ pub box_single : {A B : Type 0} (inside : B → A) (same : A → A → Type 0) (
     → ReadsSingle same reads → ReadsSingle (λ v w. same (inside v) (inside w)) (ReadsBox inside reads)
 box_single inside same reads single =
     not_null_single (λ v w. same (inside v) (inside w)) (λ b. InBox inside (reads (Some b)))
-        (λ b. one_in_box inside same (reads (Some b)) (single (Some b)))
+    (λ b. one_in_box inside same (reads (Some b)) (single (Some b)))
 
 -- one outcome inside gives one of the option
 pub option_single : {A : Type 0} (same : A → A → Type 0) (reads : Cell → Outcome A → Type 0) → ReadsSingle same reads
@@ -121,4 +121,4 @@ pub special_single : {A B : Type 0} (w : Width) (view : B → Special A) (same :
     → ReadsSingle (λ s t. SameSpecial same (view s) (view t)) (ReadsSpecial w view reads)
 special_single w view same reads single =
     not_null_single (λ s t. SameSpecial same (view s) (view t)) (λ b. DecodesSpecial w view (reads (Some b)) b)
-        (λ b. one_decoded w same reads single b view)
+    (λ b. one_decoded w same reads single b view)

@@ -15,7 +15,7 @@ StandsAfter old cs ds new = (es : List Cell) × (cs ≡ ds ++ es) × SpellsAll o
 abbrev pub StopsRefused : {A : Type 0} → (Cell → Outcome A → Type 0) → List ℕ → List Cell → Refusal → List ℕ → Type 0
 StopsRefused {A} reads old cs r new =
     (ds : List Cell) × (c : Cell) × (vs : List A) × ReadsAll reads ds (Ok vs) × reads c (Err r)
-        × StandsAfter old cs (ds ++ c ∷ []) new
+    × StandsAfter old cs (ds ++ c ∷ []) new
 
 -- every cell that is there gives a value, and they are fewer than n: it is Size, and the slice stands where the
 -- truncated cell after them leaves it
@@ -59,5 +59,5 @@ abbrev pub ReadsFrames : {A X : Type 0} → (X → List A) → (A → A → Type
     → Result X Fault → List ℕ → Type 0
 ReadsFrames {A} items same reads old n result new =
     (cs : List Cell) (b s : List ℕ) (vs : List A) → frames cs ≡ Some b → old ≡ b ++ s → length cs ≡ n
-        → ReadsAll reads cs (Ok vs)
+    → ReadsAll reads cs (Ok vs)
     → AnswersValues items same vs s result new

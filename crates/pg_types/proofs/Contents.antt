@@ -60,7 +60,7 @@ one-test false false f g = refl
 pub eq-rows : (a b : Row) → rows.eq a b ≡ (row_oid a == row_oid b)
 eq-rows a b =
     one-test _ _ (λ h. eq-eqb _ _ (ap row_oid (same_true the_type (search rules) a b h)))
-        (λ h. true_same the_type a b (row-same a b h))
+    (λ h. true_same the_type a b (row-same a b h))
 
 mutual
   -- types that the test finds the same are the same

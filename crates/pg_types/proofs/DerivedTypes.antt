@@ -55,9 +55,9 @@ mutual
   eq-inner (BuiltIn x) (BuiltIn y) = inner_laws.is (BuiltIn x) (BuiltIn y) ∙ eq-rows x y
   eq-inner (Other' p n o k s) (Other' q m i l t) =
       inner_laws.is (Other' p n o k s) (Other' q m i l t)
-          ∙ other_laws.is (record { name = n; oid = o; kind = k; schema = s })
-          (record { name = m; oid = i; kind = l; schema = t })
-          ∙ ap (λ b. string_eq n m && (o == i && (b && string_eq s t))) (eq-kind k l)
+      ∙ other_laws.is (record { name = n; oid = o; kind = k; schema = s })
+      (record { name = m; oid = i; kind = l; schema = t })
+      ∙ ap (λ b. string_eq n m && (o == i && (b && string_eq s t))) (eq-kind k l)
   eq-inner (BuiltIn x) (Other' q m i l t) = inner_laws.is (BuiltIn x) (Other' q m i l t)
   eq-inner a b = inner_laws.is a b
 
@@ -90,10 +90,10 @@ mutual
   eq-row (more_of-Field n t r) end_of-Field = refl
   eq-row (more_of-Field n t r) (more_of-Field m u q) =
       let f : fields.eq (record { name = n; type_ = record { inner = t } })
-          (record { name = m; type_ = record { inner = u } })
-          ≡ (pointwise ◌==◌ (string_bytes n) (string_bytes m) && same_type (inner_content t) (inner_content u)) =
+      (record { name = m; type_ = record { inner = u } })
+      ≡ (pointwise ◌==◌ (string_bytes n) (string_bytes m) && same_type (inner_content t) (inner_content u)) =
       field_laws.is _ _ ∙ ap (λ b. string_eq n m && b)
-          (type_laws.is (record { inner = t }) (record { inner = u }) ∙ eq-inner t u) in
+      (type_laws.is (record { inner = t }) (record { inner = u }) ∙ eq-inner t u) in
       let e = eq-row r q in cc
 
 -- what == of two types answers

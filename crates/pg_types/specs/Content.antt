@@ -125,7 +125,7 @@ IsBuiltIn (UserDefinedType _ _ _ _) = ⊥
 abbrev pub type_text : Content → List ℕ
 type_text t =
     if pointwise ◌==◌ (schema_of t) (codes "public") || pointwise ◌==◌ (schema_of t)
-        (codes "pg_catalog") then name_of t else schema_of t ++ codes "." ++ name_of t
+    (codes "pg_catalog") then name_of t else schema_of t ++ codes "." ++ name_of t
 
 -- the name of a field
 abbrev pub field_name : Field → List ℕ

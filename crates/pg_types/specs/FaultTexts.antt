@@ -19,4 +19,4 @@ was_null_text = codes "a Postgres value was `NULL`"
 abbrev pub wrong_type_text : Content → List ℕ → List ℕ
 wrong_type_text ty rust =
     codes "cannot convert between the Rust type `"
-        ++ (rust ++ (codes "` and the Postgres type `" ++ (type_text ty ++ codes "`")))
+    ++ (rust ++ (codes "` and the Postgres type `" ++ (type_text ty ++ codes "`")))

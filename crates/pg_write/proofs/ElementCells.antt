@@ -72,13 +72,13 @@ module _ {A : Type 0} (wire : A → Wire) where
 pub list_written : {A : Type 0} (wire : Content → A → Wire) (ty element : Content) (vs : List A) (cs : List Cell)
     (b : List ℕ)
     → element_of ty ≡ Some element → length vs ≤ 2147483647 → element_cells (wire element) vs ≡ Ok cs
-        → array_bytes (lower_bound_of ty) (oid_of element) cs ≡ Some b
+    → array_bytes (lower_bound_of ty) (oid_of element) cs ≡ Some b
     → wire_list wire ty vs ≡ Ok (Some b)
 list_written wire ty element vs cs b element_is few cells bytes =
     let fits : nat_le (length vs) 2147483647 ≡ true = grind (arith, nat_tests) in
     ap (λ m. wire_by_element wire ty m vs) element_is
     ∙ ap (λ t. cond t (wire_array (lower_bound_of ty) (oid_of element) (element_cells (wire element) vs))
-        (Err transmit)) fits
+    (Err transmit)) fits
     ∙ ap (wire_array (lower_bound_of ty) (oid_of element)) cells ∙ ap wire_of bytes
 
 -- an appender that did not refuse had bytes to append
@@ -92,4 +92,4 @@ pub same_array : (a z : ℤ) (m n : ℕ) (xs ys : List (Option (Vec ℕ Global))
     → array_bytes a m (map owned_cell xs) ≡ array_bytes z n (map owned_cell ys)
 same_array a z m n xs ys e f g =
     ap (λ x. array_bytes x m (map owned_cell xs)) e ∙ ap (λ x. array_bytes z x (map owned_cell xs)) f
-        ∙ ap (λ x. array_bytes z n (map owned_cell x)) g
+    ∙ ap (λ x. array_bytes z n (map owned_cell x)) g

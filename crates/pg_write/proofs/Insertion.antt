@@ -52,7 +52,7 @@ unfolding IsStrictlySortedBy
 insert_order e [] h = (tt, tt)
 insert_order e (f ∷ fs) h =
     insert_order_by (slice_cmp nat_cmp e.0 f.0) e f fs (insert_entry e fs) refl h.0 h.1 (insert_order e fs h.1)
-        (λ below. insert_above f.0 e fs below h.0)
+    (λ below. insert_above f.0 e fs below h.0)
 
 -- entries in key order are so
 pub in_order : (es : List Entry) → InOrder (in_key_order es)
@@ -86,7 +86,7 @@ insert_lookup_by Less q e f fs rest c later = refl
 insert_lookup_by Equal q e f fs rest c later =
     cover (bytes_eq q e.0) e.1 f.1 (lookup (bytes_eq q) fs)
     ∙ ap (λ (k : List ℕ). cond (bytes_eq q e.0) (Some e.1) (cond (bytes_eq q k) (Some f.1) (lookup (bytes_eq q) fs)))
-        (same_key e f c)
+    (same_key e f c)
 insert_lookup_by Greater q e f fs rest c later =
     ap (λ (found : Option Cell). cond (bytes_eq q f.0) (Some f.1) found) later
     ∙ swap (bytes_eq q f.0) (bytes_eq q e.0) f.1 e.1 (lookup (bytes_eq q) fs) (differ q e f c)
@@ -102,7 +102,7 @@ pub in_order_lookup : (q : List ℕ) (es : List Entry) → lookup (bytes_eq q) (
 in_order_lookup q [] = refl
 in_order_lookup q (e ∷ es) =
     insert_lookup q e (in_key_order es)
-        ∙ ap (λ (found : Option Cell). cond (bytes_eq q e.0) (Some e.1) found) (in_order_lookup q es)
+    ∙ ap (λ (found : Option Cell). cond (bytes_eq q e.0) (Some e.1) found) (in_order_lookup q es)
 
 -- a permutation has the same at each key, where keys differ
 moved_lookup : (q : List ℕ) (es fs : List Entry) (found there : Option Cell) → IsPermutation es fs
@@ -114,7 +114,7 @@ moved_lookup q es fs (Some v) there p d f a b =
 moved_lookup q es fs None None p d f a b = refl
 moved_lookup q es fs None (Some v) p d f a b =
     let has = Contains-permutation fs es (q, v) (IsPermutation-sym es fs p)
-        (Contains-from_lookup (λ x y. (bytes_eq-Decides x y).0) q v fs b) in
+    (Contains-from_lookup (λ x y. (bytes_eq-Decides x y).0) q v fs b) in
     sym a ∙ lookup-from_Contains nat_list_eq_equiv q v es d has
 
 -- entries whose keys differ, once sorted, are those in key order
@@ -123,4 +123,4 @@ pub sorted_in_order : (es fs : List Entry) → IsPermutation es fs → IsDistinc
     → fs ≡ in_key_order es
 sorted_in_order es fs moved d f sorted =
     sorted_same fs (in_key_order es) sorted (in_order es)
-        (λ q. sym (moved_lookup q es fs _ _ moved d f refl refl) ∙ sym (in_order_lookup q es))
+    (λ q. sym (moved_lookup q es fs _ _ moved d f refl refl) ∙ sym (in_order_lookup q es))

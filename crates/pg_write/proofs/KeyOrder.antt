@@ -57,7 +57,7 @@ length_keys (x ∷ xs) = ap suc (length_keys xs)
 pub strictly_sorted : (xs : List BorrowedEntry) (d : BorrowedEntry)
     → IsSortedByKey (λ e. e.0) (λ x y. slice_cmp nat_cmp x.now y.now) xs
     → IsDistinct bytes_eq (map (λ e. e.0) (map borrowed_entry xs))
-        → IsStrictlySortedBy (slice_cmp nat_cmp) (map (λ e. e.0) (map borrowed_entry xs))
+    → IsStrictlySortedBy (slice_cmp nat_cmp) (map (λ e. e.0) (map borrowed_entry xs))
 strictly_sorted xs d sorted distinct =
     let ks : List (List ℕ) = map (λ e. e.0) (map borrowed_entry xs) in
     sorted_from_all_adjacent nat_list_cmp_total ks d.0.now (λ k h.
@@ -66,13 +66,13 @@ strictly_sorted xs d sorted distinct =
     let within : k + 1 < length xs = omega (arith, length_keys xs) in
     let lt : is_lt (slice_cmp nat_cmp b a) ≡ false = sorted k d (omega arith) within in
     let next : bytes_eq (get_or ks k d.0.now) (get_or ks (suc k) d.0.now) ≡ false =
-        apart_next ks k d.0.now distinct (omega (arith, h)) in
+    apart_next ks k d.0.now distinct (omega (arith, h)) in
     let apart : bytes_eq a b ≡ false
     = sym (ap (λ (x : List ℕ). bytes_eq x b) (key_at xs k d))
     ∙ sym (ap (λ (y : List ℕ). bytes_eq (get_or ks k d.0.now) y) (key_at xs (k + 1) d))
     ∙ ap (λ (i : ℕ). bytes_eq (get_or ks k d.0.now) (get_or ks i d.0.now)) (add-one k) ∙ next in
     let less : slice_cmp nat_cmp a b ≡ Less =
-        less_of (slice_cmp nat_cmp a b) (slice_cmp nat_cmp b a) (nat_list_cmp_total.antisymm b a) lt
-        (is_eq-slice_cmp a b ∙ apart) in
+    less_of (slice_cmp nat_cmp a b) (slice_cmp nat_cmp b a) (nat_list_cmp_total.antisymm b a) lt
+    (is_eq-slice_cmp a b ∙ apart) in
     ap (λ (x : List ℕ). slice_cmp nat_cmp x (get_or ks (k + 1) d.0.now)) (key_at xs k d)
     ∙ ap (λ (y : List ℕ). slice_cmp nat_cmp a y) (key_at xs (k + 1) d) ∙ less)

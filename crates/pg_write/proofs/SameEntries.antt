@@ -21,7 +21,7 @@ pub none_above : (k : List ℕ) (es : List Entry) → AllByRecursion (λ y. slic
 none_above k [] h = refl
 none_above k (e ∷ es) h =
     ap (λ (b : Bool). cond b (Some e.1) (lookup (bytes_eq k) es)) (sym (is_eq-slice_cmp k e.0) ∙ ap is_eq h.0)
-        ∙ none_above k es h.1
+    ∙ none_above k es h.1
 
 here : (e : Entry) (es : List Entry) → lookup (bytes_eq e.0) (e ∷ es) ≡ Some e.1
 here e es = ap (λ (b : Bool). cond b (Some e.1) (lookup (bytes_eq e.0) es)) (nat_list_eq_equiv.refl e.0)
@@ -37,11 +37,11 @@ apart : (e f : Entry) (es fs : List Entry) → slice_cmp nat_cmp e.0 f.0 ≡ Les
     → lookup (bytes_eq e.0) (e ∷ es) ≡ lookup (bytes_eq e.0) (f ∷ fs) → ⊥
 apart e f es fs less above h =
     let bad : ◌≡◌ {A = Option Value} (Some e.1) None = sym (here e es) ∙ h
-        ∙ none_above e.0 (f ∷ fs) (less, below_all e.0 f.0 fs less above) in cc
+    ∙ none_above e.0 (f ∷ fs) (less, below_all e.0 f.0 fs less above) in cc
 
 tail_at : (b : Bool) (q : List ℕ) (e f : Entry) (es fs : List Entry) → bytes_eq q e.0 ≡ b → e.0 ≡ f.0
     → AllByRecursion (λ y. slice_cmp nat_cmp e.0 y ≡ Less) (keys_of es)
-        → AllByRecursion (λ y. slice_cmp nat_cmp f.0 y ≡ Less) (keys_of fs)
+    → AllByRecursion (λ y. slice_cmp nat_cmp f.0 y ≡ Less) (keys_of fs)
     → lookup (bytes_eq q) (e ∷ es) ≡ lookup (bytes_eq q) (f ∷ fs) → lookup (bytes_eq q) es ≡ lookup (bytes_eq q) fs
 tail_at true q e f es fs is same above over h =
     let at : q ≡ e.0 = (bytes_eq-Decides q e.0).0 is in
@@ -53,7 +53,7 @@ tail_at false q e f es fs is same above over h =
 
 heads : (o : Ordering) (e f : Entry) (es fs : List Entry) → slice_cmp nat_cmp e.0 f.0 ≡ o
     → AllByRecursion (λ y. slice_cmp nat_cmp e.0 y ≡ Less) (keys_of es)
-        → AllByRecursion (λ y. slice_cmp nat_cmp f.0 y ≡ Less) (keys_of fs)
+    → AllByRecursion (λ y. slice_cmp nat_cmp f.0 y ≡ Less) (keys_of fs)
     → ((q : List ℕ) → lookup (bytes_eq q) (e ∷ es) ≡ lookup (bytes_eq q) (f ∷ fs))
     → (((q : List ℕ) → lookup (bytes_eq q) es ≡ lookup (bytes_eq q) fs) → es ≡ fs) → (e ∷ es) ≡ (f ∷ fs)
 heads Less e f es fs c above over h tails = absurd (apart e f es fs c over (h e.0))
@@ -67,7 +67,7 @@ heads Equal e f es fs c above over h tails =
     let value : e.1 ≡ f.1 = cc in
     let head : e ≡ f = ap₂ (λ (a : List ℕ) (b : Value). let p : Entry = (a, b) in p) same value in
     ap₂ (λ (x : Entry) (xs : List Entry). x ∷ xs) head
-        (tails (λ q. tail_at (bytes_eq q e.0) q e f es fs refl same above over (h q)))
+    (tails (λ q. tail_at (bytes_eq q e.0) q e f es fs refl same above over (h q)))
 
 pub sorted_same : (es fs : List Entry) → IsStrictlySortedBy (slice_cmp nat_cmp) (keys_of es)
     → IsStrictlySortedBy (slice_cmp nat_cmp) (keys_of fs)

@@ -45,7 +45,7 @@ abbrev pub wire_by_element : {A : Type 0} → (Content → A → Wire) → Conte
 wire_by_element wire ty None vs = Err transmit
 wire_by_element wire ty (Some element) vs =
     if nat_le (length vs) 2147483647 then wire_array (lower_bound_of ty) (oid_of element)
-        (element_cells (wire element) vs) else Err transmit
+    (element_cells (wire element) vs) else Err transmit
 
 -- what a list is written as
 abbrev pub wire_list : {A : Type 0} → (Content → A → Wire) → Content → List A → Wire

@@ -8,22 +8,33 @@ use Rattle.pgcell.specs.Run.{Answered, GainsAnswers, WritesAnswers, WritesPart}
 
 pub answered-append : (a b : List (List ℕ)) (x y : List ℕ) → Answered a x → Answered b y → Answered (a ++ b) (x ++ y)
 answered-append [] b x y p q = subst (Answered b) (sym (ap (λ (l : List ℕ). l ++ y) p)) q
-answered-append (line ∷ a) b x y p q =
-    (p.0, p.1 ++ y, p.2, ap (λ (l : List ℕ). l ++ y) p.3
-        ∙ append_assoc p.0 (10 ∷ p.1) y, answered-append a b p.1 y p.4 q)
+answered-append (line ∷ a) b x y p q = (
+  p.0,
+  p.1 ++ y,
+  p.2,
+  ap (λ (l : List ℕ). l ++ y) p.3
+      ∙ append_assoc p.0 (10 ∷ p.1) y,
+  answered-append a b p.1 y p.4 q,
+)
 
 -- an answer and byte 10 were put after what was there
 pub gains_one : (line answer old mid new : List ℕ) → Answer line answer → mid ≡ old ++ answer → new ≡ mid ++ 10 ∷ []
     → GainsAnswers (line ∷ []) old new
-gains_one line answer old mid new p e f =
-    (answer ++ 10 ∷ [], (answer, [], p, refl, refl), f ∙ ap (λ (l : List ℕ). l ++ 10 ∷ []) e
-        ∙ append_assoc old answer (10 ∷ []))
+gains_one line answer old mid new p e f = (
+  answer ++ 10 ∷ [],
+  (answer, [], p, refl, refl),
+  f ∙ ap (λ (l : List ℕ). l ++ 10 ∷ []) e
+      ∙ append_assoc old answer (10 ∷ []),
+)
 
 pub gains_more : (a b : List (List ℕ)) (old mid new : List ℕ) → GainsAnswers a old mid → GainsAnswers b mid new
     → GainsAnswers (a ++ b) old new
-gains_more a b old mid new p q =
-    (p.0 ++ q.0, answered-append a b p.0 q.0 p.1 q.1, q.2 ∙ ap (λ (l : List ℕ). l ++ q.0) p.2
-        ∙ append_assoc old p.0 q.0)
+gains_more a b old mid new p q = (
+  p.0 ++ q.0,
+  answered-append a b p.0 q.0 p.1 q.1,
+  q.2 ∙ ap (λ (l : List ℕ). l ++ q.0) p.2
+      ∙ append_assoc old p.0 q.0,
+)
 
 -- what was put after nothing is the answers
 pub gained : (lines : List (List ℕ)) (old new : List ℕ) → GainsAnswers lines old new → old ≡ [] → Answered lines new

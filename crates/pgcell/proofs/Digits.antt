@@ -41,7 +41,7 @@ none : (word : List ℕ) → (all_ascii_digits word ≡ true → 0 < length word
     → digits_value 10 word < 2 ^ 32 → ⊥) → None ≡ oid_of_word word
 none word h =
     no_oid word (all_ascii_digits word) (nat_lt 0 (length word)) (nat_lt (length word) 11)
-        (nat_lt (digits_value 10 word) (2 ^ 32))
+    (nat_lt (digits_value 10 word) (2 ^ 32))
     (λ e f g i. h e (ltb-true _ _ f) (ltb-true _ _ g) (ltb-true _ _ i))
 
 no_plus : (word : List ℕ) → starts_with nat_eq word (43 ∷ []) ≡ false → get_or word 0 0 ≢ 43
@@ -67,4 +67,4 @@ pub oid_parsed : {E : Type 0} (word : List ℕ) (r : Result ℕ E) → length wo
     ≡ false → ParsesUnsigned 32 10 word r → result_ok r ≡ oid_of_word word
 oid_parsed word r short sign h =
     parsed word r short (subst (λ ds. OkIff r (IsOid ds) (digits_value 10 ds))
-        (without_leading_plus_none word (no_plus word sign)) h)
+    (without_leading_plus_none word (no_plus word sign)) h)

@@ -40,12 +40,12 @@ takes_some xs line old new t = (t.0, λ more. (lines_of (line ++ more), t.1 more
 -- the next line is taken
 pub takes_next : (xs line last after old mid new : List ℕ) → IsOneLine line → IsOneLine last
     → TakesLines xs (line ++ (last ++ 10 ∷ after)) old mid → GainsAnswers ((line ++ last) ∷ []) mid new
-        → TakesLines xs after old new
+    → TakesLines xs after old new
 takes_next xs line last after old mid new p q t g =
     let next : (more : List ℕ) → lines_of ((line ++ (last ++ 10 ∷ after)) ++ more) ≡ (line ++ last)
-        ∷ lines_of (after ++ more)
+    ∷ lines_of (after ++ more)
     = λ more. ap lines_of (simp append_assoc)
-        ∙ lines_of-line (line ++ last) (after ++ more) (one_line-append line last p q) in (
+    ∙ lines_of-line (line ++ last) (after ++ more) (one_line-append line last p q) in (
       t.0 ++ (line ++ last) ∷ [],
       λ more. t.1 more ∙ ap (λ l. t.0 ++ l) (next more) ∙ sym (append_assoc t.0 _ _),
       gains_more t.0 _ old mid new t.2 g,

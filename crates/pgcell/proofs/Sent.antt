@@ -12,5 +12,5 @@ pub sent_more : (a b c : Option (List ℕ)) (bs : List ℕ) (sent n next : ℕ) 
 sent_more a b c bs sent n next fits bound first second is =
     let most = length-take (length bs - sent) (drop sent bs) in
     let concat = ap (λ l. take sent bs ++ l) (take-take n (length bs - sent) (drop sent bs) (omega arith))
-        ∙ sym (take-add sent n bs) in
+    ∙ sym (take-add sent n bs) in
     rw is (omega arith, subst (Appends a c) concat (Appends-trans a b c _ _ first second))

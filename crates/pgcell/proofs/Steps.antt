@@ -49,16 +49,16 @@ lines_after : (x line y block z : List ℕ) (done : List (List ℕ)) → lines_o
     → lines_of x ≡ done ++ lines_of ((line ++ block) ++ z)
 lines_after x line y block z done e k =
     e ∙ ap (λ (l : List ℕ). done ++ lines_of (line ++ l)) k
-        ∙ ap (λ (l : List ℕ). done ++ lines_of l) (sym (append_assoc line block z))
+    ∙ ap (λ (l : List ℕ). done ++ lines_of l) (sym (append_assoc line block z))
 
 splits_taken : (x line y block z next : List ℕ) (done more : List (List ℕ)) → Splits x done (line ++ y) → y ≡ block ++ z
     → Splits (line ++ block) more next → Splits x (done ++ more) (next ++ z)
 splits_taken x line y block z next done more s k t = λ after.
     let concat : line ++ y ++ after ≡ (line ++ block) ++ (z ++ after) = ap (λ (l : List ℕ). line ++ l ++ after) k
-        ∙ simp append_assoc in
+    ∙ simp append_assoc in
     s after ∙ ap (λ (l : List ℕ). done ++ lines_of l) concat
     ∙ ap (λ (l : List (List ℕ)). done ++ l)
-        (t (z ++ after) ∙ ap (λ (l : List ℕ). more ++ lines_of l) (sym (append_assoc next z after)))
+    (t (z ++ after) ∙ ap (λ (l : List ℕ). more ++ lines_of l) (sym (append_assoc next z after)))
     ∙ sym (append_assoc done more _)
 
 pub under_way-taken : (a b d o n m : Option (List ℕ)) (line next block old new : List ℕ) → IsUnderWay a b o n line
@@ -88,7 +88,7 @@ under_way-stopped (Some x) None d o n m line block old new u k t none w = absurd
 under_way-stopped (Some x) (Some y) None o n m line block old new u k t none w = absurd k
 under_way-stopped (Some x) (Some y) (Some z) o n m line block old new u k t none w =
     answers_first x (u.0 ++ t.0) (t.1 z).0 o m
-        (lines_begun x line y block z u.0 t.0 _ (whole x (line ++ y) u.0 u.1) k (t.1 z).1)
+    (lines_begun x line y block z u.0 t.0 _ (whole x (line ++ y) u.0 u.1) k (t.1 z).1)
     (writes_more u.0 t.0 o n m u.2 (new, gained t.0 old new t.2 none, w))
 
 pub under_way-partial : (a b d o n m : Option (List ℕ)) (line block old new : List ℕ) (j : ℕ) → IsUnderWay a b o n line
@@ -99,7 +99,7 @@ under_way-partial (Some x) None d o n m line block old new j u k t none w = absu
 under_way-partial (Some x) (Some y) None o n m line block old new j u k t none w = absurd k
 under_way-partial (Some x) (Some y) (Some z) o n m line block old new j u k t none w =
     answers_part x (u.0 ++ t.0) (t.1 z).0 o m
-        (lines_begun x line y block z u.0 t.0 _ (whole x (line ++ y) u.0 u.1) k (t.1 z).1)
+    (lines_begun x line y block z u.0 t.0 _ (whole x (line ++ y) u.0 u.1) k (t.1 z).1)
     (writes_part u.0 t.0 o n m u.2 (new, j, gained t.0 old new t.2 none, w))
 
 -- either way, some lines were taken
@@ -113,7 +113,7 @@ at_end : (x line y z : List ℕ) (done : List (List ℕ)) → lines_of x ≡ don
     ≡ [] → lines_of x ≡ done ++ lines_of line
 at_end x line y z done e k end =
     e ∙ ap (λ (l : List ℕ). done ++ lines_of (line ++ l)) (k ∙ end)
-        ∙ ap (λ (l : List ℕ). done ++ lines_of l) (append-nil line)
+    ∙ ap (λ (l : List ℕ). done ++ lines_of l) (append-nil line)
 
 pub under_way-all : (a b d o n m : Option (List ℕ)) (line : List ℕ) → IsUnderWay a b o n line → Consumes b d []
     → IsAtEnd d
@@ -123,7 +123,7 @@ under_way-all (Some x) None d o n m line u k end w = absurd u
 under_way-all (Some x) (Some y) None o n m line u k end w = absurd k
 under_way-all (Some x) (Some y) (Some z) o n m line u k end w =
     subst (λ (l : List (List ℕ)). WritesAnswers l o m)
-        (sym (at_end x line y z u.0 (whole x (line ++ y) u.0 u.1) k end)) (writes_more u.0 (lines_of line) o n m u.2 w)
+    (sym (at_end x line y z u.0 (whole x (line ++ y) u.0 u.1) k end)) (writes_more u.0 (lines_of line) o n m u.2 w)
 
 pub under_way-unfinished : (a b o n m : Option (List ℕ)) (line : List ℕ) → IsUnderWay a b o n line → Keeps n m
     → AnswersSome a o m
@@ -140,5 +140,5 @@ under_way-end_partial (Some x) None d o n m line u k end w = absurd u
 under_way-end_partial (Some x) (Some y) None o n m line u k end w = absurd k
 under_way-end_partial (Some x) (Some y) (Some z) o n m line u k end w =
     answers_part x (u.0 ++ lines_of line) [] o m
-        (at_end x line y z u.0 (whole x (line ++ y) u.0 u.1) k end ∙ sym (append-nil _))
-        (writes_part u.0 (lines_of line) o n m u.2 w)
+    (at_end x line y z u.0 (whole x (line ++ y) u.0 u.1) k end ∙ sym (append-nil _))
+    (writes_part u.0 (lines_of line) o n m u.2 w)

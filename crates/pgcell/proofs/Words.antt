@@ -11,7 +11,7 @@ pub split_more : (separator : ℕ) (before after : List ℕ) → Lacks separator
     → split separator (before ++ separator ∷ after) ≡ Some (before, after)
 split_more separator [] after h =
     ap (λ t. cond t (Some ([], after)) (option_map (λ parts. (separator ∷ parts.0, parts.1)) (split separator after)))
-        (eq-eqb separator separator refl)
+    (eq-eqb separator separator refl)
 split_more separator (byte ∷ bytes) after h =
     let rest = option_map (λ (parts : List ℕ × List ℕ). (byte ∷ parts.0, parts.1)) in
     ap (λ t. cond t (Some ([], bytes ++ separator ∷ after)) (rest (split separator (bytes ++ separator ∷ after)))) h.0

@@ -31,7 +31,7 @@ cell_of_word word =
 abbrev pub oid_of_word : List ℕ → Option ℕ
 oid_of_word word =
     if all_ascii_digits word && (nat_lt 0 (length word) &&
-        (nat_lt (length word) 11 && nat_lt (digits_value 10 word) (2 ^ 32)))
+    (nat_lt (length word) 11 && nat_lt (digits_value 10 word) (2 ^ 32)))
     then Some (digits_value 10 word)
     else None
 
@@ -45,7 +45,7 @@ pub data Asked : Type 0 where
 abbrev pub norm_of : List ℕ → Option Asked
 norm_of words =
     option_and_then (λ parts. option_and_then (λ name. option_map (norm name) (cell_of_word parts.1))
-        (name_of parts.0)) (split 32 words)
+    (name_of parts.0)) (split 32 words)
 
 -- `lsn TEXT`, the whole rest of the line, which is UTF-8
 abbrev pub lsn_of_text : List ℕ → Option Asked

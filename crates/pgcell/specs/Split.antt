@@ -11,4 +11,4 @@ abbrev pub split : ℕ → List ℕ → Option (List ℕ × List ℕ)
 split separator [] = None
 split separator (byte ∷ bytes) =
     if byte == separator then Some ([], bytes) else option_map (λ parts. (byte ∷ parts.0, parts.1))
-        (split separator bytes)
+    (split separator bytes)

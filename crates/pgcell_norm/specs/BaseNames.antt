@@ -78,22 +78,22 @@ if base is name then this else others = cond (same_word base (codes name)) this 
 unfoldable pub other_entry_of : List ℕ → Entry
 other_entry_of base =
     if base is "bytea" then built_in ByteaRow ByteaArray
-        (RewrittenPlain {A = Vec ℕ Global} (ReadsBytes (λ v. v.items)) (λ v. wire_bytes v.items))
+    (RewrittenPlain {A = Vec ℕ Global} (ReadsBytes (λ v. v.items)) (λ v. wire_bytes v.items))
     else if base is "bit" then built_in BitRow BitArray (RewrittenPlain (ReadsBits (λ v. v)) wire_bits)
     else if base is "varbit" then built_in VarbitRow VarbitArray (RewrittenPlain (ReadsBits (λ v. v)) wire_bits)
     else if base is "inet" then built_in InetRow InetArray (RewrittenPlain ReadsInet wire_inet)
     else if base is "addr" then built_in InetRow InetArray (RewrittenPlain ReadsAddress wire_address)
     else if base is "cidr" then built_in CidrRow CidrArray (RewrittenPlain ReadsCidr wire_cidr)
     else if base is "macaddr" then built_in MacaddrRow MacaddrArray
-        (RewrittenPlain (ReadsFixedBytes 6) (wire_fixed_bytes 6))
+    (RewrittenPlain (ReadsFixedBytes 6) (wire_fixed_bytes 6))
     else if base is "uuid" then built_in UuidRow UuidArray (RewrittenPlain (ReadsFixedBytes 16) (wire_fixed_bytes 16))
     else if base is "pg_lsn" then built_in PgLsnRow PgLsnArray (RewrittenPlain (ReadsUnsigned w64) (wire_unsigned w64))
     else if base is "int2vector" then no_arrays (BuiltInType Int2VectorRow)
-        (RewrittenAs (ReadsVec (λ _. ReadsSigned w16)) (wire_vec (λ _. wire_signed w16)))
+    (RewrittenAs (ReadsVec (λ _. ReadsSigned w16)) (wire_vec (λ _. wire_signed w16)))
     else if base is "oidvector" then no_arrays (BuiltInType OidVectorRow)
-        (RewrittenAs (ReadsVec (λ _. ReadsUnsigned w32)) (wire_vec (λ _. wire_unsigned w32)))
+    (RewrittenAs (ReadsVec (λ _. ReadsUnsigned w32)) (wire_vec (λ _. wire_unsigned w32)))
     else if base is "hstore" then no_arrays (user_type "hstore" 100002)
-        (RewrittenPlain {A = Map} ReadsHstore (λ m. wire_hstore (map owned_entry m.entries)))
+    (RewrittenPlain {A = Map} ReadsHstore (λ m. wire_hstore (map owned_entry m.entries)))
     else no_entry
 
 -- the same, also of a date, a time or a timestamp
@@ -101,19 +101,19 @@ unfoldable pub timestamp_entry_of : List ℕ → Entry
 timestamp_entry_of base =
     if base is "date" then built_in DateRow DateArray (RewrittenPlain ReadsDate wire_date)
     else if base is "date_inf" then built_in DateRow DateArray
-        (RewrittenPlain (ReadsSpecial w32 date_view ReadsDate) (λ v. wire_special w32 wire_date (date_view v)))
+    (RewrittenPlain (ReadsSpecial w32 date_view ReadsDate) (λ v. wire_special w32 wire_date (date_view v)))
     else if base is "time" then built_in TimeRow TimeArray (RewrittenPlain ReadsTime wire_time)
     else if base is "timestamp" then built_in TimestampRow TimestampArray (RewrittenPlain ReadsDateTime wire_datetime)
     else if base is "timestamp_inf" then built_in TimestampRow TimestampArray
-        (RewrittenPlain (ReadsSpecial w64 timestamp_view ReadsDateTime)
-        (λ v. wire_special w64 wire_datetime (timestamp_view v)))
+    (RewrittenPlain (ReadsSpecial w64 timestamp_view ReadsDateTime)
+    (λ v. wire_special w64 wire_datetime (timestamp_view v)))
     else if base is "timestamptz" then built_in TimestamptzRow TimestamptzArray
-        (RewrittenPlain ReadsInstant wire_instant)
+    (RewrittenPlain ReadsInstant wire_instant)
     else if base is "unix" then built_in TimestampRow TimestampArray
-        (RewrittenPlain (ReadsTimestamp nanos_of) (λ v. wire_timestamp (nanos_of v)))
+    (RewrittenPlain (ReadsTimestamp nanos_of) (λ v. wire_timestamp (nanos_of v)))
     else if base is "unix_inf" then built_in TimestampRow TimestampArray
-        (RewrittenPlain (ReadsSpecial w64 timestamp_view (ReadsTimestamp nanos_of))
-        (λ v. wire_special w64 (λ u. wire_timestamp (nanos_of u)) (timestamp_view v)))
+    (RewrittenPlain (ReadsSpecial w64 timestamp_view (ReadsTimestamp nanos_of))
+    (λ v. wire_special w64 (λ u. wire_timestamp (nanos_of u)) (timestamp_view v)))
     else other_entry_of base
 
 -- the entry of any base name, also of a number or a text

@@ -22,7 +22,7 @@ Rewriting = Form → Content → Cell → Wire → Type 0
 abbrev pub RewrittenTo : {A : Type 0} → (Cell → Outcome A → Type 0) → (A → Wire) → Cell → Wire → Type 0
 RewrittenTo {A} reads wire cell w =
     ((refusal : Refusal) × reads cell (Err refusal) × (w ≡ Err refusal))
-        ⊎ ((value : A) × reads cell (Ok value) × (w ≡ wire value))
+    ⊎ ((value : A) × reads cell (Ok value) × (w ≡ wire value))
 
 -- what an array's cell gives: a list of what its elements give by their type
 abbrev pub ReadsVec : {A : Type 0} → (Content → Cell → Outcome A → Type 0) → Content → Cell → Outcome (Vec A Global)
@@ -40,7 +40,7 @@ RewrittenAs reads wire Optional ty = RewrittenTo (ReadsOption (reads ty)) (wire_
 RewrittenAs reads wire Array ty = RewrittenTo (ReadsVec reads ty) (wire_vec wire ty)
 RewrittenAs reads wire OptionalArray ty =
     RewrittenTo (ReadsVec (λ element. ReadsOption (reads element)) ty)
-        (wire_vec (λ element. wire_option (wire element)) ty)
+    (wire_vec (λ element. wire_option (wire element)) ty)
 
 -- a form accepts a type that its Rust type accepts, or in a list an array of such a type
 abbrev pub accepted_as : (Content → Bool) → Form → Content → Bool

@@ -1,6 +1,6 @@
 //! Timestamps as `UnixTime`.
 
-use pg_base::unix_time::laws::{unix_time_order, same_unix_time};
+use pg_base::unix_time::laws::{same_unix_time, unix_time_order};
 use postgres_types::private::BytesMut;
 use postgres_types::protocol::{timestamp_from_sql, timestamp_to_sql};
 use postgres_types::{Type, UnixTime};

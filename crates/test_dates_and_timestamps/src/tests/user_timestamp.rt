@@ -34,8 +34,10 @@ impl<'a> FromSql<'a> for Micros {
     ghost equivalence = { content_equivalence (λ v. v.0) };
 
     ghost single = { λ _ _. plain_single (λ v w. v.0 ≡ w.0) (λ b v. FormSigned w64 b v.0) (first_fault_number 8)
-        (record { passes = λ b v h. int8_grammar.passes b v.0 h;
-            single = λ b v w h k. int8_grammar.single b v.0 w.0 h k }) };
+        (record {
+          passes = λ b v h. int8_grammar.passes b v.0 h;
+          single = λ b v w h k. int8_grammar.single b v.0 w.0 h k;
+        }) };
 
     fn from_sql(_alloc: Global, _ty: &Type, raw: &'a [u8]) -> Result<Micros, Fault> {
         Ok(Micros(timestamp_from_sql(raw)?))

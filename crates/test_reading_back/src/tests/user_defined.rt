@@ -34,8 +34,10 @@ impl<'a> FromSql<'a> for Degrees {
     ghost equivalence = { content_equivalence (λ v. v.0) };
 
     ghost single = { λ _ _. plain_single (λ v w. v.0 ≡ w.0) (λ b v. FormSigned w32 b v.0) (first_fault_number 4)
-        (record { passes = λ b v h. int4_grammar.passes b v.0 h;
-            single = λ b v w h k. int4_grammar.single b v.0 w.0 h k }) };
+        (record {
+          passes = λ b v h. int4_grammar.passes b v.0 h;
+          single = λ b v w h k. int4_grammar.single b v.0 w.0 h k;
+        }) };
 
     fn from_sql(alloc: Global, ty: &Type, raw: &'a [u8]) -> Result<Degrees, Fault> {
         Ok(Degrees(i32::from_sql(alloc, ty, raw)?))

@@ -14,7 +14,7 @@ returns-in_err-cell g c =
     let so_far = c.loop-cell.invariant in
     let damaged = rw c.in_err-cell.was at c.in-Some.ensures in
     rw (p.1, p.2) (list_truncated (λ (v : Vec g.row.T.Denot Global). v.items) reads c.args.raw.now c.in_ok-cells.cells
-        c.loop-cell.cells so_far.0 c.loop-cell.values.items
+    c.loop-cell.cells so_far.0 c.loop-cell.values.items
     c.in_ok-cells.ensures.outcome so_far.1 so_far.2 (refusal_of c.in_err-cell.field-0.0) damaged.0)
 
 pub returns-in_err-value : goal.returns-in_err-value
@@ -24,9 +24,9 @@ returns-in_err-value g c =
     let so_far = c.loop-cell.invariant in
     let taken = rw c.in_ok-cell.was at c.in-Some.ensures in
     rw (p.1, p.2) (list_refused (λ (v : Vec g.row.T.Denot Global). v.items) reads c.args.raw.now c.in_ok-cells.cells
-        c.loop-cell.cells so_far.0 c.loop-cell.values.items
+    c.loop-cell.cells so_far.0 c.loop-cell.values.items
     c.in_ok-cells.ensures.outcome so_far.1 so_far.2 c.next.new.self taken.1 (cell_of c.in_ok-cell.cell)
-        (λ i. (c.type_inv.raw i).fits) taken.0 taken.2 taken.3
+    (λ i. (c.type_inv.raw i).fits) taken.0 taken.2 taken.3
     (refusal_of c.in_err-value.field-0.0) c.in_err-value.ensures.outcome)
 
 pub loop-cell-preserved : goal.loop-cell-preserved
@@ -37,7 +37,7 @@ loop-cell-preserved g c =
     let taken = rw c.in_ok-cell.was at c.in-Some.ensures in
     let cells : List Cell = so_far.0 ++ cell ∷ [] in
     let pushed = value_next reads so_far.0 cell c.loop-cell.values.items c.in_ok-value.value so_far.2
-        c.in_ok-value.ensures.outcome in (
+    c.in_ok-value.ensures.outcome in (
       cells,
       taken_next c.in_ok-cells.cells c.loop-cell.cells c.next.new.self so_far.0 cell taken.1 so_far.1 taken.0 taken.2
           taken.3,

@@ -10,7 +10,7 @@ use Rattle.pg_read.proofs.arrays.read_list.Given as goal
 abbrev pub invariant-loop-cell : goal.invariant-loop-cell
 invariant-loop-cell g l =
     (cs : List Cell) × HaveBeenTaken l.initial.cells cs l.cells
-        × ReadsAll (g.T.FromSql.reads (content l.element)) cs (Ok l.values.items)
+    × ReadsAll (g.T.FromSql.reads (content l.element)) cs (Ok l.values.items)
 
 abbrev pub decreases-loop-cell : goal.decreases-loop-cell
 decreases-loop-cell g l = l.cells.left

@@ -9,4 +9,4 @@ use Rattle.pg_read.proofs.private.read_values.Given as goal
 abbrev pub invariant-loop : goal.invariant-loop
 invariant-loop g l =
     (cs : List Cell) × (length cs ≡ l.counter)
-        × HaveBeenRead (g.T.FromSql.reads (content l.type_)) l.fn.buf.now cs l.values.items l.buf.now
+    × HaveBeenRead (g.T.FromSql.reads (content l.type_)) l.fn.buf.now cs l.values.items l.buf.now

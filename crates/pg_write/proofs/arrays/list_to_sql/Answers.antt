@@ -20,12 +20,15 @@ returns g c =
     let first = lower_bound_of ty in
     let bytes = had_bytes _ c.args.out.now c.array_to_sql.new.out c.in_ok-array_to_sql.ensures in
     let lower_bound = to_z-of_z w32 c.lower_bound.result (record { sfits = c.lower_bound.type_inv })
-        ∙ c.lower_bound.ensures in
+    ∙ c.lower_bound.ensures in
     let oid = c.oid.ensures ∙ ap (λ m. oid_of (content m)) c.deref-2.ensures in
     let appended = same_array first _ (oid_of element) _ owned _ (sym lower_bound) (sym oid)
-        (sym c.as_slice.ensures.value) ∙ bytes.1 in
+    (sym c.as_slice.ensures.value) ∙ bytes.1 in
     let told = ap (λ m. element_cells (g.T.ToSql.wire (content m)) values) (sym c.deref.ensures)
-        ∙ c.in_ok-cells.ensures in
-    let is = sym c.element_type.ensures ∙ ap (option_map (λ m. content (cow_value m))) c.in-Some.is in
-    (bytes.0, list_written g.T.ToSql.wire ty element values cells bytes.0 is c.if-values-gt-MAX_LEN.false told
-        appended, bytes.2)
+    ∙ c.in_ok-cells.ensures in
+    let is = sym c.element_type.ensures ∙ ap (option_map (λ m. content (cow_value m))) c.in-Some.is in (
+      bytes.0,
+      list_written g.T.ToSql.wire ty element values cells bytes.0 is c.if-values-gt-MAX_LEN.false told
+          appended,
+      bytes.2,
+    )

@@ -20,16 +20,16 @@ returns-clause-sorted g c =
     let whole : map borrowed_entry items ≡ owned
     = sym (append-nil (map borrowed_entry items))
     ∙ sym (ap (λ (es : List (String Global × Option (String Global))). map borrowed_entry items ++ map owned_entry es)
-        c.in-None.ensures.steps.0)
+    c.in-None.ensures.steps.0)
     ∙ c.loop-key.invariant in
     let moved : IsPermutation owned (map borrowed_entry ordered)
     = subst (λ (l : List Entry). IsPermutation l (map borrowed_entry ordered)) whole
-        (IsPermutation-map borrowed_entry items ordered c.sort_unstable_by_key.ensures.permutation) in
+    (IsPermutation-map borrowed_entry items ordered c.sort_unstable_by_key.ensures.permutation) in
     let differ : IsDistinct bytes_eq (map (λ e. e.0) owned) =
-        distinct_bytes c.args.store.now.entries c.iter-key-items.ensures.unique in
+    distinct_bytes c.args.store.now.entries c.iter-key-items.ensures.unique in
     let still : IsDistinct bytes_eq (map (λ e. e.0) (map borrowed_entry ordered))
     = IsDistinct-IsPermutation bytes_eq (λ x y. nat_list_eq_equiv.symm x y) _ _
-        (IsPermutation-map (λ (e : Entry). e.0) _ _ moved) differ in
+    (IsPermutation-map (λ (e : Entry). e.0) _ _ moved) differ in
     let sorted = strictly_sorted ordered (record { ref_ptr = (0, 0); now = [] }, None)
-        (c.sort_unstable_by_key.ensures.sorted (λ e. e.0) (answers_always _ _ _ (λ a r q k. search rules))) still in
+    (c.sort_unstable_by_key.ensures.sorted (λ e. e.0) (answers_always _ _ _ (λ a r q k. search rules))) still in
     sorted_in_order owned (map borrowed_entry ordered) moved differ still sorted

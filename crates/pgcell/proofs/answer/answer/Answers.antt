@@ -27,8 +27,12 @@ returns-in-Some-Norm-clause-ok c =
     let asked = rw c.in-Some-Norm.field-0-is at (rw c.in-Some-Norm.is at c.in_ok-parse.ensures) in
     let told = rw c.borrowed.ensures at c.norm.ensures.ok in
     ok_weaker {P = (text : List ℕ) × AnswersNorm name.base.now name.form cell text × (new ≡ old ++ text)} c.norm.result
-    (λ answer. (answer.0, answers_line c.args.line.now
-        (Some (norm (name.base.now, name.form) cell)) answer.0 asked answer.1, answer.2)) told
+    (λ answer. (
+      answer.0,
+      answers_line c.args.line.now
+          (Some (norm (name.base.now, name.form) cell)) answer.0 asked answer.1,
+      answer.2,
+    )) told
 
 pub returns-in-Some-TypeOf-clause-ok : goal.returns-in-Some-TypeOf-clause-ok
 returns-in-Some-TypeOf-clause-ok c =
@@ -38,7 +42,7 @@ returns-in-Some-TypeOf-clause-ok c =
     let asked = rw c.in-Some-TypeOf.field-0-is at (rw c.in-Some-TypeOf.is at c.in_ok-parse.ensures) in
     ok_weaker {P = (text : List ℕ) × AnswersType oid text × (new ≡ old ++ text)} c.show_type.result
     (λ answer. (answer.0, answers_line c.args.line.now (Some (type_of oid)) answer.0 asked answer.1, answer.2))
-        c.show_type.ensures.ok
+    c.show_type.ensures.ok
 
 pub returns-in-Some-Lsn-clause-ok : goal.returns-in-Some-Lsn-clause-ok
 returns-in-Some-Lsn-clause-ok c =
@@ -47,4 +51,4 @@ returns-in-Some-Lsn-clause-ok c =
     let asked = rw c.in-Some-Lsn.field-0-is at (rw c.in-Some-Lsn.is at c.in_ok-parse.ensures) in
     ok_weaker {P = c.show_lsn.new.pending.items ≡ c.args.pending.now.items ++ answer} c.show_lsn.result
     (λ printed. (answer, answers_line c.args.line.now (Some (lsn position)) answer asked refl, printed))
-        c.show_lsn.ensures.ok
+    c.show_lsn.ensures.ok

@@ -18,15 +18,15 @@ returns-clause-ok g c =
     let some : length c.args.line.now ≡ 0 → ⊥ = grind (arith, nat_tests, c.if-is_empty.ensures) in
     let put = ok_of c.answer_line.result _ c.answer_line.ensures.ok c.if-is_err.ensures.value in
     let text : Answered (c.args.line.now ∷ []) c.as_slice.result.now =
-        rw c.as_slice.ensures.value (gained (c.args.line.now ∷ []) _ _ put c.requires.empty) in
+    rw c.as_slice.ensures.value (gained (c.args.line.now ∷ []) _ _ put c.requires.empty) in
     rw (last_line c.args.line.now c.requires.one_line some)
-        (ok_weaker c.write_whole.result (λ w. (c.as_slice.result.now, text, w)) c.write_whole.ensures.ok)
+    (ok_weaker c.write_whole.result (λ w. (c.as_slice.result.now, text, w)) c.write_whole.ensures.ok)
 
 pub returns-clause-partial : goal.returns-clause-partial
 returns-clause-partial g c =
     let some : length c.args.line.now ≡ 0 → ⊥ = grind (arith, nat_tests, c.if-is_empty.ensures) in
     let put = ok_of c.answer_line.result _ c.answer_line.ensures.ok c.if-is_err.ensures.value in
     let text : Answered (c.args.line.now ∷ []) c.as_slice.result.now =
-        rw c.as_slice.ensures.value (gained (c.args.line.now ∷ []) _ _ put c.requires.empty) in
+    rw c.as_slice.ensures.value (gained (c.args.line.now ∷ []) _ _ put c.requires.empty) in
     rw (last_line c.args.line.now c.requires.one_line some)
     (err_weaker c.write_whole.result (λ e p is. (c.as_slice.result.now, p.0, text, p.2)) c.write_whole.ensures.err)

@@ -13,8 +13,12 @@ returns-in-Err-2-clause-whole g c = λ _. under_way-some _ _ _ _ _ c.reads.invar
 
 pub returns-in-Err-2-clause-read : goal.returns-in-Err-2-clause-read
 returns-in-Err-2-clause-read g c =
-    λ _. (c.reads.line.items, c.reads.invariant.0, under_way-kept _ _ _ _ _ _ c.reads.invariant.2
-        c.in-Err-2.ensures.bytes)
+    λ _. (
+      c.reads.line.items,
+      c.reads.invariant.0,
+      under_way-kept _ _ _ _ _ _ c.reads.invariant.2
+          c.in-Err-2.ensures.bytes,
+    )
 
 pub returns-then-n-eq0-clause-ok : goal.returns-then-n-eq0-clause-ok
 returns-then-n-eq0-clause-ok g c =
@@ -29,7 +33,7 @@ returns-then-n-eq0-clause-ok g c =
 pub returns-then-n-eq0-clause-whole : goal.returns-then-n-eq0-clause-whole
 returns-then-n-eq0-clause-whole g c =
     err_weaker c.finish.result (λ e p not_write. under_way-unfinished _ _ _ _ _ _ c.reads.invariant.2 (p not_write).1)
-        c.finish.ensures.memory
+    c.finish.ensures.memory
 
 pub returns-then-n-eq0-clause-read : goal.returns-then-n-eq0-clause-read
 returns-then-n-eq0-clause-read g c =
@@ -58,19 +62,19 @@ returns-in_err-write_whole-clause-read g c =
 pub returns-in_err-write_whole-clause-partial : goal.returns-in_err-write_whole-clause-partial
 returns-in_err-write_whole-clause-partial g c =
     let t = takes_either c.take_block-taken.result _ _ _ _ c.take_block-taken.ensures.ok
-        c.take_block-taken.ensures.err in
+    c.take_block-taken.ensures.err in
     let w = c.in_err-write_whole.ensures.err in
     let part : Appends (g.W.Write.contents c.reads.output) (g.W.Write.contents c.write_whole.new.output)
-        (take w.0 c.take_block-taken.new.pending.items)
+    (take w.0 c.take_block-taken.new.pending.items)
     = rw c.as_slice-in-reads.ensures.value at w.2 in
     err_always c.from_residual.result (λ e is. under_way-partial _ _ _ _ _ _ _ _ _ _ _ c.reads.invariant.2
-        c.in-Ok.ensures.bytes.0 t c.reads.invariant.1 part)
+    c.in-Ok.ensures.bytes.0 t c.reads.invariant.1 part)
 
 pub returns-then-is_err-clause-whole : goal.returns-then-is_err-clause-whole
 returns-then-is_err-clause-whole g c =
     let t = err_of c.take_block-taken.result _ c.take_block-taken.ensures.err c.if-is_err.ensures.value in
     let w : Appends (g.W.Write.contents c.reads.output)
-        (g.W.Write.contents c.write_whole.new.output) c.take_block-taken.new.pending.items
+    (g.W.Write.contents c.write_whole.new.output) c.take_block-taken.new.pending.items
     = rw c.as_slice-in-reads.ensures.value at c.in_ok-write_whole.ensures.ok in
     λ _. under_way-stopped _ _ _ _ _ _ _ _ _ _ c.reads.invariant.2 c.in-Ok.ensures.bytes.0 t c.reads.invariant.1 w
 
@@ -79,10 +83,13 @@ reads-preserved g c =
     let t = ok_of c.take_block-taken.result _ c.take_block-taken.ensures.ok c.if-is_err.ensures.value in
     let l = ok_of c.take_block-taken.result _ c.take_block-taken.ensures.one_line c.if-is_err.ensures.value in
     let w : Appends (g.W.Write.contents c.reads.output)
-        (g.W.Write.contents c.write_whole.new.output) c.take_block-taken.new.pending.items
-    = rw c.as_slice-in-reads.ensures.value at c.in_ok-write_whole.ensures.ok in
-    (l, c.clear.ensures.items, under_way-taken _ _ _ _ _ _ _ _ _ _ _ c.reads.invariant.2 c.in-Ok.ensures.bytes.0 t
-        c.reads.invariant.1 w)
+    (g.W.Write.contents c.write_whole.new.output) c.take_block-taken.new.pending.items
+    = rw c.as_slice-in-reads.ensures.value at c.in_ok-write_whole.ensures.ok in (
+      l,
+      c.clear.ensures.items,
+      under_way-taken _ _ _ _ _ _ _ _ _ _ _ c.reads.invariant.2 c.in-Ok.ensures.bytes.0 t
+          c.reads.invariant.1 w,
+    )
 
 pub returns-clause-whole : goal.returns-clause-whole
 returns-clause-whole g c = λ _. under_way-some _ _ _ _ _ c.reads.invariant.2

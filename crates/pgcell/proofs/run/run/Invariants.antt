@@ -8,4 +8,4 @@ abbrev pub invariant-reads : goal.invariant-reads
 invariant-reads g l =
     IsOneLine l.line.items × (l.pending.items ≡ [])
     × IsUnderWay (g.R.Read.remaining l.initial.input) (g.R.Read.remaining l.input)
-        (g.W.Write.contents l.initial.output) (g.W.Write.contents l.output) l.line.items
+    (g.W.Write.contents l.initial.output) (g.W.Write.contents l.output) l.line.items

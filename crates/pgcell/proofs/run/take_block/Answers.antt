@@ -16,11 +16,11 @@ lines-preserved c =
     let mid : List ℕ = c.lines.pending.items in
     let p = c.in-Some.ensures.some in
     let t : TakesLines (c.args.line.now.items ++ c.args.block.now)
-        (line ++ (c.in-Some.last.now ++ 10 ∷ c.in-Some.after.now)) c.args.pending.now.items mid
+    (line ++ (c.in-Some.last.now ++ 10 ∷ c.in-Some.after.now)) c.args.pending.now.items mid
     = subst (λ (r : List ℕ). TakesLines (c.args.line.now.items ++ c.args.block.now)
-        (line ++ r) c.args.pending.now.items mid) p.1 c.lines.invariant.1 in
+    (line ++ r) c.args.pending.now.items mid) p.1 c.lines.invariant.1 in
     rw c.in_ok-end_line.ensures.forgets
-        (tt, takes_next _ _ _ _ _ _ _ c.lines.invariant.0 p.0 t c.in_ok-end_line.ensures.ok)
+    (tt, takes_next _ _ _ _ _ _ _ c.lines.invariant.0 p.0 t c.in_ok-end_line.ensures.ok)
 
 pub returns-clause-err : goal.returns-clause-err
 returns-clause-err c = on_err c.extend_from_slice.result _ (takes_some _ _ _ _ c.lines.invariant.1)

@@ -8,7 +8,7 @@ abbrev pub invariant-lines : goal.invariant-lines
 invariant-lines l =
     IsOneLine l.line.items
     × TakesLines (l.initial.line.items ++ l.initial.rest)
-        (l.line.items ++ l.rest) l.initial.pending.items l.pending.items
+    (l.line.items ++ l.rest) l.initial.pending.items l.pending.items
 
 abbrev pub decreases-lines : goal.decreases-lines
 decreases-lines l = length l.rest

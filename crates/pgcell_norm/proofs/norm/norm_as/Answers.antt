@@ -18,9 +18,9 @@ returns-clause-ok g c =
     let rewritten = RewrittenAs g.T.FromSql.reads g.T.ToSql.wire c.args.form in
     let gives = rewritten (content c.in-Some.ty) cell in
     let Printed = λ (ty : Option Content). OnOk c.print_fault.result
-        ((text : List ℕ) × AnswersAt ty rewritten cell text × (new ≡ old ++ text)) in
+    ((text : List ℕ) × AnswersAt ty rewritten cell text × (new ≡ old ++ text)) in
     let ty = type_in c.args.form (content c.args.own) (option_map content c.args.arrays) in
     let picked = rw c.in-Some.is at c.pick.ensures in
     subst Printed {y = ty} picked
     (ok_weaker c.print_fault.result (refusal_answers gives (refusal_of c.in-Err.fault) old new c.in-Err.ensures.1)
-        c.print_fault.ensures.ok)
+    c.print_fault.ensures.ok)

@@ -13,7 +13,7 @@ returns-in-Array g c =
     let call = c.rewrite-in-Array in
     rw c.in-Array.is
     (writes_rewritten (ReadsVec g.T.FromSql.reads ty) (wire_vec g.T.ToSql.wire ty)
-        (cell_of c.args.cell) c.args.out.now.items call.new.out.items call.result
+    (cell_of c.args.cell) c.args.out.now.items call.new.out.items call.result
     (call.ensures.rewrites (rw c.in-Array.is at c.requires)))
 
 pub returns-in-OptionalArray : goal.returns-in-OptionalArray
@@ -24,5 +24,5 @@ returns-in-OptionalArray g c =
     let call = c.rewrite-in-OptionalArray in
     rw c.in-OptionalArray.is
     (writes_rewritten (ReadsVec reads ty) (wire_vec wire ty)
-        (cell_of c.args.cell) c.args.out.now.items call.new.out.items call.result
+    (cell_of c.args.cell) c.args.out.now.items call.new.out.items call.result
     (call.ensures.rewrites (rw c.in-OptionalArray.is at c.requires)))

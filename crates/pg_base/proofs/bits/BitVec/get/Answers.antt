@@ -16,10 +16,10 @@ returns-then-i-self c =
     let within = byte_within n i bytes c.self.invariant c.if-i-self.true in
     let read = byte_read bytes (i / 8) c.index.result.now within c.index.ensures in
     ap (λ x. Some x) (c.bit_of.ensures ∙ ap (λ x. bit_of x (i % 8)) read)
-        ∙ sym (first_bits_get n bytes.items i c.if-i-self.true) ∙
+    ∙ sym (first_bits_get n bytes.items i c.if-i-self.true) ∙
     ap (λ v. slice_get v i) c.self.view_is
 
 pub returns-else-i-self : goal.returns-else-i-self
 returns-else-i-self c =
     sym (first_bits_none c.self.inside.len c.self.inside.bytes.items c.args.i c.if-i-self.false)
-        ∙ ap (λ v. slice_get v c.args.i) c.self.view_is
+    ∙ ap (λ v. slice_get v c.args.i) c.self.view_is

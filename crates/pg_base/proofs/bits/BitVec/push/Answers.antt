@@ -15,9 +15,9 @@ use Rattle.pg_base.proofs.bits.BitVec.push.Goals.{then-place-eq0+in_ok-push, els
 pub returns-then-self : goal.returns-then-self
 returns-then-self c =
     let count : length c.args.self.now ≡ c.self.inside.len = ap length (sym c.self.view_is)
-        ∙ first_bits_len c.self.inside.len c.self.inside.bytes.items in
+    ∙ first_bits_len c.self.inside.len c.self.inside.bytes.items in
     let full : nat_lt (length c.args.self.now) most_bits ≡ false =
-        (let g = c.if-self.true in grind (arith, nat_tests)) in
+    (let g = c.if-self.true in grind (arith, nat_tests)) in
     (refl, rw full refl)
 
 refused : (old new : List Bool) (bit : Bool) (r : Result ⊤ Fault) → new ≡ old → length old < most_bits → IsErr r
@@ -30,10 +30,10 @@ refused old new bit (Err f) e h is and =
 pub returns-in_err-push : goal.returns-in_err-push
 returns-in_err-push c =
     let count : length c.args.self.now ≡ c.self.inside.len = ap length (sym c.self.view_is)
-        ∙ first_bits_len c.self.inside.len c.self.inside.bytes.items in
+    ∙ first_bits_len c.self.inside.len c.self.inside.bytes.items in
     let same = ap (first_bits c.self.inside.len) c.in_err-push.ensures.items ∙ c.self.view_is in
     refused c.args.self.now (first_bits c.self.inside.len c.push.new.self.items) c.args.bit c.from_residual.result same
-        (omega arith) c.from_residual.ensures.0
+    (omega arith) c.from_residual.ensures.0
     c.from_residual.ensures.1
 
 pub index-requires : goal.index-requires
@@ -50,15 +50,15 @@ invariant_of-self-2 c =
       | then-place-eq0+in_ok-push w ↦
           rw (w.self-inside-is, w.in_ok-push.ensures.items)
           (next_tidy n b.items c.self.invariant w.with_bit.result c.args.bit w.if-place-eq0.true w.with_bit.ensures
-              w.with_bit.type_inv)
+          w.with_bit.type_inv)
       | else-place-eq0 w ↦
           let read = byte_read b (n / 8) w.index.result.now
-              (trailing_byte n b c.self.invariant w.if-place-eq0.false) w.index.ensures in
+          (trailing_byte n b c.self.invariant w.if-place-eq0.false) w.index.ensures in
           let put = is_put b.items (n / 8) (n % 8) w.with_bit-else-place-eq0.result w.index.result.now c.args.bit read
-              w.with_bit-else-place-eq0.ensures in
+          w.with_bit-else-place-eq0.ensures in
           rw w.self-inside-is
           (pushed_tidy n b.items c.self.invariant b.items w.with_bit-else-place-eq0.result c.args.bit
-              (room_in_last n b.items c.self.invariant w.if-place-eq0.false) put
+          (room_in_last n b.items c.self.invariant w.if-place-eq0.false) put
           w.with_bit-else-place-eq0.type_inv)
     ]
 
@@ -69,19 +69,19 @@ returns c =
     let bit = c.args.bit in
     let count : length c.args.self.now ≡ n = ap length (sym c.self.view_is) ∙ first_bits_len n b.items in
     let view : first_bits (c.if-place-eq0.self-inside.len + 1) c.if-place-eq0.self-inside.bytes.items
-        ≡ first_bits n b.items ++ bit ∷ [] = (elim c.if-place-eq0.branch [
+    ≡ first_bits n b.items ++ bit ∷ [] = (elim c.if-place-eq0.branch [
       | then-place-eq0+in_ok-push w ↦
           rw (w.self-inside-is, w.in_ok-push.ensures.items)
           (next_view n b.items c.self.invariant w.with_bit.result bit w.if-place-eq0.true w.with_bit.ensures
-              w.with_bit.type_inv)
+          w.with_bit.type_inv)
       | else-place-eq0 w ↦
           let read = byte_read b (n / 8) w.index.result.now
-              (trailing_byte n b c.self.invariant w.if-place-eq0.false) w.index.ensures in
+          (trailing_byte n b c.self.invariant w.if-place-eq0.false) w.index.ensures in
           let put = is_put b.items (n / 8) (n % 8) w.with_bit-else-place-eq0.result w.index.result.now bit read
-              w.with_bit-else-place-eq0.ensures in
+          w.with_bit-else-place-eq0.ensures in
           rw w.self-inside-is
           (pushed_view n b.items c.self.invariant b.items w.with_bit-else-place-eq0.result bit
-              (room_in_last n b.items c.self.invariant w.if-place-eq0.false) put
+          (room_in_last n b.items c.self.invariant w.if-place-eq0.false) put
           w.with_bit-else-place-eq0.type_inv)
     ]) in
     (omega arith, view ∙ ap (λ v. v ++ bit ∷ []) c.self.view_is)

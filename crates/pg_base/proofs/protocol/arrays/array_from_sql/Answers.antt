@@ -12,4 +12,4 @@ returns-clause-outcome c =
     let cut : c.in_ok-dimensions.bytes.now ≡ skipped ++ rest = grind (arith, common_steps) in
     let one : c.in_ok-dimensions.dimensions ≡ 1 = omega arith in
     one_dimension c.args.raw.now count.0 c.in_ok-dimensions.bytes.now skipped rest c.in_ok-dimensions.dimensions
-        c.split_dimension.result count.1 count.2 one cut c.split_at.ensures.front_len c.split_dimension.ensures.outcome
+    c.split_dimension.result count.1 count.2 one cut c.split_at.ensures.front_len c.split_dimension.ensures.outcome

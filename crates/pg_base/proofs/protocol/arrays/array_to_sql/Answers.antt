@@ -16,8 +16,8 @@ returns c =
     let headed = c.extend_by_head.new.out in
     let done = c.extend_by_frames.new.out in
     let head = subst (λ z. Extends (array_head z c.args.oid cells) reserved headed)
-        (to_z-of_z w32 lower_bound c.ranges.lower_bound) c.extend_by_head.ensures in
+    (to_z-of_z w32 lower_bound c.ranges.lower_bound) c.extend_by_head.ensures in
     let both = extends_both (array_head lower_bound c.args.oid cells)
-        (frames cells) reserved headed done head c.extend_by_frames.ensures in
+    (frames cells) reserved headed done head c.extend_by_frames.ensures in
     appends_reserved (array_bytes lower_bound c.args.oid cells) c.args.out.now reserved done
-        c.in_ok-reserve.ensures.items c.in_ok-reserve.ensures.spare.0 both
+    c.in_ok-reserve.ensures.items c.in_ok-reserve.ensures.spare.0 both

@@ -29,26 +29,26 @@ returns c =
     let count : List ℕ = be w32 (pos (length c.args.cells.now)) in
     let lower_bound : List ℕ = be w32 c.args.lower_bound in
     let first = renamed c.to_be_bytes.result one start dimensions c.to_be_bytes.ensures c.extend_reserved.ensures.items
-        c.extend_reserved.ensures.spare in
+    c.extend_reserved.ensures.spare in
     let second = renamed c.to_be_bytes-2.result flags dimensions flagged
-        (c.to_be_bytes-2.ensures ∙ ap (be w32)
-        (to_z-of_z w32 c.flags_of.result (record { sfits = c.flags_of.type_inv }) ∙ c.flags_of.ensures))
-        c.extend_reserved-2.ensures.items c.extend_reserved-2.ensures.spare in
+    (c.to_be_bytes-2.ensures ∙ ap (be w32)
+    (to_z-of_z w32 c.flags_of.result (record { sfits = c.flags_of.type_inv }) ∙ c.flags_of.ensures))
+    c.extend_reserved-2.ensures.items c.extend_reserved-2.ensures.spare in
     let third = renamed c.to_be_bytes-3.result oid flagged named c.to_be_bytes-3.ensures
-        c.extend_reserved-3.ensures.items c.extend_reserved-3.ensures.spare in
+    c.extend_reserved-3.ensures.items c.extend_reserved-3.ensures.spare in
     let fourth = renamed c.to_be_bytes-4.result count named counted
-        (c.to_be_bytes-4.ensures ∙ ap (to_be_bytes w32)
-        (of_z-to_z w32 (length c.args.cells.now) (omega (arith, c.requires.few)))) c.extend_reserved-4.ensures.items
-        c.extend_reserved-4.ensures.spare in
+    (c.to_be_bytes-4.ensures ∙ ap (to_be_bytes w32)
+    (of_z-to_z w32 (length c.args.cells.now) (omega (arith, c.requires.few)))) c.extend_reserved-4.ensures.items
+    c.extend_reserved-4.ensures.spare in
     let fifth = renamed c.to_be_bytes-5.result lower_bound counted done
-        (c.to_be_bytes-5.ensures ∙ ap (be w32) (to_z-of_z w32 c.args.lower_bound c.ranges.lower_bound))
-        c.extend_reserved-5.ensures.items c.extend_reserved-5.ensures.spare in
+    (c.to_be_bytes-5.ensures ∙ ap (be w32) (to_z-of_z w32 c.args.lower_bound c.ranges.lower_bound))
+    c.extend_reserved-5.ensures.items c.extend_reserved-5.ensures.spare in
     let last = extends_both (Some count) (Some lower_bound) named counted done fourth fifth in
     let all = extends_both (Some oid) (Some (count ++ lower_bound)) flagged named done third last in
     let behind = extends_both (Some flags) (Some (oid ++ count ++ lower_bound)) dimensions flagged done second all in
     let head = extends_both (Some one) (Some (flags ++ oid ++ count ++ lower_bound)) start dimensions done first
-        behind in
+    behind in
     let few : array_head c.args.lower_bound c.args.oid cells ≡ Some (one ++ flags ++ oid ++ count ++ lower_bound)
     = ap (option_map (λ n. one ++ flags ++ oid ++ n ++ lower_bound))
-        (short_count owned_cell c.args.cells.now c.requires.few) in
+    (short_count owned_cell c.args.cells.now c.requires.few) in
     subst (λ b. Extends b start done) (sym few) head

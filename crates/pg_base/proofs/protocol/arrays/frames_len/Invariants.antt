@@ -8,4 +8,4 @@ use Rattle.pg_base.proofs.protocol.arrays.frames_len.Given as goal
 abbrev pub invariant-loop-cell : goal.invariant-loop-cell
 invariant-loop-cell l =
     (bs : List ℕ) × (frames (map owned_cell (take l.cell-index l.cells)) ≡ Some bs) × (length bs ≡ l.len)
-        × (l.len ≤ l.cell-index * 2147483651)
+    × (l.len ≤ l.cell-index * 2147483651)

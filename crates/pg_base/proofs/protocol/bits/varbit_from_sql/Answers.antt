@@ -7,4 +7,4 @@ pub returns-clause-outcome : goal.returns-clause-outcome
 returns-clause-outcome c =
     let count = c.in_ok-len.ensures.outcome in
     spelt c.args.raw.now count.0 c.in_ok-len.bytes.now c.in_ok-len.len count.1 count.2
-        (c.if-bytes-div_ceil.false ∙ c.div_ceil.ensures)
+    (c.if-bytes-div_ceil.false ∙ c.div_ceil.ensures)

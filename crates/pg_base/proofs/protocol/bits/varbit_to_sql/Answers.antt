@@ -14,7 +14,7 @@ returns-in_err-reserve c =
     let told = c.from_residual.ensures in
     let left = c.in_err-reserve.ensures in
     refused c.args.len c.args.bytes.now c.args.out.now c.reserve.new.self c.from_residual.result
-        c.if-len-gt-MAX_LEN.false c.requires told.0 told.1 left.items left.spare.1 left.spare.0
+    c.if-len-gt-MAX_LEN.false c.requires told.0 told.1 left.items left.spare.1 left.spare.0
 
 pub returns : goal.returns
 returns c =
@@ -23,10 +23,15 @@ returns c =
     let old = c.args.out.now in
     let number = c.to_be_bytes.ensures ∙ ap (to_be_bytes w32) (of_z-to_z w32 n (omega arith)) in
     let head = c.extend_reserved.ensures.items ∙ ap (λ x. x ++ c.to_be_bytes.result) c.in_ok-reserve.ensures.items
-        ∙ ap (λ x. old.items ++ x) number in
+    ∙ ap (λ x. old.items ++ x) number in
     let items = c.extend_by_bits.ensures.items ∙ ap (λ x. x ++ packed (first_bits n p)) head
-        ∙ append_assoc old.items (to_be_bytes w32 n) (packed (first_bits n p)) in
+    ∙ append_assoc old.items (to_be_bytes w32 n) (packed (first_bits n p)) in
     let count : length c.to_be_bytes.result ≡ 4 = ap length c.to_be_bytes.ensures in
     appended n p old c.extend_by_bits.new.out c.if-len-gt-MAX_LEN.false c.requires items
-    (omega (arith, count, c.extend_by_bits.ensures.spare, c.extend_reserved.ensures.spare,
-        c.in_ok-reserve.ensures.spare))
+    (omega (
+      arith,
+      count,
+      c.extend_by_bits.ensures.spare,
+      c.extend_reserved.ensures.spare,
+      c.in_ok-reserve.ensures.spare,
+    ))

@@ -8,15 +8,21 @@ pub returns-in_err-len : goal.returns-in_err-len
 returns-in_err-len c =
     let p = err_from_is_err_and c.from_residual.result c.from_residual.ensures.1 in
     let so_far = c.loop-key.invariant in
-    rw (p.1, p.2) (c.in_err-len.ensures.len.0, key_none c.args.entries.now c.loop-key.key-index _ so_far.0
-        c.loop-key-test.true so_far.1 c.in_err-len.ensures.len.1)
+    rw (p.1, p.2) (
+      c.in_err-len.ensures.len.0,
+      key_none c.args.entries.now c.loop-key.key-index _ so_far.0
+          c.loop-key-test.true so_far.1 c.in_err-len.ensures.len.1,
+    )
 
 pub returns-in_err-len-2 : goal.returns-in_err-len-2
 returns-in_err-len-2 c =
     let p = err_from_is_err_and c.from_residual-in_err-len-2.result c.from_residual-in_err-len-2.ensures.1 in
     let so_far = c.loop-key.invariant in
-    rw (p.1, p.2) (c.in_err-len-2.ensures.len.0, value_none c.args.entries.now c.loop-key.key-index _ so_far.0
-        c.loop-key-test.true so_far.1 c.in_err-len-2.ensures.len.1)
+    rw (p.1, p.2) (
+      c.in_err-len-2.ensures.len.0,
+      value_none c.args.entries.now c.loop-key.key-index _ so_far.0
+          c.loop-key-test.true so_far.1 c.in_err-len-2.ensures.len.1,
+    )
 
 pub loop-key-preserved : goal.loop-key-preserved
 loop-key-preserved c =
@@ -28,12 +34,24 @@ loop-key-preserved c =
       entries_next c.args.entries.now c.loop-key.key-index _ so_far.0 key.0 value.0 c.loop-key-test.true so_far.1 key.1
           value.1,
       omega (arith, so_far.2, key.2, value.2, length-append so_far.0 (key.0 ++ value.0), length-append key.0 value.0),
-      omega (arith, so_far.3, key.2, c.in_ok-len.ensures.short, value.2, c.in_ok-len-2.ensures.short, length-append
-          so_far.0 (key.0 ++ value.0), length-append key.0 value.0),
+      omega (
+        arith,
+        so_far.3,
+        key.2,
+        c.in_ok-len.ensures.short,
+        value.2,
+        c.in_ok-len-2.ensures.short,
+        length-append
+            so_far.0 (key.0 ++ value.0),
+        length-append key.0 value.0,
+      ),
     )
 
 pub returns : goal.returns
 returns c =
-    let so_far = c.loop-key.invariant in
-    (_, short_list c.args.entries.now c.loop-key.key-index so_far.0 c.if-entries-gt-MAX_LEN.false c.loop-key-test.false
-        so_far.1, omega (arith, so_far.2))
+    let so_far = c.loop-key.invariant in (
+      _,
+      short_list c.args.entries.now c.loop-key.key-index so_far.0 c.if-entries-gt-MAX_LEN.false c.loop-key-test.false
+          so_far.1,
+      omega (arith, so_far.2),
+    )

@@ -7,4 +7,4 @@ use Rattle.pg_base.proofs.protocol.hstore.hstore_len.Given as goal
 abbrev pub invariant-loop-key : goal.invariant-loop-key
 invariant-loop-key l =
     (bs : List ℕ) × (entries_bytes (map borrowed_entry (take l.key-index l.entries)) ≡ Some bs)
-        × (l.len ≡ 4 + length bs) × (length bs ≤ l.key-index * 4294967302)
+    × (l.len ≡ 4 + length bs) × (length bs ≤ l.key-index * 4294967302)

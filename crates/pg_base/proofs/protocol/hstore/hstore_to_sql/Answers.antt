@@ -9,9 +9,9 @@ returns-in_err-text_frame_to_sql c =
     let all = c.in_ok-hstore_len.ensures in
     let so_far = c.loop-key.invariant in
     let enough : length all.0 ≤ c.int4_to_sql.new.out.spare + 4 =
-        omega (arith, all.2, c.in_ok-reserve.ensures.spare.1, c.in_ok-int4_to_sql.ensures.1) in
+    omega (arith, all.2, c.in_ok-reserve.ensures.spare.1, c.in_ok-int4_to_sql.ensures.1) in
     let room = has_room c.args.entries.now c.loop-key.key-index _ so_far.0 all.0 c.int4_to_sql.new.out.spare
-        c.loop-key.out.spare c.loop-key-test.true so_far.1 all.1 so_far.3 enough in
+    c.loop-key.out.spare c.loop-key-test.true so_far.1 all.1 so_far.3 enough in
     absurd (no_refusal _ room.key _ _ _ room.key_is (omega (arith, room.fits)) c.in_err-text_frame_to_sql.ensures)
 
 pub returns-in_err-text_frame_to_sql-2 : goal.returns-in_err-text_frame_to_sql-2
@@ -19,21 +19,21 @@ returns-in_err-text_frame_to_sql-2 c =
     let all = c.in_ok-hstore_len.ensures in
     let so_far = c.loop-key.invariant in
     let enough : length all.0 ≤ c.int4_to_sql.new.out.spare + 4 =
-        omega (arith, all.2, c.in_ok-reserve.ensures.spare.1, c.in_ok-int4_to_sql.ensures.1) in
+    omega (arith, all.2, c.in_ok-reserve.ensures.spare.1, c.in_ok-int4_to_sql.ensures.1) in
     let room = has_room c.args.entries.now c.loop-key.key-index _ so_far.0 all.0 c.int4_to_sql.new.out.spare
-        c.loop-key.out.spare c.loop-key-test.true so_far.1 all.1 so_far.3 enough in
+    c.loop-key.out.spare c.loop-key-test.true so_far.1 all.1 so_far.3 enough in
     let key = appended _ room.key _ _ room.key_is c.in_ok-text_frame_to_sql.ensures in
     absurd (no_refusal _ room.value _ _ _ room.value_is
-        (omega (arith, room.fits, key.1)) c.in_err-text_frame_to_sql-2.ensures)
+    (omega (arith, room.fits, key.1)) c.in_err-text_frame_to_sql-2.ensures)
 
 pub loop-key-preserved : goal.loop-key-preserved
 loop-key-preserved c =
     let all = c.in_ok-hstore_len.ensures in
     let so_far = c.loop-key.invariant in
     let enough : length all.0 ≤ c.int4_to_sql.new.out.spare + 4 =
-        omega (arith, all.2, c.in_ok-reserve.ensures.spare.1, c.in_ok-int4_to_sql.ensures.1) in
+    omega (arith, all.2, c.in_ok-reserve.ensures.spare.1, c.in_ok-int4_to_sql.ensures.1) in
     let room = has_room c.args.entries.now c.loop-key.key-index _ so_far.0 all.0 c.int4_to_sql.new.out.spare
-        c.loop-key.out.spare c.loop-key-test.true so_far.1 all.1 so_far.3 enough in
+    c.loop-key.out.spare c.loop-key-test.true so_far.1 all.1 so_far.3 enough in
     let key = appended _ room.key _ _ room.key_is c.in_ok-text_frame_to_sql.ensures in
     let value = appended _ room.value _ _ room.value_is c.in_ok-text_frame_to_sql-2.ensures in
     let start : List ℕ = c.int4_to_sql.new.out.items in

@@ -7,4 +7,4 @@ use Rattle.pg_base.proofs.protocol.hstore.hstore_to_sql.Given as goal
 abbrev pub invariant-loop-key : goal.invariant-loop-key
 invariant-loop-key l =
     (bs : List ℕ) × (entries_bytes (map borrowed_entry (take l.key-index l.entries)) ≡ Some bs)
-        × (l.out.items ≡ l.initial.out.items ++ bs) × (l.initial.out.spare ≤ l.out.spare + length bs)
+    × (l.out.items ≡ l.initial.out.items ++ bs) × (l.initial.out.spare ≤ l.out.spare + length bs)

@@ -10,14 +10,14 @@ pub returns-in_err-key-clause-outcome : goal.returns-in_err-key-clause-outcome
 returns-in_err-key-clause-outcome c =
     let p = err_from_is_err_and c.from_residual.result c.from_residual.ensures.1 in
     rw (p.1, p.2) (IfSome_then (refusal_of c.in_err-key.field-0.0) c.in_err-key.ensures.outcome
-        (λ r e. key_fault c.args.bytes.now r e))
+    (λ r e. key_fault c.args.bytes.now r e))
 
 pub returns-in_err-value-clause-outcome : goal.returns-in_err-value-clause-outcome
 returns-in_err-value-clause-outcome c =
     let p = err_from_is_err_and c.from_residual-in_err-value.result c.from_residual-in_err-value.ensures.1 in
     let key = rw c.in-Some.is at c.in_ok-key.ensures.outcome in
     rw (p.1, p.2) (IfSome_then (refusal_of c.in_err-value.field-0.0) c.in_err-value.ensures.outcome
-        (λ r e. rw key.1 (value_fault key.0 c.in_ok-key.bytes.now c.in-Some.key.now r key.2 e)))
+    (λ r e. rw key.1 (value_fault key.0 c.in_ok-key.bytes.now c.in-Some.key.now r key.2 e)))
 
 pub returns-clause-outcome : goal.returns-clause-outcome
 returns-clause-outcome c =

@@ -17,7 +17,7 @@ returns-in_err-cell g c =
     let so_far = c.loop-cell.invariant in
     let damaged = rw c.in_err-cell.was at c.in-Some.ensures in
     rw (p.1, p.2) (array_truncated reads g.row.N c.args.raw.now c.in_ok-cells.cells c.loop-cell.cells so_far.0
-        c.loop-cell.values.items c.in_ok-cells.ensures.outcome so_far.1 so_far.2 so_far.3
+    c.loop-cell.values.items c.in_ok-cells.ensures.outcome so_far.1 so_far.2 so_far.3
     (refusal_of c.in_err-cell.field-0.0) damaged.0)
 
 pub returns-then-len : goal.returns-then-len
@@ -27,7 +27,7 @@ returns-then-len g c =
     let taken = rw c.in_ok-cell.was at c.in-Some.ensures in
     let full : length c.loop-cell.values.items ≡ g.row.N = omega arith in
     array_long reads g.row.N c.args.raw.now c.in_ok-cells.cells c.loop-cell.cells so_far.0 c.loop-cell.values.items
-        c.in_ok-cells.ensures.outcome so_far.1 so_far.2 so_far.3
+    c.in_ok-cells.ensures.outcome so_far.1 so_far.2 so_far.3
     c.next.new.self taken.1 (cell_of c.in_ok-cell.cell) (λ i. (c.type_inv.raw i).fits) taken.0 taken.2 taken.3 full
 
 pub returns-in_err-value : goal.returns-in_err-value
@@ -38,7 +38,7 @@ returns-in_err-value g c =
     let taken = rw c.in_ok-cell.was at c.in-Some.ensures in
     let wanted : length c.loop-cell.values.items < g.row.N = omega (arith, so_far.3) in
     rw (p.1, p.2) (array_refused reads g.row.N c.args.raw.now c.in_ok-cells.cells c.loop-cell.cells so_far.0
-        c.loop-cell.values.items c.in_ok-cells.ensures.outcome so_far.1 so_far.2 so_far.3
+    c.loop-cell.values.items c.in_ok-cells.ensures.outcome so_far.1 so_far.2 so_far.3
     c.next.new.self taken.1 (cell_of c.in_ok-cell.cell) (λ i. (c.type_inv.raw i).fits) taken.0 taken.2 taken.3 wanted
     (refusal_of c.in_err-value.field-0.0) c.in_err-value.ensures.outcome)
 
@@ -50,7 +50,7 @@ loop-cell-preserved g c =
     let taken = rw c.in_ok-cell.was at c.in-Some.ensures in
     let cells : List Cell = so_far.0 ++ cell ∷ [] in
     let pushed = value_next reads so_far.0 cell c.loop-cell.values.items c.in_ok-value.value so_far.2
-        c.in_ok-value.ensures.outcome in
+    c.in_ok-value.ensures.outcome in
     let wanted : length c.loop-cell.values.items < g.row.N = omega (arith, so_far.3) in (
       cells,
       taken_next c.in_ok-cells.cells c.loop-cell.cells c.next.new.self so_far.0 cell taken.1 so_far.1 taken.0 taken.2
@@ -66,7 +66,7 @@ returns-in-Ok g c =
     let so_far = c.loop-cell.invariant in
     let whole : length c.loop-cell.values.items ≡ g.row.N = omega (arith, c.in-Ok.ensures.1) in
     rw c.in-Ok.ensures.0 (array_ends reads g.row.N c.args.raw.now c.in_ok-cells.cells c.loop-cell.cells so_far.0
-        c.loop-cell.values.items c.in_ok-cells.ensures.outcome so_far.1 so_far.2 so_far.3 c.in_default.ensures.0 whole)
+    c.loop-cell.values.items c.in_ok-cells.ensures.outcome so_far.1 so_far.2 so_far.3 c.in_default.ensures.0 whole)
 
 pub returns-in-Err : goal.returns-in-Err
 returns-in-Err g c =
@@ -75,4 +75,4 @@ returns-in-Err g c =
     let short : length c.loop-cell.values.items < g.row.N = grind (arith, so_far.3, c.in-Err.ensures.1) in
     let got : c.len-in-Err.result ≡ length c.loop-cell.values.items = omega (arith, ap vec_len c.in-Err.ensures.0) in
     rw got (array_short reads g.row.N c.args.raw.now c.in_ok-cells.cells c.loop-cell.cells so_far.0
-        c.loop-cell.values.items c.in_ok-cells.ensures.outcome so_far.1 so_far.2 so_far.3 c.in_default.ensures.0 short)
+    c.loop-cell.values.items c.in_ok-cells.ensures.outcome so_far.1 so_far.2 so_far.3 c.in_default.ensures.0 short)

@@ -10,7 +10,7 @@ use Rattle.pg_read.proofs.arrays.fixed_size.read_array.Given as goal
 abbrev pub invariant-loop-cell : goal.invariant-loop-cell
 invariant-loop-cell g l =
     (cs : List Cell) × HaveBeenTaken l.initial.cells cs l.cells
-        × ReadsAll (g.T.FromSql.reads (content l.element)) cs (Ok l.values.items) × (length l.values.items ≤ g.row.N)
+    × ReadsAll (g.T.FromSql.reads (content l.element)) cs (Ok l.values.items) × (length l.values.items ≤ g.row.N)
 
 abbrev pub decreases-loop-cell : goal.decreases-loop-cell
 decreases-loop-cell g l = l.cells.left

@@ -15,8 +15,8 @@ returns-in_err-key-clause-outcome g c =
     let so_far = c.loop-entry.invariant in
     let damaged = rw c.in_err-key.was at c.in-Some.ensures in
     rw (p.1, p.2) (IfSome_then (refusal_of c.in_err-key.field-0.0) damaged.0
-        (λ r e. entry_fault c.args.raw.now c.in_ok-entries.entries c.loop-entry.entries so_far.0 r
-        c.in_ok-entries.ensures.outcome so_far.1 e))
+    (λ r e. entry_fault c.args.raw.now c.in_ok-entries.entries c.loop-entry.entries so_far.0 r
+    c.in_ok-entries.ensures.outcome so_far.1 e))
 
 pub loop-entry-preserved : goal.loop-entry-preserved
 loop-entry-preserved g c =
@@ -24,7 +24,7 @@ loop-entry-preserved g c =
     let entry : Entry = borrowed_entry (c.in_ok-key.key, c.in_ok-key.value) in
     let taken = rw c.in_ok-key.was at c.in-Some.ensures in
     let puts = hash_map_updates_text (string_bytes c.in_ok-key-2.key) c.loop-entry.map c.insert.new.self _
-        c.in_ok-insert.ensures.updates in (
+    c.in_ok-insert.ensures.updates in (
       so_far.0 ++ entry ∷ [],
       read_next c.in_ok-entries.entries c.loop-entry.entries c.next.new.self so_far.0 entry taken.1 so_far.1 taken.0
           taken.2 taken.3,

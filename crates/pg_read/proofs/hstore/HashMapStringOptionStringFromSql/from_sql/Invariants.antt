@@ -8,7 +8,7 @@ use Rattle.pg_read.proofs.hstore.HashMapStringOptionStringFromSql.from_sql.Given
 abbrev pub invariant-loop-entry : goal.invariant-loop-entry
 invariant-loop-entry g l =
     (es : List Entry) × HaveBeenRead l.initial.entries es l.entries
-        × ((q : List ℕ) → value_at l.map q ≡ last_value q es)
+    × ((q : List ℕ) → value_at l.map q ≡ last_value q es)
 
 abbrev pub decreases-loop-entry : goal.decreases-loop-entry
 decreases-loop-entry g l = l.entries.left

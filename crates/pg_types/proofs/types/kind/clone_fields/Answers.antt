@@ -10,6 +10,6 @@ loop-field-preserved c =
     let i = c.loop-field.field-index in
     let copy = c.in_ok-try_clone.ensures.same in
     let more = fields_more c.loop-field.copies.items
-        (take i xs) c.in_ok-try_clone.field-0 c.field-item.result c.loop-field.invariant copy in
+    (take i xs) c.in_ok-try_clone.field-0 c.field-item.result c.loop-field.invariant copy in
     let next = take_more xs i c.field-item.result c.loop-field-test.true in
     cc (c.in_ok-push.ensures.items, c.field-item.is)

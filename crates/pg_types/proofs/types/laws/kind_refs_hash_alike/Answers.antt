@@ -8,4 +8,4 @@ use Rattle.pg_types.proofs.types.laws.kind_refs_hash_alike.Goals as goal
 pub returns-clause-alike : goal.returns-clause-alike
 returns-clause-alike c same =
     eq-eqb _ _ (c.hash_of.ensures ∙ ap digest (hash_from_same_kind_ref c.args.v.now c.args.w.now same)
-        ∙ sym c.hash_of-2.ensures)
+    ∙ sym c.hash_of-2.ensures)

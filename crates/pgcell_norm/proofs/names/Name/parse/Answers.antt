@@ -14,4 +14,4 @@ returns-then-is_name c =
     let form = c.parse-form.result.1 in
     subst (λ (name : List ℕ × Form). Some (c.in-Ok.base.now, form) ≡ name_if name) c.parse-form.ensures
     (a_name c.parse-form.result.0.now c.in-Ok.base.now form c.is_name.result c.in-Ok.ensures.cases.0
-        c.in-Ok.ensures.cases.1 c.is_name.ensures c.if-is_name.true)
+    c.in-Ok.ensures.cases.1 c.is_name.ensures c.if-is_name.true)
