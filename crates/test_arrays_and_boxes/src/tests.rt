@@ -6,3 +6,4 @@ mod cells;
 mod list_reading;
 mod list_refusals;
 mod list_writing;
+mod long_lists;

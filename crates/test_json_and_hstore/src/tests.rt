@@ -2,3 +2,4 @@
 
 mod hstore;
 mod json;
+mod long_map;

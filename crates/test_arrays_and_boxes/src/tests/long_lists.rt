@@ -1,0 +1,40 @@
+//! Lists of many elements. Where memory suffices they are written and read, which no contract says.
+
+use postgres_types::private::BytesMut;
+use postgres_types::{IsNull, ToSql, Type};
+use rows::{read, same};
+use std::alloc::Global;
+use std::test::Fail;
+
+/// How many elements, and the length of the cell: 20 bytes, and 8 for each.
+const LENGTHS: [(i32, usize); 2] = [(1_001, 8_028), (100_000, 800_020)];
+
+/// The list of 0 to the number before `len`.
+fn numbers_below(alloc: Global, len: i32) -> Result<Vec<i32>, Fail> {
+    let mut numbers = Vec::new(alloc);
+    for number in 0..len {
+        numbers.push(number)?;
+    }
+    Ok(numbers)
+}
+
+/// The list is written as a cell of that length, and read from it.
+fn is_written_and_read(alloc: Global, len: i32, cell_len: usize) -> Result<(), Fail> {
+    let list = numbers_below(alloc, len)?;
+    let mut cell = BytesMut::new(alloc);
+    same(
+        list.to_sql_checked(alloc, &Type::INT4_ARRAY, &mut cell)?,
+        IsNull::No,
+    )?;
+    same(cell.len(), cell_len)?;
+    let back: Vec<i32> = read(alloc, &Type::INT4_ARRAY, Some(cell.as_slice()))?;
+    same(back, list)
+}
+
+#[test]
+fn long_lists_are_written_and_read(rt: HostRuntime) -> Result<(), Fail> {
+    for (len, cell_len) in LENGTHS {
+        is_written_and_read(rt.alloc(), len, cell_len)?;
+    }
+    Ok(())
+}
