@@ -4,5 +4,7 @@ mod bind;
 mod copy;
 mod formats;
 mod frames;
+mod growths;
 mod row_reader;
 mod runs;
+mod walks;

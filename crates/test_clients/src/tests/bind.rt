@@ -95,6 +95,29 @@ fn no_parameters_are_no_frames(rt: HostRuntime) -> Result<(), Fail> {
     binds(rt.alloc(), &[], &[], &[])
 }
 
+/// How many parameters a long list has.
+const MANY: i32 = 300;
+
+#[test]
+fn three_hundred_parameters_are_framed(rt: HostRuntime) -> Result<(), Fail> {
+    let alloc = rt.alloc();
+    let mut params: Vec<Box<dyn ToSql>> = Vec::new(alloc);
+    let mut types = Vec::new(alloc);
+    let mut frames = BytesMut::new(alloc);
+    for value in 0..MANY {
+        params.push(Box::new(alloc, value)?)?;
+        types.push(Type::INT4)?;
+        frames.extend_from_slice(&[0, 0, 0, 4])?;
+        frames.extend_from_slice(&value.to_be_bytes())?;
+    }
+    binds(
+        alloc,
+        params.as_slice(),
+        types.as_slice(),
+        frames.as_slice(),
+    )
+}
+
 #[test]
 fn a_boxed_list_is_framed(rt: HostRuntime) -> Result<(), Fail> {
     let alloc = rt.alloc();

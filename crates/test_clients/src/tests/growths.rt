@@ -1,0 +1,75 @@
+//! Growths that are refused while values are read from the front of a slice.
+
+use postgres_types::Type;
+use postgres_types::private::{BytesMut, read_values};
+use rows::code::MEMORY;
+use rows::{hoard, holds, same};
+use std::alloc::Global;
+use std::test::Fail;
+
+/// How many cells the slice begins with.
+const COUNT: usize = 100;
+
+/// The frame of the INT4 7.
+const SEVEN: [u8; 8] = [0, 0, 0, 4, 0, 0, 0, 7];
+
+/// Reads the values, and lets some of the memory go after each run that was refused a growth, until they are all read.
+/// Notes after how many cells the slice stood, where it is another number than after the run before.
+fn read_while_refused(
+    alloc: Global,
+    frames: &[u8],
+    hoarded: &mut Vec<Vec<u8>>,
+    places: &mut Vec<usize>,
+) -> Result<(), Fail> {
+    for _ in 0..100_000 {
+        let mut buf = frames;
+        match read_values::<i32>(alloc, &Type::INT4, COUNT, &mut buf) {
+            Ok(values) => {
+                same(values.len(), COUNT)?;
+                return same(buf, &[]);
+            }
+            Err(fault) => same(fault.code(), MEMORY)?,
+        }
+        same(buf.len() % SEVEN.len(), 0)?;
+        let place = COUNT.saturating_sub(buf.len() / SEVEN.len());
+        if places.last() != Some(&place) {
+            places.push(place)?;
+        }
+        let _ = hoarded.pop();
+    }
+    Err(Fail::from("memory is always refused"))
+}
+
+/// Blocks of the sizes that a list of INT4 grows to, from 16 bytes up, the smallest last.
+fn growing_blocks(alloc: Global) -> Result<Vec<Vec<u8>>, Fail> {
+    let mut blocks = Vec::with_capacity(alloc, 8)?;
+    for halvings in 0..8u32 {
+        blocks.push(Vec::with_capacity(alloc, 2048usize >> halvings)?)?;
+    }
+    Ok(blocks)
+}
+
+#[test]
+fn a_refused_growth_leaves_the_slice_after_a_cell(rt: HostRuntime) -> Result<(), Fail> {
+    let alloc = rt.alloc();
+    let mut frames = BytesMut::with_capacity(alloc, COUNT * SEVEN.len())?;
+    for _ in 0..COUNT {
+        frames.extend_from_slice(&SEVEN)?;
+    }
+    let mut places = Vec::with_capacity(alloc, 100)?;
+    let mut hoarded = Vec::new(alloc);
+    // A run before all address space is taken, since the stack cannot grow after that.
+    read_while_refused(alloc, frames.as_slice(), &mut hoarded, &mut places)?;
+    holds(places.is_empty(), "refused with ample memory")?;
+    let blocks = growing_blocks(alloc)?;
+    hoarded = hoard(alloc)?;
+    hoarded.extend(blocks)?;
+    read_while_refused(alloc, frames.as_slice(), &mut hoarded, &mut places)?;
+    drop(hoarded);
+    println!(rt; "refused after {places:?} cells")?;
+    holds(places.len() > 1, "refused at one growth at most")?;
+    holds(
+        places.iter().all(|place| *place > 0),
+        "refused before a value was read",
+    )
+}
