@@ -7,6 +7,10 @@ pub mod BitsLaws
 pub mod CellLaws
 pub mod CellRows
 pub mod CivilLaws
+pub mod Completeness
+pub mod CompletenessBits
+pub mod CompletenessHstore
+pub mod CompletenessNetwork
 pub mod Concat
 pub mod CountLaws
 pub mod FixedBytesLaws
