@@ -20,7 +20,7 @@ pub mod FrameLists
 pub mod HostBits
 pub mod HstoreLaws
 pub mod HstoreLengths
-pub mod HstoreSteps
+pub mod ItemSteps
 pub mod JsonLaws
 pub mod JsonLemmas
 pub mod LsnLaws
