@@ -10,15 +10,11 @@ use Rattle.std.proofs.lemmas.Nat.{be_bytes_4}
 use Rattle.std.proofs.Math.Facts.{of_z-to_z, sfits_to_z}
 use Rattle.pg_base.specs.Arrays.{SpellsDimensions, SpellsHead}
 use Rattle.pg_base.proofs.CellLaws.{no_cell}
-use Rattle.pg_base.specs.Cells.{Cell, IsBe, Spells, SpellsNone, SpellsAll, CellsInRow}
+use Rattle.pg_base.specs.Cells.{AreBytes, Cell, IsBe, Spells, SpellsNone, SpellsAll, CellsInRow}
 use Rattle.pg_base.proofs.CountLaws.{number_then}
 use Rattle.pg_base.specs.Counts.{ToRead, has_number}
 use Rattle.pg_types.specs.Faults.{size}
 use Rattle.pg_base.proofs.FrameLaws.{taken}
-
--- every number of the list is a byte
-abbrev pub AreBytes : List ℕ → Type 0
-AreBytes s = (i : ℕ) → get_or s i 0 < 256
 
 -- the first cell is whole, or it is truncated
 abbrev Next : List ℕ → Type 0
@@ -28,7 +24,7 @@ less_or_not : (a b : ℕ) → (a < b) ⊎ (b ≤ a)
 less_or_not a b = grind arith
 
 -- any four bytes are those of a number
-four_bytes : (h : List ℕ) → AreBytes h → length h ≡ 4 → (z : ℤ) × IsBe w32 h z
+pub four_bytes : (h : List ℕ) → AreBytes h → length h ≡ 4 → (z : ℤ) × IsBe w32 h z
 four_bytes h b l =
     let fits : Fits w32 (from_be_bytes w32 h) = omega (arith, b 0, b 1, b 2, b 3) in (
       to_z w32 (from_be_bytes w32 h),
@@ -62,11 +58,11 @@ next_at s h m (pos n) e p = elim (less_or_not (length m) n) [
       inl (t.0, drop n m, Some (take n m), t.1, t.2)
 ]
 
-trailing_bytes : (s h m : List ℕ) → s ≡ h ++ m → AreBytes s → AreBytes m
+pub trailing_bytes : (s h m : List ℕ) → s ≡ h ++ m → AreBytes s → AreBytes m
 trailing_bytes s h m e b i = subst (λ x. x < 256) (ap (λ x. get_or x (length h + i) 0) e ∙ get_or-append-add h m i 0)
     (b (length h + i))
 
-bytes_before : (s : List ℕ) (n : ℕ) → AreBytes s → AreBytes (take n s)
+pub bytes_before : (s : List ℕ) (n : ℕ) → AreBytes s → AreBytes (take n s)
 bytes_before s n b i = elim (less_or_not i n) [
   | inl q ↦ subst (λ x. x < 256) (sym (get_or-take n s i 0 q)) (b i)
   | inr q ↦ subst (λ x. x < 256) (sym (get_or_past (take n s) i 0 (omega (arith, length-take n s)))) (omega arith)

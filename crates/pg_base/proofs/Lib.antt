@@ -7,6 +7,10 @@ pub mod BitsLaws
 pub mod CellLaws
 pub mod CellRows
 pub mod CivilLaws
+pub mod Completeness
+pub mod CompletenessBits
+pub mod CompletenessHstore
+pub mod CompletenessNetwork
 pub mod Concat
 pub mod CountLaws
 pub mod FixedBytesLaws
@@ -16,7 +20,7 @@ pub mod FrameLists
 pub mod HostBits
 pub mod HstoreLaws
 pub mod HstoreLengths
-pub mod HstoreSteps
+pub mod ItemSteps
 pub mod JsonLaws
 pub mod JsonLemmas
 pub mod LsnLaws

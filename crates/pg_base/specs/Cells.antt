@@ -5,10 +5,14 @@
 -- reading is
 -- the upstream crate's rule; the server itself writes -1 alone.
 use Rattle.std.specs.Prelude.{Bool, true, false, ◌≡◌, ℕ, ◌<◌, ◌≤◌, ◌^◌, ℤ, pos, negsuc, List, [], ◌∷◌, ◌++◌, length}
-use Rattle.std.specs.Prelude.{Option, Some, None, ◌⊎◌, FitsSigned, if◌then◌else◌, nat_le, option_map}
+use Rattle.std.specs.Prelude.{Option, Some, None, ◌⊎◌, FitsSigned, if◌then◌else◌, nat_le, option_map, slice_index}
 use mir.Val.{bits}
 use Rattle.std.specs.Borrow.{Bor}
 use Rattle.std.specs.Int.{Width, w32, to_be_bytes, from_be_bytes, cast_signed, cast_unsigned}
+
+-- every number of the list is a byte
+abbrev pub AreBytes : List ℕ → Type 0
+AreBytes s = (i : ℕ) → slice_index s i < 256
 
 -- a cell: NULL, or a list of bytes
 abbrev pub Cell : Type 0

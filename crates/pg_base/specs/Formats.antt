@@ -1,6 +1,6 @@
 -- Plain formats: what bytes spell, and what cells read as.
 use Rattle.std.specs.Prelude.{◌≡◌, ℕ, List, [], ◌∷◌, Bool, if◌then◌else◌, Option, Some, None, Ok, Err}
-use Rattle.pg_base.specs.Cells.{Cell}
+use Rattle.pg_base.specs.Cells.{AreBytes, Cell}
 use Rattle.pg_types.specs.Faults.{Refusal, Outcome, was_null}
 
 -- checks, in their order: of each whether it is met, and the fault where it is not
@@ -36,3 +36,7 @@ pub record IsGrammar {A : Type 0} (same : A → A → Type 0) (form : List ℕ �
     (first_fault : List ℕ → Option Refusal) : Type 0 where
   pub passes : (b : List ℕ) (v : A) → form b v → first_fault b ≡ None
   pub single : (b : List ℕ) (v w : A) → form b v → form b w → same v w
+
+-- the checks of a format are complete: bytes that pass every check spell a value
+abbrev pub IsComplete : {A : Type 0} → (List ℕ → A → Type 0) → (List ℕ → Option Refusal) → Type 0
+IsComplete {A} form first_fault = (b : List ℕ) → AreBytes b → first_fault b ≡ None → (v : A) × form b v

@@ -12,6 +12,7 @@ mod civil;
 mod counts;
 mod frames;
 mod hstore;
+pub mod laws;
 mod lsn;
 mod network;
 mod numbers;

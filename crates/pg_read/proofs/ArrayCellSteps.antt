@@ -7,12 +7,12 @@ use Rattle.std.proofs.lemmas.Bool.Decides.{nat_tests}
 use Rattle.std.proofs.lemmas.Option.{IfSome_then}
 use Rattle.pg_base.specs.Arrays.{SpellsHead}
 use Rattle.pg_base.proofs.CellLaws.{no_cell}
-use Rattle.pg_base.specs.Cells.{Cell, Spells, SpellsAll, SpellsNone, CellsInRow}
+use Rattle.pg_base.specs.Cells.{AreBytes, Cell, Spells, SpellsAll, SpellsNone, CellsInRow}
 use Rattle.pg_types.specs.Content.{Content}
 use Rattle.pg_base.specs.Counts.{checks_of_next, next_checks, cell_checks, ToRead, has_cell, has_number, nothing}
 use Rattle.pg_types.specs.Faults.{Refusal, Outcome, size}
 use Rattle.pg_base.specs.Formats.{first_fault_of}
-use Rattle.pg_base.proofs.CellRows.{AreBytes, cells_exist, head_bytes, row_bytes}
+use Rattle.pg_base.proofs.CellRows.{cells_exist, head_bytes, row_bytes}
 use Rattle.pg_read.specs.ArrayReading.{ReadsAll, ReadsElements, ReadsList, ReadsByElement, end_checks}
 
 -- between the start and now these cells were taken

@@ -7,12 +7,11 @@ use Rattle.std.proofs.lemmas.Bool.Decides.{nat_tests}
 use Rattle.std.proofs.lemmas.List.{take_all}
 use Rattle.std.proofs.lemmas.Option.{IfSome_then}
 use Rattle.pg_base.specs.Arrays.{SpellsHead}
-use Rattle.pg_base.specs.Cells.{Cell, Spells}
+use Rattle.pg_base.specs.Cells.{AreBytes, Cell, Spells}
 use Rattle.pg_base.specs.Counts.{next_checks, cell_checks, ToRead, nothing}
 use Rattle.pg_types.specs.Faults.{Refusal, Outcome, excess, too_few}
 use Rattle.pg_base.proofs.FormatLaws.{check_failed, checks_passed}
 use Rattle.pg_base.specs.Formats.{first_fault_of}
-use Rattle.pg_base.proofs.CellRows.{AreBytes}
 use Rattle.pg_read.specs.ArrayReading.{ReadsAll, ReadsArray, ReadsFixed, end_checks, fixed_checks}
 use Rattle.pg_read.proofs.ArrayCellSteps.{HaveBeenTaken, all_remaining, all_taken, all_there, fault_more}
 use Rattle.pg_read.proofs.ArrayCellSteps.{fault_stays, none_left, taken_next}

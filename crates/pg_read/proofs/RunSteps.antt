@@ -1,9 +1,9 @@
 -- Reading a run of cells one after another.
-use Rattle.std.proofs.Common.{◌≡◌, ℕ, ◌<◌, ◌≤◌, List, [], ◌∷◌, ◌++◌, length, Option, Some, None, Ok, Err, refl, sym}
+use Rattle.std.proofs.Common.{◌≡◌, ℕ, ◌<◌, List, [], ◌∷◌, ◌++◌, length, Option, Some, None, Ok, Err, refl, sym}
 use Rattle.std.proofs.Common.{subst, arith, inl, inr, length-append}
 use Rattle.std.specs.Prelude.{IfSome}
-use Rattle.pg_base.proofs.CellRows.{AreBytes, row_bytes}
-use Rattle.pg_base.specs.Cells.{Cell, SpellsNone, SpellsAll, CellsInRow}
+use Rattle.pg_base.proofs.CellRows.{row_bytes}
+use Rattle.pg_base.specs.Cells.{AreBytes, Cell, SpellsNone, SpellsAll, CellsInRow}
 use Rattle.pg_types.specs.Faults.{Refusal, Outcome, refusal_of, size}
 use Rattle.pg_types.specs.declared.fault.Fault.{Fault}
 use Rattle.pg_read.proofs.ArrayCellSteps.{remaining_cells, spelled_more, value_next}

@@ -42,6 +42,12 @@ pub plain_single : {A : Type 0} (same : A → A → Type 0) (form : List ℕ →
 plain_single same form first_fault law =
     not_null_single same (Decodes form first_fault) (decodes_single same form first_fault law)
 
+-- bytes that have an outcome in a plain format and pass every check spell a value
+pub value_from_outcome : {A : Type 0} (form : List ℕ → A → Type 0) (first_fault : List ℕ → Option Refusal) (b : List ℕ)
+    → (o : Outcome A) → Decodes form first_fault b o → first_fault b ≡ None → (v : A) × form b v
+value_from_outcome form first_fault b (Ok v) h e = (v, h)
+value_from_outcome form first_fault b (Err r) h e = absurd (no_fault (first_fault b) r e h)
+
 -- ---- boxes and options
 
 one_in_box : {A B : Type 0} (inside : B → A) (same : A → A → Type 0) (gives : Outcome A → Type 0)

@@ -1,15 +1,26 @@
 //! What the library's own types promise beyond the trait's contract.
-ghost use Rattle.std.specs.Prelude.{None};
-ghost use Rattle.pg_base.specs.Cells.{Cell};
+ghost use Rattle.std.specs.Prelude.{◌≡◌, None, IsTrue, pos};
+ghost use Rattle.std.specs.Int.{w32, w64};
+ghost use Rattle.jiff.specs.Types.{Date as JiffDate, Time as JiffTime, DateTime, Timestamp as JiffTimestamp};
+ghost use Rattle.jiff.specs.Words.{civil_nanos};
+ghost use Rattle.pg_base.specs.Cells.{Cell, cell_of};
+ghost use Rattle.pg_base.specs.Civil.{FormCount, IsAfterMidnight, IsDayOf, first_civil, first_day};
+ghost use Rattle.pg_base.specs.Civil.{first_fault_count, first_instant, instant_nanos, last_civil};
+ghost use Rattle.pg_base.specs.Civil.{last_day, last_instant, last_micros};
+ghost use Rattle.pg_base.specs.Timestamps.{IsAfterBase};
+ghost use Rattle.pg_types.specs.Content.{content};
+ghost use Rattle.pg_types.specs.Faults.{Outcome};
 
-use crate::from_sql::FromSql;
+use crate::from_sql::{FromSql, from_sql_nullable};
 use jiff::civil;
 use pg_base::bits::BitVec;
 use pg_base::lsn::PgLsn;
 use pg_base::network::{IpCidr, IpInet, MacAddress};
 use pg_base::special::{Date, Timestamp};
+use pg_base::types::PgType;
 use pg_base::unix_time::UnixTime;
 use serde_json::Value;
+use std::alloc::Global;
 use std::borrow::CowStr;
 use std::boxed::{BoxedSlice, BoxedStr};
 use std::collections::HashMap;
@@ -69,4 +80,46 @@ pub fn types_whose_null_is_read_without_memory() {
     never_answers_memory_at_null::<Vec<i32>>();
     never_answers_memory_at_null::<BoxedSlice<i32>>();
     never_answers_memory_at_null::<[i32; 2]>();
+}
+
+/// A cell that is read without memory has an outcome: a value, or a fault. By the law `single` of
+/// the trait it has no other one.
+pub fn cell_has_outcome<'a, T: FromSql<'a>>(alloc: Global, ty: &PgType, raw: Option<&'a [u8]>)
+    requires accepted { IsTrue (T.accepted (content ty.now)) }
+    requires memory_free { T.memory_free (cell_of raw) }
+    ensures { (o : Outcome T) × T.reads (content ty.now) (cell_of raw.entry) o }
+{
+    let _ = from_sql_nullable::<T>(alloc, ty, raw);
+}
+
+/// DATE: bytes that pass every check spell a date.
+pub fn date_format(alloc: Global, raw: &[u8])
+    ensures { first_fault_count w32 first_day last_day raw.now ≡ None →
+        (v : JiffDate) × FormCount w32 first_day last_day IsDayOf raw.now v }
+{
+    cell_has_outcome::<civil::Date>(alloc, &PgType::DATE, Some(raw));
+}
+
+/// TIME: bytes that pass every check spell a time.
+pub fn time_format(alloc: Global, raw: &[u8])
+    ensures { first_fault_count w64 (pos 0) last_micros raw.now ≡ None →
+        (v : JiffTime) × FormCount w64 (pos 0) last_micros IsAfterMidnight raw.now v }
+{
+    cell_has_outcome::<civil::Time>(alloc, &PgType::TIME, Some(raw));
+}
+
+/// TIMESTAMP: bytes that pass every check spell a civil datetime.
+pub fn datetime_format(alloc: Global, raw: &[u8])
+    ensures { first_fault_count w64 first_civil last_civil raw.now ≡ None →
+        (v : DateTime) × FormCount w64 first_civil last_civil (IsAfterBase civil_nanos) raw.now v }
+{
+    cell_has_outcome::<civil::DateTime>(alloc, &PgType::TIMESTAMP, Some(raw));
+}
+
+/// TIMESTAMPTZ: bytes that pass every check spell an instant.
+pub fn instant_format(alloc: Global, raw: &[u8])
+    ensures { first_fault_count w64 first_instant last_instant raw.now ≡ None →
+        (v : JiffTimestamp) × FormCount w64 first_instant last_instant (IsAfterBase instant_nanos) raw.now v }
+{
+    cell_has_outcome::<jiff::Timestamp>(alloc, &PgType::TIMESTAMPTZ, Some(raw));
 }

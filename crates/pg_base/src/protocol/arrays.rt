@@ -2,13 +2,13 @@
 ghost use Rattle.std.specs.Prelude.{suc, zero, ◌≡◌, ◌≤◌, ◌*◌, length, map, IfOk};
 ghost use Rattle.pg_base.specs.Arrays.{SpellsDimensions, SpellsHead, TakesElement, dimension_checks};
 ghost use Rattle.pg_base.specs.Arrays.{head_checks, array_bytes, array_head, flags_of, owned_cell};
-ghost use Rattle.pg_base.specs.Counts.{ToRead};
+ghost use Rattle.pg_base.specs.Counts.{ToRead, cell_checks};
 ghost use Rattle.pg_types.specs.Faults.{Answers, NeverMemory};
 ghost use Rattle.pg_base.specs.Formats.{Decodes, first_fault_of};
 ghost use Rattle.pg_base.specs.Appending.{Appends, Extends, HasRoomFor, Measures};
-ghost use Rattle.pg_base.specs.Cells.{cell_of, frames};
+ghost use Rattle.pg_base.specs.Cells.{Spells, cell_of, frames};
 
-use super::counts::{split_cell, split_count};
+use super::counts::{Item, Items, split_cell, split_count};
 use super::frames::{MAX_LEN, extend_by_frame, frame_len};
 use crate::fault::Fault;
 use crate::types::Oid;
@@ -19,14 +19,13 @@ use std::marker::Model;
 /// The cells of an array that are to be read; see [`array_from_sql`].
 #[derive(Debug, Drop)]
 pub struct ArrayCells<'a> {
-    left: usize,
-    bytes: &'a [u8],
+    items: Items<'a>,
 }
 
 impl<'a> Model for ArrayCells<'a> {
     ghost Value = { ToRead };
 
-    ghost view = { λ c. record { left = c.left; bytes = c.bytes.now } };
+    ghost view = { λ c. c.items };
 }
 
 /// Reads the head of an array (`array_recv`): in 4 bytes each, big-endian, the number of
@@ -47,7 +46,9 @@ pub fn array_from_sql(_alloc: Global, raw: &[u8]) -> Result<ArrayCells<'_>, Faul
     }
     let (_, bytes) = bytes.split_at(8);
     if dimensions == 0 {
-        return Ok(ArrayCells { left: 0, bytes });
+        return Ok(ArrayCells {
+            items: Items::new(0, bytes),
+        });
     }
     if dimensions > 1 {
         return Err(Fault::Dimensions);
@@ -66,7 +67,20 @@ fn split_dimension(bytes: &[u8]) -> Result<ArrayCells<'_>, Fault>
     }
     let (left, bytes) = split_count(bytes)?;
     let (_, bytes) = bytes.split_at(4);
-    Ok(ArrayCells { left, bytes })
+    Ok(ArrayCells {
+        items: Items::new(left, bytes),
+    })
+}
+
+/// A cell at the front of bytes.
+impl<'a> Item<'a> for Option<&'a [u8]> {
+    ghost spells = { λ s cell. Spells s (cell_of cell) };
+
+    ghost checks = { cell_checks };
+
+    fn split(bytes: &'a [u8]) -> Result<(Option<&'a [u8]>, &'a [u8]), Fault> {
+        split_cell(bytes)
+    }
 }
 
 impl<'a> ArrayCells<'a> {
@@ -77,25 +91,7 @@ impl<'a> ArrayCells<'a> {
     pub fn next(&mut self) -> Option<Result<Option<&'a [u8]>, Fault>>
         ensures { TakesElement self.old result self.new }
     {
-        if self.left == 0 {
-            if self.bytes.is_empty() {
-                return None;
-            }
-            self.bytes = &[];
-            return Some(Err(Fault::Size));
-        }
-        match split_cell(self.bytes) {
-            Ok((cell, bytes)) => {
-                self.left -= 1;
-                self.bytes = bytes;
-                Some(Ok(cell))
-            }
-            Err(fault) => {
-                self.left = 0;
-                self.bytes = &[];
-                Some(Err(fault))
-            }
-        }
+        self.items.next()
     }
 }
 

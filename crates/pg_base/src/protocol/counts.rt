@@ -1,13 +1,15 @@
-//! Count and length prefixes, of 4 bytes, and the cells after lengths.
-ghost use Rattle.std.specs.Prelude.{◌∷◌, []};
+//! Count and length prefixes, of 4 bytes, the cells after lengths, and the items after counts.
+ghost use Rattle.std.specs.Prelude.{◌≡◌, ◌∷◌, [], List, ℕ};
 ghost use Rattle.std.specs.Int.{w32};
 ghost use Rattle.pg_base.specs.Cells.{IsBe, Spells, cell_of};
-ghost use Rattle.pg_base.specs.Counts.{StartsWith, IsCount, cell_checks, count_checks, has_number};
+ghost use Rattle.pg_base.specs.Counts.{StartsWith, IsCount, TakesNext, ToRead, cell_checks};
+ghost use Rattle.pg_base.specs.Counts.{count_checks, has_number};
 ghost use Rattle.pg_types.specs.Faults.{Answers, NeverMemory, size};
-ghost use Rattle.pg_base.specs.Formats.{Decodes, first_fault_of};
+ghost use Rattle.pg_base.specs.Formats.{Checks, Decodes, first_fault_of};
 
 use super::numbers::int4_from_sql;
 use crate::fault::Fault;
+use std::marker::Model;
 
 /// The prefix, and the bytes after it.
 pub(super) fn split_number(bytes: &[u8]) -> Result<(i32, &[u8]), Fault>
@@ -50,4 +52,67 @@ pub(super) fn split_cell(bytes: &[u8]) -> Result<(Option<&[u8]>, &[u8]), Fault>
     }
     let (cell, bytes) = bytes.split_at(len);
     Ok((Some(cell), bytes))
+}
+
+/// What follows a count as many times as it says.
+pub(super) trait Item<'a>: Sized + Drop {
+    /// The bytes spell the item.
+    ghost spells: { List ℕ → Self → Type 0 };
+
+    /// The checks of the first item.
+    ghost checks: { List ℕ → Checks };
+
+    /// The first item, and the bytes after it.
+    fn split(bytes: &'a [u8]) -> Result<(Self, &'a [u8]), Fault>
+        ensures outcome { Answers (Decodes (StartsWith spells) (λ s. first_fault_of (checks s)) bytes.now) result }
+        ensures never_memory { NeverMemory result };
+}
+
+/// The items that are to be read.
+#[derive(Debug, Drop)]
+pub(super) struct Items<'a> {
+    left: usize,
+    bytes: &'a [u8],
+}
+
+impl<'a> Model for Items<'a> {
+    ghost Value = { ToRead };
+
+    ghost view = { λ r. record { left = r.left; bytes = r.bytes.now } };
+}
+
+impl<'a> Items<'a> {
+    /// So many items, at the front of the bytes.
+    pub(super) fn new(left: usize, bytes: &'a [u8]) -> Items<'a>
+        ensures { result ≡ record { left = left; bytes = bytes.now } }
+    {
+        Items { left, bytes }
+    }
+
+    /// The next item, or the fault of the first check that it fails. Where bytes are left after the
+    /// last item it answers `Size`. After a fault, and after the last item, it answers `None`, for
+    /// good.
+    pub(super) fn next<T: Item<'a>>(&mut self) -> Option<Result<T, Fault>>
+        ensures { TakesNext T.spells T.checks self.old result self.new }
+    {
+        if self.left == 0 {
+            if self.bytes.is_empty() {
+                return None;
+            }
+            self.bytes = &[];
+            return Some(Err(Fault::Size));
+        }
+        match T::split(self.bytes) {
+            Ok((item, bytes)) => {
+                self.left -= 1;
+                self.bytes = bytes;
+                Some(Ok(item))
+            }
+            Err(fault) => {
+                self.left = 0;
+                self.bytes = &[];
+                Some(Err(fault))
+            }
+        }
+    }
 }

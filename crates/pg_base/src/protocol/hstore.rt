@@ -8,7 +8,7 @@ ghost use Rattle.pg_base.specs.Formats.{Decodes, first_fault_of};
 ghost use Rattle.pg_base.specs.Hstore.{SpellsCount, SpellsEntry, SpellsText, TakesEntry, entry_checks};
 ghost use Rattle.pg_base.specs.Hstore.{hstore_bytes, borrowed_entry, value_checks};
 
-use super::counts::{split_cell, split_count};
+use super::counts::{Item, Items, split_cell, split_count};
 use super::frames::{MAX_LEN, frame_len, frame_to_sql};
 use super::numbers::int4_to_sql;
 use super::texts::text_from_sql;
@@ -23,14 +23,13 @@ type Entry<'a> = (&'a str, Option<&'a str>);
 /// The entries of an hstore's cell that are to be read; see [`hstore_from_sql`].
 #[derive(Debug, Drop)]
 pub struct HstoreEntries<'a> {
-    left: usize,
-    bytes: &'a [u8],
+    items: Items<'a>,
 }
 
 impl<'a> Model for HstoreEntries<'a> {
     ghost Value = { ToRead };
 
-    ghost view = { λ e. record { left = e.left; bytes = e.bytes.now } };
+    ghost view = { λ e. e.items };
 }
 
 /// Reads the count of an hstore (`hstore_recv`): 4 bytes, big-endian, and the entries come
@@ -41,7 +40,20 @@ pub fn hstore_from_sql(_alloc: Global, raw: &[u8]) -> Result<HstoreEntries<'_>, 
     ensures never_memory { NeverMemory result }
 {
     let (left, bytes) = split_count(raw)?;
-    Ok(HstoreEntries { left, bytes })
+    Ok(HstoreEntries {
+        items: Items::new(left, bytes),
+    })
+}
+
+/// An entry at the front of bytes.
+impl<'a> Item<'a> for (&'a str, Option<&'a str>) {
+    ghost spells = { λ s e. SpellsEntry s (borrowed_entry e) };
+
+    ghost checks = { entry_checks };
+
+    fn split(bytes: &'a [u8]) -> Result<(Entry<'a>, &'a [u8]), Fault> {
+        split_entry(bytes)
+    }
 }
 
 impl<'a> HstoreEntries<'a> {
@@ -54,25 +66,7 @@ impl<'a> HstoreEntries<'a> {
     pub fn next(&mut self) -> Option<Result<Entry<'a>, Fault>>
         ensures { TakesEntry self.old result self.new }
     {
-        if self.left == 0 {
-            if self.bytes.is_empty() {
-                return None;
-            }
-            self.bytes = &[];
-            return Some(Err(Fault::Size));
-        }
-        match split_entry(self.bytes) {
-            Ok((entry, bytes)) => {
-                self.left -= 1;
-                self.bytes = bytes;
-                Some(Ok(entry))
-            }
-            Err(fault) => {
-                self.left = 0;
-                self.bytes = &[];
-                Some(Err(fault))
-            }
-        }
+        self.items.next()
     }
 }
 
