@@ -1,5 +1,5 @@
 -- Reading a run of cells one after another.
-use Rattle.std.proofs.Common.{◌≡◌, ℕ, ◌<◌, ◌≤◌, List, [], ◌∷◌, ◌++◌, length, Option, Some, None, Ok, Err, refl, sym}
+use Rattle.std.proofs.Common.{◌≡◌, ℕ, ◌<◌, List, [], ◌∷◌, ◌++◌, length, Option, Some, None, Ok, Err, refl, sym}
 use Rattle.std.proofs.Common.{subst, arith, inl, inr, length-append}
 use Rattle.std.specs.Prelude.{IfSome}
 use Rattle.pg_base.proofs.CellRows.{AreBytes, row_bytes}
