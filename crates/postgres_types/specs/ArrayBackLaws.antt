@@ -21,8 +21,8 @@ use Rattle.pg_write.specs.ArrayWriting.{element_cells, element_frame_cell, cons_
 use Rattle.pg_write.specs.ArrayWriting.{wire_fixed, wire_list, wire_by_element}
 use Rattle.postgres_types.specs.BackLaws.{kept}
 use Rattle.postgres_types.specs.ReadingBack.{IsLawful, WrittenAsBytes, BackList}
-use Rattle.postgres_types.specs.RelatedLists.{flipped, related_give, related_length}
-use Rattle.postgres_types.specs.WrittenArrays.{AllWritten, array_body, array_cell, elements_written, tested}
+use Rattle.postgres_types.specs.RelatedListLaws.{flipped, related_give, related_length}
+use Rattle.postgres_types.specs.WrittenArrayLaws.{AllWritten, array_body, array_cell, elements_written, tested}
 
 -- ---- the values of a list, one after another
 
