@@ -1,5 +1,5 @@
 -- Lemmas on cells of bits.
-use Rattle.std.proofs.Common.{◌≡◌, ℕ, ◌+◌, ◌<◌, ◌≤◌, pos, true, false, nat_le, Some, None, List, ◌++◌, length, refl}
+use Rattle.std.proofs.Common.{◌≡◌, ℕ, ◌+◌, ◌<◌, ◌≤◌, pos, true, false, Some, None, List, ◌++◌, length, refl}
 use Rattle.std.proofs.Common.{ap, sym, subst, ◌∙◌, arith, Result, Ok, Err, IsErr}
 use Rattle.std.specs.Prelude.{⊤}
 use Rattle.std.specs.Result.{IsErrAnd}
@@ -10,7 +10,7 @@ use Rattle.pg_types.specs.declared.fault.Fault.{Fault}
 use Rattle.pg_types.specs.declared.fault.Fault.TheVariants.{Memory}
 use Rattle.pg_base.specs.Appending.{Appends}
 use Rattle.pg_base.specs.Bits.{FormBits, bits_cell, bytes_for, first_bits, packed}
-use Rattle.pg_base.specs.Cells.{be}
+use Rattle.pg_base.specs.Cells.{be, fits_prefix, max_length}
 use Rattle.pg_base.specs.Counts.{IsCount}
 use Rattle.pg_base.proofs.BitLemmas.{first_bits_len, packed_len}
 
@@ -24,22 +24,22 @@ spelt b head rest n e is whole =
 
 -- ---- writing
 -- the bytes of a cell
-cell_within : (n : ℕ) (p : List ℕ) → n ≤ 2147483647 → bits_cell (first_bits n p)
+cell_within : (n : ℕ) (p : List ℕ) → n ≤ max_length → bits_cell (first_bits n p)
     ≡ Some (be w32 (pos n) ++ packed (first_bits n p))
 cell_within n p h =
-    let within : nat_le n 2147483647 ≡ true = grind (arith, nat_tests) in
+    let within : fits_prefix n ≡ true = grind (arith, nat_tests) in
     rw (first_bits_len n p, within) refl
 
-pub cell_past : (n : ℕ) (p : List ℕ) → 2147483647 < n → bits_cell (first_bits n p) ≡ None
+pub cell_past : (n : ℕ) (p : List ℕ) → max_length < n → bits_cell (first_bits n p) ≡ None
 cell_past n p h =
-    let past : nat_le n 2147483647 ≡ false = grind (arith, nat_tests) in
+    let past : fits_prefix n ≡ false = grind (arith, nat_tests) in
     rw (first_bits_len n p, past) refl
 
 packed_as_many : (n : ℕ) (p : List ℕ) → length p ≡ bytes_for n → length (packed (first_bits n p)) ≡ length p
 packed_as_many n p whole = packed_len (first_bits n p) ∙ ap bytes_for (first_bits_len n p) ∙ sym whole
 
 -- the cell was appended
-pub appended : (n : ℕ) (p : List ℕ) (old new : Filled) → n ≤ 2147483647 → length p ≡ bytes_for n → new.items
+pub appended : (n : ℕ) (p : List ℕ) (old new : Filled) → n ≤ max_length → length p ≡ bytes_for n → new.items
     ≡ old.items ++ (be w32 (pos n) ++ packed (first_bits n p)) → old.spare ≤ new.spare + (4 + length p)
     → Appends (bits_cell (first_bits n p)) old new (Ok tt)
 appended n p old new h whole items spare =
@@ -47,7 +47,7 @@ appended n p old new h whole items spare =
     rw (cell_within n p h) (items, omega arith)
 
 -- there was no room for it
-pub refused : (n : ℕ) (p : List ℕ) (old new : Filled) (r : Result ⊤ Fault) → n ≤ 2147483647 → length p ≡ bytes_for n
+pub refused : (n : ℕ) (p : List ℕ) (old new : Filled) (r : Result ⊤ Fault) → n ≤ max_length → length p ≡ bytes_for n
     → IsErr r → IsErrAnd r (λ f. f ≡ Memory) → new.items ≡ old.items → old.spare < 4 + length p → old.spare ≤ new.spare
     → Appends (bits_cell (first_bits n p)) old new r
 refused n p old new (Ok done) h whole is and items room more = absurd (cc)

@@ -1,6 +1,6 @@
 -- Bytes that are there, one after another.
 use Rattle.std.proofs.Common.{◌≡◌, ◌≤◌, ◌+◌, ◌++◌, ℕ, List, [], length, map, Option, Some, None, Bool, true, false}
-use Rattle.std.proofs.Common.{cond, nat_le, pos, Ok, Err, refl, sym, ap, ◌∙◌, subst, arith, append_assoc}
+use Rattle.std.proofs.Common.{cond, pos, Ok, Err, refl, sym, ap, ◌∙◌, subst, arith, append_assoc}
 use Rattle.std.proofs.Common.{append-nil, length-append}
 use Rattle.std.specs.Bool.{⊤}
 use Rattle.std.proofs.lemmas.Bool.Decides.{nat_tests}
@@ -9,7 +9,7 @@ use Rattle.std.specs.Int.{w32}
 use Rattle.bytes.specs.Filled.{Filled}
 use Rattle.pg_types.specs.declared.fault.Fault.{Fault}
 use Rattle.pg_base.specs.Appending.{Appends, Extends, HasRoomFor}
-use Rattle.pg_base.specs.Cells.{be, frame, concat}
+use Rattle.pg_base.specs.Cells.{be, frame, concat, fits_prefix, max_length}
 use Rattle.pg_base.specs.Counts.{count_bytes}
 
 abbrev pub Bytes : Type 0
@@ -52,20 +52,20 @@ cond_passes true b e = refl
 cond_passes false b e = let no : ⊥ = cc in absurd no
 
 -- a short text has a frame
-pub short_frame : (x : List ℕ) → length x ≤ 2147483647 → (b : List ℕ) × (frame (Some x) ≡ Some b)
+pub short_frame : (x : List ℕ) → length x ≤ max_length → (b : List ℕ) × (frame (Some x) ≡ Some b)
     × (length b ≡ 4 + length x)
 short_frame x h =
-    let fits : nat_le (length x) 2147483647 ≡ true = grind (arith, nat_tests) in
+    let fits : fits_prefix (length x) ≡ true = grind (arith, nat_tests) in
     let b : List ℕ = be w32 (pos (length x)) ++ x in
-    (b, cond_passes (nat_le (length x) 2147483647) b fits, omega (arith, length-append (be w32 (pos (length x))) x))
+    (b, cond_passes (fits_prefix (length x)) b fits, omega (arith, length-append (be w32 (pos (length x))) x))
 
 -- so many have a count
-pub short_count : {X Y : Type 0} (f : X → Y) (xs : List X) → length xs ≤ 2147483647 → count_bytes (length (map f xs))
+pub short_count : {X Y : Type 0} (f : X → Y) (xs : List X) → length xs ≤ max_length → count_bytes (length (map f xs))
     ≡ Some (be w32 (pos (length xs)))
 short_count f xs h =
     let same : length (map f xs) ≡ length xs = length-map xs f in
-    let fits : nat_le (length xs) 2147483647 ≡ true = grind (arith, nat_tests) in
-    ap count_bytes same ∙ cond_passes (nat_le (length xs) 2147483647) (be w32 (pos (length xs))) fits
+    let fits : fits_prefix (length xs) ≡ true = grind (arith, nat_tests) in
+    ap count_bytes same ∙ cond_passes (fits_prefix (length xs)) (be w32 (pos (length xs))) fits
 
 -- bytes for which there was room
 pub extended : (b : List ℕ) (old new : Filled) → new.items ≡ old.items ++ b → new.spare + length b ≡ old.spare

@@ -1,11 +1,11 @@
 -- Laws of counts and lengths, the 4-byte prefixes.
-use Rattle.std.specs.Prelude.{◌≡◌, ℕ, ℤ, pos, List, Some, ◌++◌, ◌≤◌, length, drop, nat_le, true, refl}
+use Rattle.std.specs.Prelude.{◌≡◌, ℕ, ℤ, pos, List, Some, ◌++◌, ◌≤◌, length, drop, true, refl}
 use Rattle.std.proofs.Common.{sym, ◌∙◌, ap, subst, arith}
 use Rattle.std.proofs.lemmas.Bool.Decides.{nat_tests}
 use Rattle.std.proofs.lemmas.List.{length-append}
 use Rattle.std.proofs.lemmas.Nat.{from_be_bytes-to_be_bytes_4}
 use Rattle.std.specs.Int.{w32}
-use Rattle.pg_base.specs.Cells.{be, IsBe, signed_in}
+use Rattle.pg_base.specs.Cells.{be, IsBe, signed_in, fits_prefix}
 use Rattle.pg_base.specs.Counts.{IsCount, count_bytes, has_number, number_in}
 use Rattle.pg_base.proofs.FormatLaws.{be-back}
 use Rattle.pg_base.proofs.FrameLaws.{fits_length, some_of}
@@ -35,5 +35,5 @@ number_then b h u n e p =
 -- the bytes of a count are a count
 pub count_is : (n : ℕ) (s : List ℕ) → count_bytes n ≡ Some s → IsCount s n
 count_is n s e =
-    let p = some_of (nat_le n 2147483647) (be w32 (pos n)) s e in
+    let p = some_of (fits_prefix n) (be w32 (pos n)) s e in
     (fits_length n p.0, p.1)

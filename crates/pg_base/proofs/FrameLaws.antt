@@ -1,22 +1,22 @@
 -- Laws of frames.
 use Rattle.std.specs.Prelude.{◌≡◌, ◌<◌, ◌^◌, ℕ, ℤ, pos, negsuc, List, ◌++◌, length, Option, Some, None, Bool, true}
-use Rattle.std.specs.Prelude.{false, nat_le, FitsSigned, refl}
+use Rattle.std.specs.Prelude.{false, FitsSigned, refl}
 use Rattle.std.proofs.Common.{sym, ◌∙◌, ap, subst, arith, cond, append_assoc}
 use Rattle.std.proofs.lemmas.Bool.{leb-true}
 use Rattle.std.proofs.lemmas.Bool.Decides.{nat_tests}
 use Rattle.std.proofs.lemmas.Int.{ints}
 use Rattle.std.specs.Int.{w32}
-use Rattle.pg_base.specs.Cells.{Cell, be, IsBe, Spells, frame, concat}
+use Rattle.pg_base.specs.Cells.{Cell, be, IsBe, Spells, frame, concat, fits_prefix, max_length}
 
-length_fits : (n : ℕ) → FitsSigned w32 (pos n) → nat_le n 2147483647 ≡ true
+length_fits : (n : ℕ) → FitsSigned w32 (pos n) → fits_prefix n ≡ true
 length_fits n h =
     let below : n < 2 ^ 31 = omega (arith, ints) in
     grind (arith, nat_tests)
 
 -- a length within the limit fits four bytes
-pub fits_length : (n : ℕ) → nat_le n 2147483647 ≡ true → FitsSigned w32 (pos n)
+pub fits_length : (n : ℕ) → fits_prefix n ≡ true → FitsSigned w32 (pos n)
 fits_length n h =
-    let below = leb-true n 2147483647 h in
+    let below = leb-true n max_length h in
     omega (arith, ints, below)
 
 -- a length and that many bytes are the bytes' frame
@@ -33,7 +33,7 @@ some_of false v k e = let no : ⊥ = cc in absurd no
 -- and nothing else is
 pub bytes-frame : (k b : List ℕ) → frame (Some b) ≡ Some k → (h : List ℕ) × (k ≡ h ++ b) × IsBe w32 h (pos (length b))
 bytes-frame k b e =
-    let p = some_of (nat_le (length b) 2147483647) (be w32 (pos (length b)) ++ b) k e in
+    let p = some_of (fits_prefix (length b)) (be w32 (pos (length b)) ++ b) k e in
     (be w32 (pos (length b)), p.1, (fits_length (length b) p.0, refl))
 
 -- a length that was taken, and the cell after it, spell the cell

@@ -1,11 +1,11 @@
 -- The bytes of entries, one after another.
 use Rattle.std.proofs.Common.{◌≡◌, ◌≤◌, ◌<◌, ◌+◌, ◌++◌, ℕ, List, [], ◌∷◌, length, map, take, take_all, drop, get_or}
-use Rattle.std.proofs.Common.{Option, Some, None, Bool, true, false, cond, nat_le, pos, refl, sym, ap, ◌∙◌, subst}
+use Rattle.std.proofs.Common.{Option, Some, None, Bool, true, false, cond, pos, refl, sym, ap, ◌∙◌, subst}
 use Rattle.std.proofs.Common.{arith, append_assoc}
 use Rattle.std.specs.Borrow.{Bor}
 use Rattle.std.proofs.lemmas.List.{take_more, map-append, take-append-drop}
 use Rattle.std.specs.Int.{w32}
-use Rattle.pg_base.specs.Cells.{be, cell_of, frame, concat}
+use Rattle.pg_base.specs.Cells.{be, cell_of, frame, concat, fits_prefix, max_length}
 use Rattle.pg_base.specs.Counts.{count_bytes}
 use Rattle.pg_base.proofs.FrameLaws.{parts_of}
 use Rattle.pg_base.specs.Hstore.{Entry, entries_bytes, hstore_bytes, borrowed_entry}
@@ -95,7 +95,7 @@ whole_parts : (es : List Entry) (b : List ℕ) → hstore_bytes es ≡ Some b �
 whole_parts es b e =
     let n : ℕ = length es in
     let parts = parts_of (count_bytes n) (entries_bytes es) b e in
-    let four : parts.0 ≡ be w32 (pos n) = count_of (nat_le n 2147483647) (be w32 (pos n)) parts.0 parts.2 in
+    let four : parts.0 ≡ be w32 (pos n) = count_of (fits_prefix n) (be w32 (pos n)) parts.0 parts.2 in
     let sum : length b ≡ length parts.0 + length parts.1 = sum_len b parts.0 parts.1 parts.4 in
     (parts.1, parts.3, sum ∙ ap (λ (s : List ℕ). length s + length parts.1) four)
 
@@ -141,7 +141,7 @@ value_none es i d bs h so_far none = none_of (hstore_bytes (map borrowed_entry e
     let no : None ≡ Some has.value = sym none ∙ has.value_is in cc)
 
 -- the bytes of a short list of entries that have bytes
-pub short_list : (es : List BorrowedEntry) (i : ℕ) (bs : List ℕ) → length es ≤ 2147483647 → length es ≤ i
+pub short_list : (es : List BorrowedEntry) (i : ℕ) (bs : List ℕ) → length es ≤ max_length → length es ≤ i
     → entries_bytes (map borrowed_entry (take i es)) ≡ Some bs
     → hstore_bytes (map borrowed_entry es) ≡ Some (be w32 (pos (length es)) ++ bs)
 short_list es i bs h whole are =

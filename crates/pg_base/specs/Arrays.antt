@@ -7,35 +7,39 @@ use Rattle.std.specs.Borrow.{Bor}
 use Rattle.pg_types.specs.declared.fault.Fault.{Fault}
 use Rattle.pg_base.specs.Cells.{Cell, cell_of, Spells, CellsInRow, be, frames, concat}
 use Rattle.pg_base.specs.Counts.{IsCount, TakesNext, ToRead, cell_checks, count_checks, not_negative, number_in}
-use Rattle.pg_base.specs.Counts.{count_or_zero, count_bytes}
+use Rattle.pg_base.specs.Counts.{after_number, count_or_zero, count_bytes, number_width}
 use Rattle.pg_types.specs.Faults.{size, count, dimensions}
 use Rattle.pg_base.specs.Formats.{Checks}
 use Rattle.std.specs.Global.{Global}
 use Rattle.std.specs.Int.{w32, to_be_bytes}
 
+-- how many bytes two numbers have: flags and an OID, or a length and a lower bound
+abbrev pub pair_width : ℕ
+pair_width = 8
+
 -- s is so many dimensions, and then what is to be read: without a dimension there are no elements, and one states how
 -- many there are, with any lower bound
 abbrev pub SpellsDimensions : ℕ → List ℕ → ToRead → Type 0
 SpellsDimensions zero s r = (r.left ≡ 0) × (s ≡ r.bytes)
-SpellsDimensions (suc zero) s r = (l x : List ℕ) × (s ≡ l ++ (x ++ r.bytes)) × IsCount l r.left × (length x ≡ 4)
+SpellsDimensions (suc zero) s r = (l x : List ℕ) × (s ≡ l ++ (x ++ r.bytes)) × IsCount l r.left × (length x ≡ number_width)
 SpellsDimensions (suc (suc d)) s r = ⊥
 
 -- b is a head, with any flags and any OID, and then what is to be read
 abbrev pub SpellsHead : List ℕ → ToRead → Type 0
 SpellsHead b r =
-    (d : ℕ) × (h x s : List ℕ) × (b ≡ h ++ (x ++ s)) × IsCount h d × (length x ≡ 8) × SpellsDimensions d s r
+    (d : ℕ) × (h x s : List ℕ) × (b ≡ h ++ (x ++ s)) × IsCount h d × (length x ≡ pair_width) × SpellsDimensions d s r
 
 -- the checks of so many dimensions
 abbrev pub dimension_checks : ℕ → List ℕ → Checks
 dimension_checks zero s = []
-dimension_checks (suc zero) s = (nat_le 8 (length s), size) ∷ (not_negative (number_in s), count) ∷ []
+dimension_checks (suc zero) s = (nat_le pair_width (length s), size) ∷ (not_negative (number_in s), count) ∷ []
 dimension_checks (suc (suc d)) s = (false, dimensions) ∷ []
 
 -- the checks of a head, in the order of its bytes
 abbrev pub head_checks : List ℕ → Checks
 head_checks b =
-    count_checks b ++ (nat_le 8 (length (drop 4 b)), size)
-    ∷ dimension_checks (count_or_zero (number_in b)) (drop 8 (drop 4 b))
+    count_checks b ++ (nat_le pair_width (length (after_number b)), size)
+    ∷ dimension_checks (count_or_zero (number_in b)) (drop pair_width (after_number b))
 
 -- b is the bytes of an array: a head that states n elements, then the cells cs, and then rest
 abbrev pub ArrayBody : List ℕ → ℕ → List Cell → List ℕ → Type 0

@@ -1,15 +1,15 @@
 -- Bits: BIT (bit_send, bit_recv) and VARBIT (varbit_send, varbit_recv).
-use Rattle.std.specs.Prelude.{◌≡◌, ℕ, ◌+◌, ◌-◌, ◌*◌, ◌/◌, ◌%◌, ◌^◌, ◌<◌, ◌≤◌, ◌==◌, pos, List, [], ◌∷◌, ◌++◌}
-use Rattle.std.specs.Prelude.{length, map, drop, slice_index, slice_index_or, Option, Some, None, Bool, false, ◌||◌}
+use Rattle.std.specs.Prelude.{◌≡◌, ℕ, ◌+◌, ◌-◌, ◌*◌, ◌/◌, ◌%◌, ◌^◌, ◌<◌, ◌≤◌, ◌==◌, List, [], ◌∷◌, ◌++◌}
+use Rattle.std.specs.Prelude.{length, map, slice_index, slice_index_or, Option, Some, None, Bool, false, ◌||◌}
 use Rattle.std.specs.Prelude.{nat_lt, nat_le, if◌then◌else◌, Result, Ok, Err, ⊤}
-use Rattle.std.specs.Int.{w32, bit_at, div_ceil}
+use Rattle.std.specs.Int.{bit_at, div_ceil}
 use Rattle.std.specs.List.{range_with_len}
 use Rattle.pg_base.specs.Appending.{Wire, wire_of}
-use Rattle.pg_base.specs.Cells.{Cell, be}
-use Rattle.pg_base.specs.Counts.{IsCount, count_checks, number_in, count_or_zero}
+use Rattle.pg_base.specs.Cells.{Cell, with_prefix}
+use Rattle.pg_base.specs.Counts.{IsCount, after_number, count_checks, length_check, number_in, count_or_zero}
 use Rattle.pg_types.specs.declared.types.built_in.BuiltIn.TheVariants.{Bit, Varbit}
 use Rattle.pg_types.specs.Content.{Content, is_row}
-use Rattle.pg_types.specs.Faults.{Refusal, Outcome, refusal_of, size, transmit}
+use Rattle.pg_types.specs.Faults.{Refusal, Outcome, refusal_of, transmit}
 use Rattle.pg_types.specs.declared.fault.Fault.{Fault}
 use Rattle.pg_base.specs.Formats.{first_fault_of, ReadsPlain}
 
@@ -87,7 +87,7 @@ FormBits bits_of b v =
 -- the checks of the count come first; then any other number of bytes than the bits take is Size
 abbrev pub first_fault_bits : List ℕ → Option Refusal
 first_fault_bits b = first_fault_of
-    (count_checks b ++ (length (drop 4 b) == bytes_for (count_or_zero (number_in b)), size) ∷ [])
+    (count_checks b ++ length_check (bytes_for (count_or_zero (number_in b))) (after_number b) ∷ [])
 
 -- what a cell reads as
 abbrev pub ReadsBits : {A : Type 0} → (A → List Bool) → Cell → Outcome A → Type 0
@@ -96,7 +96,7 @@ ReadsBits bits_of = ReadsPlain (FormBits bits_of) first_fault_bits
 -- the bytes of a cell of bits: their number in four bytes, and the bits packed. More bits than the number can say
 -- have none
 abbrev pub bits_cell : List Bool → Option (List ℕ)
-bits_cell v = if nat_le (length v) 2147483647 then Some (be w32 (pos (length v)) ++ packed v) else None
+bits_cell v = with_prefix (length v) (packed v)
 
 -- the cell of bits; where there are too many, Transmit
 abbrev pub wire_bits : List Bool → Wire

@@ -45,11 +45,23 @@ signed_in w b = cast_signed w (from_be_bytes w b)
 abbrev pub IsBeUnsigned : Width → List ℕ → ℕ → Type 0
 IsBeUnsigned w b n = (n < 2 ^ bits w) × (b ≡ to_be_bytes w n)
 
+-- the greatest length or count: a length prefix is a signed number of four bytes
+abbrev pub max_length : ℕ
+max_length = 2147483647
+
+-- whether a length prefix can say so much
+abbrev pub fits_prefix : ℕ → Bool
+fits_prefix n = nat_le n max_length
+
+-- a length or count in four bytes, and then bytes; None where it is more than the prefix can say
+abbrev pub with_prefix : ℕ → List ℕ → Option (List ℕ)
+with_prefix n b = if fits_prefix n then Some (be w32 (pos n) ++ b) else None
+
 -- the frame of a cell: its length in four bytes, then its bytes; for NULL the length -1. A cell that is longer
 -- than the length can say has no frame
 abbrev pub frame : Cell → Option (List ℕ)
 frame None = Some (be w32 (negsuc 0))
-frame (Some b) = if nat_le (length b) 2147483647 then Some (be w32 (pos (length b)) ++ b) else None
+frame (Some b) = with_prefix (length b) b
 
 -- s spells a cell: it is the cell's frame, and every negative length spells NULL
 abbrev pub Spells : List ℕ → Cell → Type 0

@@ -1,13 +1,14 @@
 -- Dates and times: DATE (date_send, date_recv), TIME (time_send, time_recv), and timestamps that have a least and a
 -- greatest
 -- count. Which date a day number is, and which timestamp stands at a nanosecond, are the words of `jiff`.
-use Rattle.std.specs.Prelude.{◌≡◌, ℕ, ◌/◌, ◌==◌, ℤ, pos, neg_ℤ, ◌+ℤ◌, ◌-ℤ◌, ◌*ℤ◌, int_le, List, [], ◌∷◌, length}
+use Rattle.std.specs.Prelude.{◌≡◌, ℕ, ◌/◌, ℤ, pos, neg_ℤ, ◌+ℤ◌, ◌-ℤ◌, ◌*ℤ◌, int_le, List, [], ◌∷◌}
 use Rattle.std.specs.Prelude.{Option, Bool, ◌&&◌, Ok, Err}
 use Rattle.std.specs.Int.{Width, w32, w64, byte_len}
 use Rattle.jiff.specs.Types.{Date, Time, DateTime, Timestamp}
 use Rattle.jiff.specs.Words.{epoch_day, time_nanos, civil_nanos, IsBetween}
 use Rattle.pg_base.specs.Cells.{Cell, IsBe, signed_in}
-use Rattle.pg_types.specs.Faults.{Refusal, Outcome, size, decode}
+use Rattle.pg_base.specs.Counts.{length_check}
+use Rattle.pg_types.specs.Faults.{Refusal, Outcome, decode}
 use Rattle.pg_base.specs.Formats.{first_fault_of, ReadsPlain}
 use Rattle.pg_base.specs.Timestamps.{IsAfterBase, wire_timestamp}
 use Rattle.pg_base.specs.Numbers.{wire_signed}
@@ -20,7 +21,7 @@ is_between low high z = int_le low z && int_le z high
 -- any other length than the width's is Size, and a count outside the bounds is Decode
 abbrev pub first_fault_count : Width → ℤ → ℤ → List ℕ → Option Refusal
 first_fault_count w low high b =
-    first_fault_of ((length b == byte_len w, size) ∷ (is_between low high (signed_in w b), decode) ∷ [])
+    first_fault_of (length_check (byte_len w) b ∷ (is_between low high (signed_in w b), decode) ∷ [])
 
 -- the bytes spell in the width a count within the bounds, and that count names v
 abbrev pub FormCount : {A : Type 0} → Width → ℤ → ℤ → (ℤ → A → Type 0) → List ℕ → A → Type 0

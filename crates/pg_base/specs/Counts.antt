@@ -4,18 +4,26 @@ use Rattle.std.specs.Prelude.{[], ◌∷◌, ◌++◌, length, take, drop, Bool,
 use Rattle.std.specs.Prelude.{if◌then◌else◌}
 use Rattle.std.specs.Borrow.{Bor}
 use Rattle.std.specs.Int.{w32}
-use Rattle.pg_base.specs.Cells.{be, IsBe, signed_in}
+use Rattle.pg_base.specs.Cells.{be, IsBe, fits_prefix, signed_in}
 use Rattle.pg_types.specs.declared.fault.Fault.{Fault}
-use Rattle.pg_types.specs.Faults.{refusal_of, size, count}
+use Rattle.pg_types.specs.Faults.{Refusal, refusal_of, size, count}
 use Rattle.pg_base.specs.Formats.{Checks, first_fault_of}
 
--- whether four bytes are there
-abbrev pub has_number : List ℕ → Bool
-has_number s = nat_le 4 (length s)
+-- how many bytes a number has that stands before what it counts
+abbrev pub number_width : ℕ
+number_width = 4
 
--- the number that the first four bytes spell
+-- whether the bytes of a number are there
+abbrev pub has_number : List ℕ → Bool
+has_number s = nat_le number_width (length s)
+
+-- the number that the first bytes spell
 abbrev pub number_in : List ℕ → ℤ
-number_in s = signed_in w32 (take 4 s)
+number_in s = signed_in w32 (take number_width s)
+
+-- what comes after the number
+abbrev pub after_number : List ℕ → List ℕ
+after_number s = drop number_width s
 
 -- a prefix as a number of items or bytes: a negative one counts as 0
 abbrev pub count_or_zero : ℤ → ℕ
@@ -35,6 +43,14 @@ IsCount s n = IsBe w32 s (pos n)
 abbrev pub count_checks : List ℕ → Checks
 count_checks s = (has_number s, size) ∷ (not_negative (number_in s), count) ∷ []
 
+-- the check of a length: any other number of bytes is Size
+abbrev pub length_check : ℕ → List ℕ → Bool × Refusal
+length_check n b = (length b == n, size)
+
+-- the check of the end: trailing bytes are Size
+abbrev pub no_trailing : List ℕ → Bool × Refusal
+no_trailing = length_check 0
+
 -- s begins with what spells a value, and rest comes after it
 abbrev pub StartsWith : {A : Type 0} → (List ℕ → A → Type 0) → List ℕ → A × Bor (List ℕ) → Type 0
 StartsWith spells s p = (t : List ℕ) × (s ≡ t ++ p.1.now) × spells t p.0
@@ -50,7 +66,7 @@ nothing = record { left = 0; bytes = [] }
 
 -- the checks of what comes next: those of an item, or after the last item that no bytes trail
 abbrev pub checks_of_next : (List ℕ → Checks) → ℕ → List ℕ → Checks
-checks_of_next item zero s = (length s == 0, size) ∷ []
+checks_of_next item zero s = no_trailing s ∷ []
 checks_of_next item (suc n) s = item s
 
 -- the checks of what comes next of what is to be read
@@ -70,15 +86,15 @@ TakesNext spells item old None new = (old ≡ nothing) × (new ≡ nothing)
 
 -- whether the bytes after a length prefix are all there
 abbrev pub has_cell : List ℕ → Bool
-has_cell s = nat_le (count_or_zero (number_in s)) (length (drop 4 s))
+has_cell s = nat_le (count_or_zero (number_in s)) (length (after_number s))
 
 -- the bytes after a length prefix: none where it is negative
 abbrev pub bytes_in : List ℕ → List ℕ
-bytes_in s = take (count_or_zero (number_in s)) (drop 4 s)
+bytes_in s = take (count_or_zero (number_in s)) (after_number s)
 
 -- what follows a length and its bytes
 abbrev pub after_cell : List ℕ → List ℕ
-after_cell s = drop (count_or_zero (number_in s)) (drop 4 s)
+after_cell s = drop (count_or_zero (number_in s)) (after_number s)
 
 -- the checks of the first cell: where its length or a part of its bytes is truncated, it is Size
 abbrev pub cell_checks : List ℕ → Checks
@@ -86,4 +102,4 @@ cell_checks s = (has_number s, size) ∷ (has_cell s, size) ∷ []
 
 -- the bytes of a count; None where four bytes cannot hold it
 abbrev pub count_bytes : ℕ → Option (List ℕ)
-count_bytes n = if nat_le n 2147483647 then Some (be w32 (pos n)) else None
+count_bytes n = if fits_prefix n then Some (be w32 (pos n)) else None

@@ -1,5 +1,5 @@
 -- Hstore (hstore_send, hstore_recv): a count, and for each entry its key and its value, which may be NULL.
-use Rattle.std.specs.Prelude.{◌≡◌, ℕ, ◌==◌, zero, suc, List, [], ◌∷◌, ◌++◌, length, drop, Option, Some, None}
+use Rattle.std.specs.Prelude.{◌≡◌, ℕ, zero, suc, List, [], ◌∷◌, ◌++◌, length, Option, Some, None}
 use Rattle.std.specs.Prelude.{option_map, if◌then◌else◌, Result, IsUtf8, String, string_bytes}
 use Rattle.std.specs.Borrow.{Bor}
 use Rattle.std.specs.Cmp.Lexicographic.{slice_cmp}
@@ -12,8 +12,8 @@ use Rattle.std.specs.Str.{bytes_eq, is_utf8}
 use Rattle.pg_types.specs.declared.fault.Fault.{Fault}
 use Rattle.pg_base.specs.Appending.{Wire, wire_of}
 use Rattle.pg_base.specs.Cells.{Cell, cell_of, frame, Spells, concat}
-use Rattle.pg_base.specs.Counts.{IsCount, TakesNext, ToRead, after_cell, bytes_in, count_checks, has_cell}
-use Rattle.pg_base.specs.Counts.{has_number, not_negative, number_in, count_or_zero, count_bytes}
+use Rattle.pg_base.specs.Counts.{IsCount, TakesNext, ToRead, after_cell, after_number, bytes_in, count_checks, has_cell}
+use Rattle.pg_base.specs.Counts.{has_number, no_trailing, not_negative, number_in, count_or_zero, count_bytes}
 use Rattle.pg_types.specs.Faults.{Refusal, Outcome, size, utf8, key_length}
 use Rattle.pg_base.specs.Formats.{Checks, first_fault_of, ReadsPlain}
 use Rattle.pg_base.specs.Options.{NoneOr}
@@ -72,12 +72,12 @@ entry_checks s = key_checks s ++ value_checks (after_cell s)
 
 -- the checks of n entries, one after another, and of the end
 abbrev pub entries_checks : ℕ → List ℕ → Checks
-entries_checks zero s = (length s == 0, size) ∷ []
+entries_checks zero s = no_trailing s ∷ []
 entries_checks (suc n) s = entry_checks s ++ entries_checks n (after_cell (after_cell s))
 
 -- the checks of the count come first, and then those of as many entries
 abbrev pub first_fault_hstore : List ℕ → Option Refusal
-first_fault_hstore b = first_fault_of (count_checks b ++ entries_checks (count_or_zero (number_in b)) (drop 4 b))
+first_fault_hstore b = first_fault_of (count_checks b ++ entries_checks (count_or_zero (number_in b)) (after_number b))
 
 -- an entry of borrowed texts
 abbrev pub borrowed_entry : Bor (List ℕ) × Option (Bor (List ℕ)) → Entry

@@ -6,9 +6,14 @@ use Rattle.std.specs.Net.Addr.{ipv4_octets, ipv6_octets}
 use Rattle.std.specs.declared.net.ip_addr.IpAddr.{IpAddr}
 use Rattle.std.specs.declared.net.ip_addr.IpAddr.TheVariants.{V4, V6}
 use Rattle.pg_base.specs.Cells.{Cell}
+use Rattle.pg_base.specs.Counts.{length_check}
 use Rattle.pg_types.specs.Faults.{Refusal, Outcome, size, family, netmask, address_length, host_bits, transmit}
 use Rattle.pg_base.specs.Formats.{Checks, first_fault_of, ReadsPlain}
 use Rattle.pg_base.specs.Appending.{Wire}
+
+-- how many bytes stand before the octets: the family, the netmask's length, a flag, and the number of octets
+abbrev pub head_len : ℕ
+head_len = 4
 
 -- the octets of an address, big-endian
 abbrev pub address_octets : IpAddr → List ℕ
@@ -24,13 +29,21 @@ family_of (V6 a) = 3
 abbrev pub family_len : ℕ → ℕ
 family_len number = if number == 2 then 4 else 16
 
+-- how many bits they have
+abbrev pub family_bits : ℕ → ℕ
+family_bits number = 8 * family_len number
+
 -- how many octets an address has
 abbrev pub address_len : IpAddr → ℕ
 address_len a = family_len (family_of a)
 
 -- how many bits an address has
 abbrev pub address_bits : IpAddr → ℕ
-address_bits a = 8 * address_len a
+address_bits a = family_bits (family_of a)
+
+-- whether a netmask of that length is no longer than the addresses of a family
+abbrev pub netmask_fits : ℕ → ℕ → Bool
+netmask_fits number masklen = nat_le masklen (family_bits number)
 
 -- an address and the length of its netmask: how many of the first bits name the network
 pub record Network : Type 0 where
@@ -48,6 +61,14 @@ NetmaskFits n = n.masklen ≤ address_bits n.address
 -- the number that the bits of the octets after the netmask's make
 abbrev pub host_part : List ℕ → ℕ → ℕ
 host_part octets masklen = number_from_digits 256 octets % 2 ^ (8 * length octets - masklen)
+
+-- the check of a netmask: one that is too long is Netmask
+abbrev pub netmask_check : ℕ → ℕ → Bool × Refusal
+netmask_check number masklen = (netmask_fits number masklen, netmask)
+
+-- the check of the host bits: where one is 1, it is HostBits
+abbrev pub host_check : List ℕ → ℕ → Bool × Refusal
+host_check octets masklen = (host_part octets masklen == 0, host_bits)
 
 -- no bit of the address after the netmask is 1
 abbrev pub NoHostBits : Network → Type 0
@@ -76,11 +97,11 @@ FormAddress b a = (masklen : ℕ) × FormInet b (with_netmask a masklen)
 -- Netmask, another number of octets than the family's AddressLength, and octets of another length than that Size
 abbrev pub inet_checks : List ℕ → Checks
 inet_checks b =
-    (nat_le 4 (length b), size)
+    (nat_le head_len (length b), size)
     ∷ (slice_index b 0 == 2 || slice_index b 0 == 3, family)
-    ∷ (nat_le (slice_index b 1) (8 * family_len (slice_index b 0)), netmask)
+    ∷ netmask_check (slice_index b 0) (slice_index b 1)
     ∷ (slice_index b 3 == family_len (slice_index b 0), address_length)
-    ∷ (length (drop 4 b) == family_len (slice_index b 0), size)
+    ∷ length_check (family_len (slice_index b 0)) (drop head_len b)
     ∷ []
 
 -- the first fault of INET
@@ -89,7 +110,7 @@ first_fault_inet b = first_fault_of (inet_checks b)
 
 -- the first fault of CIDR: after the checks of INET, host bits are HostBits
 abbrev pub first_fault_cidr : List ℕ → Option Refusal
-first_fault_cidr b = first_fault_of (inet_checks b ++ (host_part (drop 4 b) (slice_index b 1) == 0, host_bits) ∷ [])
+first_fault_cidr b = first_fault_of (inet_checks b ++ host_check (drop head_len b) (slice_index b 1) ∷ [])
 
 -- what a cell of INET reads as
 abbrev pub ReadsInet : Cell → Outcome Network → Type 0
@@ -105,13 +126,13 @@ ReadsAddress = ReadsPlain FormAddress first_fault_inet
 
 -- the fault of an address with a netmask that is too long
 abbrev pub first_fault_netmask : Network → Option Refusal
-first_fault_netmask n = first_fault_of ((nat_le n.masklen (address_bits n.address), netmask) ∷ [])
+first_fault_netmask n = first_fault_of (netmask_check (family_of n.address) n.masklen ∷ [])
 
 -- the fault of what is no network: its netmask is too long, or else it has host bits
 abbrev pub first_fault_network : Network → Option Refusal
 first_fault_network n =
-    first_fault_of ((nat_le n.masklen (address_bits n.address), netmask)
-    ∷ (host_part (address_octets n.address) n.masklen == 0, host_bits) ∷ [])
+    first_fault_of (netmask_check (family_of n.address) n.masklen
+    ∷ host_check (address_octets n.address) n.masklen ∷ [])
 
 -- the parts n where there is no fault, and else the fault
 abbrev pub NetworkOrFault : Network → Option Refusal → Outcome Network → Type 0
@@ -120,7 +141,8 @@ NetworkOrFault n fault (Err r) = fault ≡ Some r
 
 -- whether the address has its family's length and the netmask fits
 abbrev pub is_network : Network → Bool
-is_network n = length (address_octets n.address) == address_len n.address && nat_le n.masklen (address_bits n.address)
+is_network n =
+    length (address_octets n.address) == address_len n.address && netmask_fits (family_of n.address) n.masklen
 
 -- the cell of an address with its netmask: its bytes with the flag 0, or Transmit where the length of either is wrong
 abbrev pub wire_inet : Network → Wire

@@ -1,17 +1,18 @@
 -- Integers: CHAR (charsend), INT2, INT4, INT8 (int2send, int4send, int8send), OID (oidsend), PG_LSN (pg_lsn_send) and
 -- BOOL (boolsend).
-use Rattle.std.specs.Prelude.{◌≡◌, ℕ, ◌-◌, ◌^◌, ◌==◌, ℤ, pos, negsuc, List, [], ◌∷◌, length, Option, Some, Bool}
+use Rattle.std.specs.Prelude.{◌≡◌, ℕ, ◌-◌, ◌^◌, ◌==◌, ℤ, pos, negsuc, List, [], ◌∷◌, Option, Some, Bool}
 use Rattle.std.specs.Prelude.{true, false, not, nat_lt, if◌then◌else◌, Ok, Err}
 use Rattle.std.specs.Int.{Width, byte_len, to_be_bytes}
 use mir.Val.{bits}
 use Rattle.pg_base.specs.Cells.{Cell, be, IsBe, IsBeUnsigned}
-use Rattle.pg_types.specs.Faults.{Refusal, Outcome, size, transmit}
+use Rattle.pg_base.specs.Counts.{length_check}
+use Rattle.pg_types.specs.Faults.{Refusal, Outcome, transmit}
 use Rattle.pg_base.specs.Formats.{first_fault_of, ReadsPlain}
 use Rattle.pg_base.specs.Appending.{Wire}
 
 -- any other length than the width's is Size
 abbrev pub first_fault_number : ℕ → List ℕ → Option Refusal
-first_fault_number width b = first_fault_of ((length b == width, size) ∷ [])
+first_fault_number width b = first_fault_of (length_check width b ∷ [])
 
 -- CHAR, INT2, INT4, INT8: the bytes spell this number in the width, big-endian, in two's complement
 abbrev pub FormSigned : Width → List ℕ → ℤ → Type 0

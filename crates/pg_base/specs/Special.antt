@@ -1,6 +1,6 @@
 -- A value or an infinity: DATE in 4 bytes (date_send, date_recv), TIMESTAMP and TIMESTAMPTZ in 8 (timestamp_send,
 -- timestamp_recv, timestamptz_send, timestamptz_recv), of which the greatest number and the least are the infinities.
-use Rattle.std.specs.Prelude.{◌≡◌, ◌≢◌, ◌⊎◌, ◌-◌, ◌^◌, ℕ, pos, negsuc, List, length, Some, None, Ok, Err, Bool, ◌&&◌}
+use Rattle.std.specs.Prelude.{◌≡◌, ◌≢◌, ◌⊎◌, ◌-◌, ◌^◌, ℕ, ℤ, pos, negsuc, List, length, Some, None, Ok, Err, Bool, ◌&&◌}
 use Rattle.std.specs.Int.{Width, byte_len}
 use mir.Val.{bits}
 use Rattle.pg_base.specs.declared.special.Date.{Date}
@@ -44,13 +44,21 @@ accepted_date inside ty = is_row DateRow ty && inside ty
 abbrev pub accepted_timestamp : (Content → Bool) → Content → Bool
 accepted_timestamp inside ty = accepts_timestamps ty && inside ty
 
--- the bytes of infinity: those of the greatest number of the width
-abbrev pub infinity : Width → List ℕ
-infinity w = be w (pos (2 ^ (bits w - 1) - 1))
+-- the greatest number of a width, which stands for infinity
+abbrev pub infinity_number : Width → ℤ
+infinity_number w = pos (2 ^ (bits w - 1) - 1)
 
--- the bytes of -infinity: those of the least
+-- the least, which stands for -infinity
+abbrev pub minus_infinity_number : Width → ℤ
+minus_infinity_number w = negsuc (2 ^ (bits w - 1) - 1)
+
+-- the bytes of infinity
+abbrev pub infinity : Width → List ℕ
+infinity w = be w (infinity_number w)
+
+-- the bytes of -infinity
 abbrev pub minus_infinity : Width → List ℕ
-minus_infinity w = be w (negsuc (2 ^ (bits w - 1) - 1))
+minus_infinity w = be w (minus_infinity_number w)
 
 -- the bytes have the width, and are no infinity
 pub record IsFiniteCell (w : Width) (b : List ℕ) : Type 0 where

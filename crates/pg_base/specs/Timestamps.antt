@@ -2,7 +2,7 @@
 -- have one
 -- format. A timestamp is told by its nanoseconds from 1970-01-01 00:00:00 UTC.
 use Rattle.std.specs.Prelude.{◌≡◌, ℤ, pos, ◌+ℤ◌, ◌-ℤ◌, ◌*ℤ◌, int_div, ℕ, List, Bool, ◌||◌}
-use Rattle.std.specs.Int.{w64}
+use Rattle.std.specs.Int.{byte_len, w64}
 use Rattle.pg_types.specs.declared.types.built_in.BuiltIn.TheVariants.{Timestamp, Timestamptz}
 use Rattle.pg_base.specs.declared.unix_time.UnixTime.{UnixTime}
 use Rattle.pg_base.specs.Cells.{Cell, IsBe}
@@ -34,7 +34,7 @@ FormTimestamp nanos b v = (micros : ℤ) × IsBe w64 b micros × IsAfterBase nan
 
 -- what a cell reads as
 abbrev pub ReadsTimestamp : {A : Type 0} → (A → ℤ) → Cell → Outcome A → Type 0
-ReadsTimestamp nanos = ReadsPlain (FormTimestamp nanos) (first_fault_number 8)
+ReadsTimestamp nanos = ReadsPlain (FormTimestamp nanos) (first_fault_number (byte_len w64))
 
 -- the microseconds from 2000-01-01 00:00:00 UTC to a timestamp, truncated toward it on both sides
 abbrev pub whole_micros : ℤ → ℤ

@@ -1,6 +1,6 @@
 -- The frame of a parameter, after what the buffer held.
 use Rattle.std.proofs.Common.{◌≡◌, ◌<◌, ◌≤◌, ◌+◌, ◌++◌, ℕ, pos, List, length, take, drop, Some, None, Bool, true}
-use Rattle.std.proofs.Common.{false, cond, nat_le, Result, Ok, Err, IfSome, refl, ap, sym, ◌∙◌, subst, arith}
+use Rattle.std.proofs.Common.{false, cond, Result, Ok, Err, IfSome, refl, ap, sym, ◌∙◌, subst, arith}
 use Rattle.std.proofs.Common.{append_assoc, length-append}
 use Rattle.std.specs.Bool.{⊤}
 use Rattle.std.specs.Int.{to_be_bytes, w32}
@@ -8,7 +8,7 @@ use Rattle.std.proofs.Math.Seq.{take-append_seam}
 use Rattle.std.proofs.lemmas.Bool.Decides.{nat_tests}
 use Rattle.std.proofs.lemmas.List.{drop_at}
 use Rattle.pg_base.specs.Appending.{Wire}
-use Rattle.pg_base.specs.Cells.{be, frame}
+use Rattle.pg_base.specs.Cells.{be, frame, fits_prefix, max_length}
 use Rattle.pg_types.specs.Faults.{refusal_of, transmit}
 use Rattle.pg_types.specs.declared.fault.Fault.{Fault}
 use Rattle.pg_types.specs.declared.format.IsNull.TheVariants.{No}
@@ -25,17 +25,17 @@ cond_holds true b e = refl
 cond_holds false b e = let no : ⊥ = cc in absurd no
 
 -- bytes that are too many have no frame
-pub long_frame : (b : List ℕ) → 2147483647 < length b → frame (Some b) ≡ None
+pub long_frame : (b : List ℕ) → max_length < length b → frame (Some b) ≡ None
 long_frame b h =
-    let t : nat_le (length b) 2147483647 ≡ false = grind (arith, nat_tests) in
-    cond_fails (nat_le (length b) 2147483647) (be w32 (pos (length b)) ++ b) t
+    let t : fits_prefix (length b) ≡ false = grind (arith, nat_tests) in
+    cond_fails (fits_prefix (length b)) (be w32 (pos (length b)) ++ b) t
 
 -- and fewer have their number and themselves as their frame
-pub frame_bytes : (b : List ℕ) (n : ℕ) → length b ≤ 2147483647 → n ≡ length b → frame (Some b)
+pub frame_bytes : (b : List ℕ) (n : ℕ) → length b ≤ max_length → n ≡ length b → frame (Some b)
     ≡ Some (to_be_bytes w32 n ++ b)
 frame_bytes b n h e =
-    let t : nat_le (length b) 2147483647 ≡ true = grind (arith, nat_tests) in
-    cond_holds (nat_le (length b) 2147483647) (be w32 (pos (length b)) ++ b) t
+    let t : fits_prefix (length b) ≡ true = grind (arith, nat_tests) in
+    cond_holds (fits_prefix (length b)) (be w32 (pos (length b)) ++ b) t
     ∙ ap (λ y. Some (to_be_bytes w32 y ++ b)) (sym e)
 
 module _ (old head b written : List ℕ) (four : length head ≡ 4) (is : written ≡ (old ++ head) ++ b) where

@@ -3,6 +3,7 @@ use Rattle.std.specs.Prelude.{◌≡◌, ℕ, ◌+◌, ◌++◌, List, length, t
 use Rattle.std.specs.Prelude.{IsOk, slice_get, ⊤}
 use Rattle.pg_base.specs.Appending.{Wire}
 use Rattle.pg_base.specs.Cells.{Cell, frame, frames}
+use Rattle.pg_base.specs.Counts.{number_width}
 use Rattle.pg_types.specs.Faults.{refusal_of}
 use Rattle.pg_types.specs.declared.fault.Fault.{Fault}
 use Rattle.pg_types.specs.declared.fault.Fault.TheVariants.{Transmit}
@@ -20,10 +21,11 @@ AppendsFrameOrPart w old new (Ok done) = AppendsFrame w old new (Ok done)
 AppendsFrameOrPart w old new (Err f) = (take (length old) new ≡ old)
     × IfSome (refusal_of f) (λ r. element_frame_cell w ≡ Err r)
 
--- what stands four bytes after the place n got its length at n; or it has no frame
+-- what stands after the place n and the bytes of a length got its length at n; or it has no frame
 abbrev pub FramesFrom : ℕ → List ℕ → List ℕ → Result ⊤ Fault → Type 0
-FramesFrom n old new (Ok done) = (b : List ℕ) × (frame (Some (drop (n + 4) old)) ≡ Some b) × (new ≡ take n old ++ b)
-FramesFrom n old new (Err f) = (new ≡ old) × (f ≡ Transmit) × (frame (Some (drop (n + 4) old)) ≡ None)
+FramesFrom n old new (Ok done) = (b : List ℕ) × (frame (Some (drop (n + number_width) old)) ≡ Some b)
+    × (new ≡ take n old ++ b)
+FramesFrom n old new (Err f) = (new ≡ old) × (f ≡ Transmit) × (frame (Some (drop (n + number_width) old)) ≡ None)
 
 -- the frames of the parameters' cells were appended. Or, at the place p of one of them: those before it have cells with
 -- frames, its own is refused with this fault or has no frame, or memory ran out, and the bytes are as they were

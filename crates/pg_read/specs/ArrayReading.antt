@@ -1,7 +1,8 @@
 -- Reading a list from an array's cell.
-use Rattle.std.specs.Prelude.{◌≡◌, ◌⊎◌, ◌==◌, nat_le, ℕ, List, [], ◌∷◌, ◌++◌, length, take, Option, Some, None, Ok, Err}
+use Rattle.std.specs.Prelude.{◌≡◌, ◌⊎◌, nat_le, ℕ, List, [], ◌∷◌, ◌++◌, length, take, Option, Some, None, Ok, Err}
 use Rattle.pg_base.specs.Arrays.{ArrayBody, head_checks}
 use Rattle.pg_base.specs.Cells.{Cell}
+use Rattle.pg_base.specs.Counts.{no_trailing}
 use Rattle.pg_types.specs.Content.{Content}
 use Rattle.pg_types.specs.Faults.{Outcome, size, too_few, excess}
 use Rattle.pg_base.specs.Formats.{Checks, NotNull, first_fault_of}
@@ -23,7 +24,7 @@ ReadsChecked {A} reads checks cs (Err r) =
 
 -- the checks after the cells of an array that states n elements: all of them are there, and no bytes are left
 abbrev pub end_checks : ℕ → List Cell → List ℕ → Checks
-end_checks n cs rest = (nat_le n (length cs), size) ∷ (length rest == 0, size) ∷ []
+end_checks n cs rest = (nat_le n (length cs), size) ∷ no_trailing rest ∷ []
 
 -- what the elements of a list give
 abbrev pub ReadsElements : {A : Type 0} → (Cell → Outcome A → Type 0) → ℕ → List Cell → List ℕ → Outcome (List A)

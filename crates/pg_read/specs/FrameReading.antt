@@ -1,9 +1,10 @@
 -- Reading framed cells from the front of a slice: what is answered, and where the slice stands then.
-use Rattle.std.specs.Prelude.{◌≡◌, ℕ, ℤ, ◌<◌, nat_lt, if◌then◌else◌, drop, List, [], ◌∷◌, ◌++◌, length, Option}
+use Rattle.std.specs.Prelude.{◌≡◌, ℕ, ℤ, ◌<◌, nat_lt, if◌then◌else◌, List, [], ◌∷◌, ◌++◌, length, Option}
 use Rattle.std.specs.Prelude.{Some, Result, Ok, Err}
 use Rattle.std.specs.Borrow.{Bor}
 use Rattle.std.specs.Int.{w32}
 use Rattle.pg_base.specs.Cells.{Cell, cell_of, IsBe, Spells, SpellsNone, CellsInRow}
+use Rattle.pg_base.specs.Counts.{after_number, number_width}
 use Rattle.pg_types.specs.Faults.{Outcome, Answers, NeverMemory, refusal_of, size}
 use Rattle.pg_types.specs.declared.fault.Fault.{Fault}
 
@@ -15,12 +16,12 @@ AnswersSize (Err f) = refusal_of f ≡ Some size
 -- the first four bytes were taken, as a number; where there are fewer, Size, and nothing was taken
 abbrev pub TakesNumber : List ℕ → Result ℤ Fault → List ℕ → Type 0
 TakesNumber old (Ok n) new = (s : List ℕ) × (old ≡ s ++ new) × IsBe w32 s n
-TakesNumber old (Err f) new = (length old < 4) × (refusal_of f ≡ Some size) × (new ≡ old)
+TakesNumber old (Err f) new = (length old < number_width) × (refusal_of f ≡ Some size) × (new ≡ old)
 
 -- where a slice stands whose first cell is truncated: at its start where the length is truncated, and otherwise after
 -- the length
 abbrev pub after_truncated : List ℕ → List ℕ
-after_truncated s = if nat_lt (length s) 4 then s else drop 4 s
+after_truncated s = if nat_lt (length s) number_width then s else after_number s
 
 -- the first cell was taken; where it is truncated, Size
 abbrev pub TakesCell : List ℕ → Result (Option (Bor (List ℕ))) Fault → List ℕ → Type 0

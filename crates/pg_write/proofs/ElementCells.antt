@@ -1,6 +1,6 @@
 -- The cells of elements, one after another.
 use Rattle.std.proofs.Common.{◌≡◌, ◌<◌, ◌≤◌, ◌+◌, ◌++◌, ℕ, ℤ, List, [], ◌∷◌, length, map, take, drop, get_or, Vec}
-use Rattle.std.proofs.Common.{Global, Option, Some, None, IfSome, Ok, Err, true, cond, nat_le, refl, sym, ap, ◌∙◌}
+use Rattle.std.proofs.Common.{Global, Option, Some, None, IfSome, Ok, Err, true, cond, refl, sym, ap, ◌∙◌}
 use Rattle.std.proofs.Common.{append_assoc, arith}
 use Rattle.std.specs.Bool.{⊤}
 use Rattle.std.proofs.lemmas.Bool.Decides.{nat_tests}
@@ -8,7 +8,7 @@ use Rattle.std.proofs.lemmas.List.{take_more, take-append-drop}
 use Rattle.bytes.specs.Filled.{Filled}
 use Rattle.pg_base.specs.Appending.{Appends, Wire, wire_of}
 use Rattle.pg_base.specs.Arrays.{array_bytes, owned_cell}
-use Rattle.pg_base.specs.Cells.{Cell}
+use Rattle.pg_base.specs.Cells.{Cell, fits_prefix, max_length}
 use Rattle.pg_types.specs.Content.{Content, oid_of}
 use Rattle.pg_types.specs.Faults.{Outcome, Refusal, transmit}
 use Rattle.pg_base.specs.ArrayTypes.{element_of}
@@ -71,11 +71,11 @@ module _ {A : Type 0} (wire : A → Wire) where
 -- what a list is written as, where its elements have cells
 pub list_written : {A : Type 0} (wire : Content → A → Wire) (ty element : Content) (vs : List A) (cs : List Cell)
     (b : List ℕ)
-    → element_of ty ≡ Some element → length vs ≤ 2147483647 → element_cells (wire element) vs ≡ Ok cs
+    → element_of ty ≡ Some element → length vs ≤ max_length → element_cells (wire element) vs ≡ Ok cs
     → array_bytes (lower_bound_of ty) (oid_of element) cs ≡ Some b
     → wire_list wire ty vs ≡ Ok (Some b)
 list_written wire ty element vs cs b element_is few cells bytes =
-    let fits : nat_le (length vs) 2147483647 ≡ true = grind (arith, nat_tests) in
+    let fits : fits_prefix (length vs) ≡ true = grind (arith, nat_tests) in
     ap (λ m. wire_by_element wire ty m vs) element_is
     ∙ ap (λ t. cond t (wire_array (lower_bound_of ty) (oid_of element) (element_cells (wire element) vs))
     (Err transmit)) fits

@@ -1,10 +1,10 @@
 -- Writing arrays.
-use Rattle.std.specs.Prelude.{◌≡◌, ℕ, ℤ, pos, List, [], ◌∷◌, length, Option, Some, None, ◌||◌, ◌==◌, nat_le}
+use Rattle.std.specs.Prelude.{◌≡◌, ℕ, ℤ, pos, List, [], ◌∷◌, length, Option, Some, None, ◌||◌, ◌==◌}
 use Rattle.std.specs.Prelude.{if◌then◌else◌, Ok, Err}
 use Rattle.pg_types.specs.declared.types.built_in.BuiltIn.TheVariants.{Int2Vector, OidVector}
 use Rattle.pg_base.specs.Appending.{Wire, wire_of}
 use Rattle.pg_base.specs.Arrays.{array_bytes}
-use Rattle.pg_base.specs.Cells.{Cell, frame}
+use Rattle.pg_base.specs.Cells.{Cell, frame, fits_prefix}
 use Rattle.pg_types.specs.Content.{Content, is_row, oid_of}
 use Rattle.pg_types.specs.Faults.{Outcome, transmit}
 use Rattle.pg_base.specs.ArrayTypes.{element_of}
@@ -44,7 +44,7 @@ lower_bound_of ty = if is_row OidVector ty || is_row Int2Vector ty then pos 0 el
 abbrev pub wire_by_element : {A : Type 0} → (Content → A → Wire) → Content → Option Content → List A → Wire
 wire_by_element wire ty None vs = Err transmit
 wire_by_element wire ty (Some element) vs =
-    if nat_le (length vs) 2147483647 then wire_array (lower_bound_of ty) (oid_of element)
+    if fits_prefix (length vs) then wire_array (lower_bound_of ty) (oid_of element)
     (element_cells (wire element) vs) else Err transmit
 
 -- what a list is written as

@@ -8,7 +8,7 @@ use Rattle.std.proofs.lemmas.List.{take_all}
 use Rattle.pg_base.specs.Appending.{Wire}
 use Rattle.pg_base.proofs.ArrayLaws.{body_single, head_passes}
 use Rattle.pg_base.specs.Arrays.{ArrayBody, head_checks}
-use Rattle.pg_base.specs.Cells.{Cell}
+use Rattle.pg_base.specs.Cells.{Cell, fits_prefix}
 use Rattle.pg_types.specs.Content.{Content, oid_of}
 use Rattle.pg_types.specs.Faults.{Outcome, Refusal, transmit}
 use Rattle.pg_base.specs.Formats.{Checks, first_fault_of}
@@ -21,8 +21,8 @@ use Rattle.pg_write.specs.ArrayWriting.{element_cells, element_frame_cell, cons_
 use Rattle.pg_write.specs.ArrayWriting.{wire_fixed, wire_list, wire_by_element}
 use Rattle.postgres_types.specs.BackLaws.{kept}
 use Rattle.postgres_types.specs.ReadingBack.{IsLawful, WrittenAsBytes, BackList}
-use Rattle.postgres_types.specs.RelatedLists.{flipped, related_give, related_length}
-use Rattle.postgres_types.specs.WrittenArrays.{AllWritten, array_body, array_cell, elements_written, tested}
+use Rattle.postgres_types.specs.RelatedListLaws.{flipped, related_give, related_length}
+use Rattle.postgres_types.specs.WrittenArrayLaws.{AllWritten, array_body, array_cell, elements_written, tested}
 
 -- ---- the values of a list, one after another
 
@@ -91,7 +91,7 @@ list_cell : {A : Type 0} (wire : Content → A → Wire) (wanted : ℕ → Bool)
 list_cell wire wanted ty element vs c e =
     let written = wire_array (lower_bound_of ty) (oid_of element) (element_cells (wire element) vs) in
     let whole = tested (wanted (length vs)) (wire_by_element wire ty (Some element) vs) c e in
-    let few = tested (nat_le (length vs) 2147483647) written c whole.1 in
+    let few = tested (fits_prefix (length vs)) written c whole.1 in
     let a = array_cell (lower_bound_of ty) (oid_of element) (element_cells (wire element) vs) c few.1 in
     record {
       bytes = a.1;
@@ -119,7 +119,7 @@ module _ {A X : Type 0} (items : X → List A) (same : A → A → Type 0) (read
   -- what lists of so many elements with these cells are written as
   abbrev written_of : ℕ → Outcome (List Cell) → Wire
   written_of n cells =
-      if wanted n then (if nat_le n 2147483647 then wire_array (lower_bound_of ty)
+      if wanted n then (if fits_prefix n then wire_array (lower_bound_of ty)
       (oid_of element) cells else Err transmit) else Err transmit
 
   list_same_wire : (vs ws : List A) → SameList same vs ws → Written vs ≡ Written ws

@@ -1,6 +1,6 @@
 -- Laws of the formats of plain types: each value is written as bytes that read as it, or refused, so the types are
 -- lawful.
-use Rattle.std.specs.Prelude.{◌≡◌, ℕ, ℤ, pos, ◌^◌, ◌==◌, ◌++◌, nat_le, nat_lt, FitsSigned, Bool, true, false}
+use Rattle.std.specs.Prelude.{◌≡◌, ℕ, ℤ, pos, ◌^◌, ◌==◌, ◌++◌, nat_lt, FitsSigned, Bool, true, false}
 use Rattle.std.specs.Prelude.{if◌then◌else◌, List, length, Some, None, Ok, Err, refl}
 use Rattle.std.proofs.Common.{sym, ◌∙◌, subst, arith}
 use Rattle.std.proofs.lemmas.Bool.{and_parts, eqb-true, leb-true, ltb-true}
@@ -14,7 +14,7 @@ use Rattle.pg_base.specs.Appending.{Wire, wire_of}
 use Rattle.pg_base.specs.Bits.{FormBits, ReadsBits, first_fault_bits, packed, wire_bits}
 use Rattle.pg_base.proofs.BitsLaws.{bits_grammar}
 use Rattle.pg_base.specs.Bytea.{FormBytes, ReadsBytes, first_fault_bytes, wire_bytes}
-use Rattle.pg_base.specs.Cells.{Cell, IsBe, be}
+use Rattle.pg_base.specs.Cells.{Cell, IsBe, be, fits_prefix, max_length}
 use Rattle.pg_types.specs.Faults.{Outcome, Refusal}
 use Rattle.pg_base.specs.Formats.{IsGrammar}
 use Rattle.pg_base.proofs.FormatLaws.{bool_grammar, bytes_grammar, has_fitted, text_grammar}
@@ -119,10 +119,10 @@ address_lawful = plain_lawful (λ v. v) FormAddress first_fault_inet address_gra
 
 -- ---- bits
 -- the number of bits and the bits packed spell them
-packed_spells : (v : List Bool) → nat_le (length v) 2147483647 ≡ true
+packed_spells : (v : List Bool) → fits_prefix (length v) ≡ true
     → FormBits (λ u. u) (be w32 (pos (length v)) ++ packed v) v
 packed_spells v h =
-    let holds : FitsSigned w32 (pos (length v)) = record { sfits = omega (arith, leb-true (length v) 2147483647 h) } in
+    let holds : FitsSigned w32 (pos (length v)) = record { sfits = omega (arith, leb-true (length v) max_length h) } in
     (be w32 (pos (length v)), packed v, refl, (holds, refl), packed_len v, sym (first_bits_packed v))
 
 bits_written_if : (v : List Bool) (t : Bool) (b : List ℕ) → (t ≡ true → ReadsBits (λ u. u) (Some b) (Ok v))
@@ -131,7 +131,7 @@ bits_written_if v true b h = h refl
 bits_written_if v false b h = tt
 
 bits_written : (v : List Bool) → WrittenAsBytes (ReadsBits (λ u. u)) v (wire_bits v)
-bits_written v = bits_written_if v (nat_le (length v) 2147483647) _ (packed_spells v)
+bits_written v = bits_written_if v (fits_prefix (length v)) _ (packed_spells v)
 
 pub bits_lawful : IsLawful (λ v w. v ≡ w) (ReadsBits (λ u. u)) wire_bits (BackKept (λ v w. v ≡ w))
 bits_lawful = plain_lawful (λ v. v) (FormBits (λ u. u)) first_fault_bits (bits_grammar (λ u. u)) wire_bits bits_written

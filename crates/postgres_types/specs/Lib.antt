@@ -7,12 +7,12 @@ pub mod HstoreBackLaws
 pub mod OptionBackLaws
 pub mod PlainLaws
 pub mod ReadingBack
-pub mod RelatedLists
+pub mod RelatedListLaws
 pub mod Rewriting
 pub mod SpecialBackLaws
 pub mod TimestampBack
 pub mod TimestampBackLaws
-pub mod WrittenArrays
+pub mod WrittenArrayLaws
 pub use Rattle.pg_types.specs.BuiltInRows
 pub use Rattle.pg_types.specs.Content
 pub use Rattle.pg_types.specs.Digest

@@ -2,7 +2,7 @@
 use Rattle.std.specs.Prelude.{◌≡◌, ◌*◌, ◌/◌, ℕ, ℤ, pos, negsuc, ◌+ℤ◌, ◌-ℤ◌, ◌*ℤ◌, int_div, List, Option, Some, None}
 use Rattle.std.specs.Prelude.{Ok, Err, IsOkAnd, refl}
 use Rattle.std.proofs.Common.{sym, ◌∙◌, ap, subst, arith}
-use Rattle.std.specs.Int.{Width, w32, w64}
+use Rattle.std.specs.Int.{Width, byte_len, w32, w64}
 use Rattle.jiff.proofs.SpanFacts.{signed_arith}
 use Rattle.jiff.specs.Types.{Date, Time}
 use Rattle.jiff.specs.Words.{epoch_day, time_nanos, civil_nanos}
@@ -153,7 +153,7 @@ spelled_as z c e = int8_lawful.back_reads z c (Ok z) e refl
 -- over timestamps of every count
 module _ {A : Type 0} (nanos : A → ℤ) where
   timestamp_kept : (v : A) (x : Wire) → wire_timestamp (nanos v) ≡ x
-      → WrittenAsKept (FormTimestamp nanos) (first_fault_number 8) (KeptMicros nanos) v x
+      → WrittenAsKept (FormTimestamp nanos) (first_fault_number (byte_len w64)) (KeptMicros nanos) v x
   timestamp_kept v (Ok None) e = spelled_as (whole_micros (nanos v)) None e
   timestamp_kept v (Ok (Some b)) e =
       let is = spelled_as (whole_micros (nanos v)) (Some b) e in (
@@ -169,7 +169,7 @@ module _ {A : Type 0} (nanos : A → ℤ) where
   -- they are lawful, and are read back as their whole microseconds
   pub timestamp_lawful : IsLawful (λ v w. nanos v ≡ nanos w) (ReadsTimestamp nanos) (λ v. wire_timestamp (nanos v))
       (BackKept (KeptMicros nanos))
-  timestamp_lawful = kept_lawful (FormTimestamp nanos) (first_fault_number 8) (KeptMicros nanos)
+  timestamp_lawful = kept_lawful (FormTimestamp nanos) (first_fault_number (byte_len w64)) (KeptMicros nanos)
       (λ v w. nanos v ≡ nanos w) (λ v. wire_timestamp (nanos v))
       (λ v u h. ap wire_timestamp h) (timestamp_respects nanos) timestamp_whole
       (λ v. timestamp_kept v (wire_timestamp (nanos v)) refl)

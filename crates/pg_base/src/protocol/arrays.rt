@@ -1,12 +1,12 @@
 //! Arrays.
-ghost use Rattle.std.specs.Prelude.{suc, zero, ◌≡◌, ◌≤◌, ◌*◌, length, map, IfOk};
+ghost use Rattle.std.specs.Prelude.{suc, zero, ◌≡◌, ◌≤◌, ◌+◌, ◌*◌, length, map, IfOk};
 ghost use Rattle.pg_base.specs.Arrays.{SpellsDimensions, SpellsHead, TakesElement, dimension_checks};
 ghost use Rattle.pg_base.specs.Arrays.{head_checks, array_bytes, array_head, flags_of, owned_cell};
 ghost use Rattle.pg_base.specs.Counts.{ToRead, cell_checks};
 ghost use Rattle.pg_types.specs.Faults.{Answers, NeverMemory};
 ghost use Rattle.pg_base.specs.Formats.{Decodes, first_fault_of};
 ghost use Rattle.pg_base.specs.Appending.{Appends, Extends, HasRoomFor, Measures};
-ghost use Rattle.pg_base.specs.Cells.{Spells, cell_of, frames};
+ghost use Rattle.pg_base.specs.Cells.{Spells, cell_of, frames, max_length};
 
 use super::counts::{Item, Items, split_cell, split_count};
 use super::frames::{MAX_LEN, extend_by_frame, frame_len};
@@ -123,9 +123,9 @@ pub fn array_to_sql(
 
 /// How many bytes the frames of so few cells take.
 fn frames_len(cells: &[Option<Vec<u8>>]) -> Result<usize, Fault>
-    requires { length cells.now ≤ 2147483647 }
+    requires { length cells.now ≤ max_length }
     ensures len { Measures (frames (map owned_cell cells.now)) result }
-    ensures short { IfOk result (λ n. n ≤ 2147483647 * 2147483651) }
+    ensures short { IfOk result (λ n. n ≤ max_length * (max_length + 4)) }
 {
     let mut len = 0;
     for cell in cells {
@@ -136,7 +136,7 @@ fn frames_len(cells: &[Option<Vec<u8>>]) -> Result<usize, Fault>
 
 /// Appends the head. There is room for it.
 fn extend_by_head(lower_bound: i32, oid: Oid, cells: &[Option<Vec<u8>>], out: &mut BytesMut)
-    requires few { length cells.now ≤ 2147483647 }
+    requires few { length cells.now ≤ max_length }
     requires room { 20 ≤ out.now.spare }
     ensures { Extends (array_head lower_bound oid (map owned_cell cells.now)) out.old out.new }
 {
