@@ -3,7 +3,7 @@ ghost use Rattle.std.specs.Prelude.{◌≡◌, ◌≢◌, Some, IfSome, IsNone, 
 ghost use Rattle.pg_types.specs.declared.fault.Fault.TheVariants.{Memory};
 ghost use Rattle.pg_types.specs.BuiltInRows.{row_oid};
 ghost use Rattle.pg_types.specs.Content.{BuiltInType, UserDefinedType, IsBuiltIn, content, kind_content};
-ghost use Rattle.pg_types.specs.Content.{oid_of, name_of, schema_of, kind_of, type_text};
+ghost use Rattle.pg_types.specs.Content.{oid_of, name_of, same_type, schema_of, kind_of, type_text};
 ghost use Rattle.pg_types.specs.KindRefs.{kind_ref_view};
 
 use super::fault::Fault;
@@ -132,6 +132,15 @@ impl PgType {
             },
             Inner::Other(other) => other.kind.as_kind_ref(),
         }
+    }
+
+    /// Whether this is that type, as `==` answers. The contract is in the words of an acceptance, so
+    /// a test of acceptance over it is proved without a lemma.
+    #[tactic(auto, using(crate::proofs::DerivedTypes::eq_content))]
+    pub fn is(&self, other: &PgType) -> bool
+        ensures { result ≡ same_type (content self.now) (content other.now) }
+    {
+        *self == *other
     }
 
     /// An equal type. A built-in one is never refused, and a user-defined one with

@@ -57,5 +57,5 @@ wire_fixed expected wire ty vs = if length vs == expected then wire_list wire ty
 
 -- the answer, viewed so, is that outcome
 abbrev pub Gives : {A B : Type 0} → (B → A) → Outcome A → Outcome B → Type 0
-Gives view told (Ok made) = told ≡ Ok (view made)
+Gives view told (Ok value) = told ≡ Ok (view value)
 Gives view told (Err r) = told ≡ Err r

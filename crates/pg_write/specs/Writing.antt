@@ -1,6 +1,6 @@
 -- What a value is written as, and what a write leaves in the buffer.
-use Rattle.std.specs.Prelude.{◌≡◌, ℕ, ◌<◌, List, ◌++◌, length, Bool, true, false, Some, None, Result, Ok, Err}
-use Rattle.std.specs.Prelude.{IfSome, IfNone}
+use Rattle.std.specs.Prelude.{◌≡◌, ℕ, ◌<◌, List, ◌++◌, length, Bool, Some, None, Result, Ok, Err}
+use Rattle.std.specs.Prelude.{IfSome, IfNone, if◌then◌else◌}
 use Rattle.pg_base.specs.Appending.{Wire}
 use Rattle.pg_types.specs.Content.{Content}
 use Rattle.pg_types.specs.Faults.{refusal_of, wrong_type}
@@ -8,10 +8,10 @@ use Rattle.pg_types.specs.declared.fault.Fault.{Fault}
 use Rattle.pg_types.specs.declared.format.IsNull.{IsNull}
 use Rattle.pg_types.specs.declared.format.IsNull.TheVariants.{Yes, No}
 
--- checked writing: a type that is not accepted is WrongType, with the type and the name of the Rust type
-abbrev pub checked_by : Bool → Content → List ℕ → Wire → Wire
-checked_by true ty rust w = w
-checked_by false ty rust w = Err (wrong_type ty rust)
+-- what checked writing writes: the written form for a type that is accepted, and for any other WrongType, with the type
+-- and the name of the Rust type
+abbrev pub checked_wire : {A : Type 0} → (Content → Bool) → List ℕ → (Content → A → Wire) → Content → A → Wire
+checked_wire accepted rust wire ty v = if accepted ty then wire ty v else Err (wrong_type ty rust)
 
 -- the fault is WrongType, with the type and the name of the Rust type, or memory ran out
 abbrev pub IsWrongType : Content → List ℕ → Fault → Type 0

@@ -1,14 +1,13 @@
 //! Writing lists.
-ghost use Rattle.std.specs.Prelude.{◌≡◌, IsTrue, map, true, codes, refl};
+ghost use Rattle.std.specs.Prelude.{◌≡◌, IsTrue, map, true, codes};
 ghost use Rattle.std.specs.Box.{boxed_slice_items};
-ghost use Rattle.pg_types.specs.declared.format.Format.TheVariants.{Binary};
 ghost use Rattle.pg_base.specs.Arrays.{owned_cell};
 ghost use Rattle.pg_types.specs.Content.{content};
 ghost use Rattle.pg_types.specs.Faults.{Answers};
 ghost use Rattle.pg_base.specs.ArrayTypes.{accepted_list};
 ghost use Rattle.pg_write.specs.ArrayWriting.{Gives, element_cells, element_frame_cell, lower_bound_of};
 ghost use Rattle.pg_write.specs.ArrayWriting.{wire_fixed, wire_list};
-ghost use Rattle.pg_write.specs.Writing.{Writes, checked_by};
+ghost use Rattle.pg_write.specs.Writing.{Writes};
 
 use crate::to_sql::{ToSql, wrong_type};
 use bytes::BytesMut;
@@ -31,10 +30,6 @@ impl<T: ToSql> ToSql for Vec<T> {
     ghost name = { codes "Vec" };
 
     ghost wire = { λ ty v. wire_list T.wire ty v.items };
-
-    ghost checked = { λ ty v. checked_by (accepted_list T.accepted ty) ty (codes "Vec") (wire_list T.wire ty v.items) };
-
-    ghost format = { λ _ _. Binary };
 
     ghost refuses_memory_free = { true };
 
@@ -62,8 +57,6 @@ impl<T: ToSql> ToSql for Vec<T> {
     fn encode_format(&self, _ty: &PgType) -> Format {
         Format::Binary
     }
-
-    ghost checks = { λ _ _. refl };
 }
 
 /// As a `Vec` of these elements is written.
@@ -73,10 +66,6 @@ impl<'b, T: ToSql> ToSql for &'b [T] {
     ghost name = { codes "&[T]" };
 
     ghost wire = { λ ty v. wire_list T.wire ty v.now };
-
-    ghost checked = { λ ty v. checked_by (accepted_list T.accepted ty) ty (codes "&[T]") (wire_list T.wire ty v.now) };
-
-    ghost format = { λ _ _. Binary };
 
     ghost refuses_memory_free = { true };
 
@@ -106,8 +95,6 @@ impl<'b, T: ToSql> ToSql for &'b [T] {
     fn encode_format(&self, _ty: &PgType) -> Format {
         Format::Binary
     }
-
-    ghost checks = { λ _ _. refl };
 }
 
 /// As a `Vec` of these elements is written.
@@ -117,10 +104,6 @@ impl<T: ToSql, const N: usize> ToSql for [T; N] {
     ghost name = { codes "[T; N]" };
 
     ghost wire = { λ ty v. wire_fixed N T.wire ty v };
-
-    ghost checked = { λ ty v. checked_by (accepted_list T.accepted ty) ty (codes "[T; N]") (wire_fixed N T.wire ty v) };
-
-    ghost format = { λ _ _. Binary };
 
     ghost refuses_memory_free = { true };
 
@@ -148,8 +131,6 @@ impl<T: ToSql, const N: usize> ToSql for [T; N] {
     fn encode_format(&self, _ty: &PgType) -> Format {
         Format::Binary
     }
-
-    ghost checks = { λ _ _. refl };
 }
 
 /// As a `Vec` of these elements is written.
@@ -159,11 +140,6 @@ impl<T: ToSql> ToSql for BoxedSlice<T> {
     ghost name = { codes "Box<[T]>" };
 
     ghost wire = { λ ty v. wire_list T.wire ty (boxed_slice_items v) };
-
-    ghost checked = { λ ty v. checked_by (accepted_list T.accepted ty) ty (codes "Box<[T]>")
-        (wire_list T.wire ty (boxed_slice_items v)) };
-
-    ghost format = { λ _ _. Binary };
 
     ghost refuses_memory_free = { true };
 
@@ -191,8 +167,6 @@ impl<T: ToSql> ToSql for BoxedSlice<T> {
     fn encode_format(&self, _ty: &PgType) -> Format {
         Format::Binary
     }
-
-    ghost checks = { λ _ _. refl };
 }
 
 /// Whether lists of `T` are written for that type: it is an array of a type that `T` accepts.

@@ -1,8 +1,6 @@
 //! Writing lists of bits.
-ghost use Rattle.std.specs.Prelude.{true, codes, refl};
-ghost use Rattle.pg_types.specs.declared.format.Format.TheVariants.{Binary};
+ghost use Rattle.std.specs.Prelude.{true, codes};
 ghost use Rattle.pg_base.specs.Bits.{accepted_bits, wire_bits};
-ghost use Rattle.pg_write.specs.Writing.{checked_by};
 
 use crate::to_sql::{ToSql, wrong_type};
 use bytes::BytesMut;
@@ -23,10 +21,6 @@ impl ToSql for BitVec {
     ghost name = { codes "BitVec" };
 
     ghost wire = { λ _ v. wire_bits v };
-
-    ghost checked = { λ ty v. checked_by (accepted_bits ty) ty (codes "BitVec") (wire_bits v) };
-
-    ghost format = { λ _ _. Binary };
 
     ghost by_room = { λ _. Unit {0} };
 
@@ -57,6 +51,4 @@ impl ToSql for BitVec {
     fn encode_format(&self, _ty: &PgType) -> Format {
         Format::Binary
     }
-
-    ghost checks = { λ _ _. refl };
 }

@@ -1,7 +1,5 @@
 //! Writing a box.
-ghost use Rattle.std.specs.Prelude.{true, codes, refl};
-ghost use Rattle.pg_types.specs.declared.format.Format.TheVariants.{Binary};
-ghost use Rattle.pg_write.specs.Writing.{checked_by};
+ghost use Rattle.std.specs.Prelude.{true, codes};
 
 use crate::to_sql::{ToSql, wrong_type};
 use bytes::BytesMut;
@@ -17,10 +15,6 @@ impl<T: ToSql> ToSql for Box<T> {
     ghost name = { codes "Box" };
 
     ghost wire = { λ ty v. T.wire ty v.value };
-
-    ghost checked = { λ ty v. checked_by (T.accepted ty) ty (codes "Box") (T.wire ty v.value) };
-
-    ghost format = { λ _ _. Binary };
 
     ghost by_room = { λ v. T.by_room v.value };
 
@@ -50,6 +44,4 @@ impl<T: ToSql> ToSql for Box<T> {
     fn encode_format(&self, _ty: &PgType) -> Format {
         Format::Binary
     }
-
-    ghost checks = { λ _ _. refl };
 }

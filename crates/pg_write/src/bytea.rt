@@ -1,11 +1,9 @@
 //! Writing bytes.
-ghost use Rattle.std.specs.Prelude.{◌≡◌, true, codes, refl};
+ghost use Rattle.std.specs.Prelude.{◌≡◌, true, codes};
 ghost use Rattle.std.specs.Cow.{cow_slice_items};
-ghost use Rattle.pg_types.specs.declared.format.Format.TheVariants.{Binary};
 ghost use Rattle.pg_types.specs.declared.types.built_in.BuiltIn.TheVariants.{Bytea};
 ghost use Rattle.pg_base.specs.Bytea.{wire_bytes};
 ghost use Rattle.pg_types.specs.Content.{content, is_row};
-ghost use Rattle.pg_write.specs.Writing.{checked_by};
 
 use crate::to_sql::{ToSql, wrong_type};
 use bytes::BytesMut;
@@ -23,10 +21,6 @@ impl<'b> ToSql for &'b [u8] {
     ghost name = { codes "&[u8]" };
 
     ghost wire = { λ _ v. wire_bytes v.now };
-
-    ghost checked = { λ ty v. checked_by (is_row Bytea ty) ty (codes "&[u8]") (wire_bytes v.now) };
-
-    ghost format = { λ _ _. Binary };
 
     ghost by_room = { λ _. Unit {0} };
 
@@ -60,8 +54,6 @@ impl<'b> ToSql for &'b [u8] {
     fn encode_format(&self, _ty: &PgType) -> Format {
         Format::Binary
     }
-
-    ghost checks = { λ _ _. refl };
 }
 
 /// BYTEA: the bytes (`byteasend`). They are never NULL, even where there are none.
@@ -71,10 +63,6 @@ impl ToSql for Vec<u8> {
     ghost name = { codes "Vec<u8>" };
 
     ghost wire = { λ _ v. wire_bytes v.items };
-
-    ghost checked = { λ ty v. checked_by (is_row Bytea ty) ty (codes "Vec<u8>") (wire_bytes v.items) };
-
-    ghost format = { λ _ _. Binary };
 
     ghost by_room = { λ _. Unit {0} };
 
@@ -106,8 +94,6 @@ impl ToSql for Vec<u8> {
     fn encode_format(&self, _ty: &PgType) -> Format {
         Format::Binary
     }
-
-    ghost checks = { λ _ _. refl };
 }
 
 /// BYTEA: the bytes (`byteasend`). They are never NULL, even where there are none.
@@ -117,10 +103,6 @@ impl<const N: usize> ToSql for [u8; N] {
     ghost name = { codes "[u8; N]" };
 
     ghost wire = { λ _ v. wire_bytes v };
-
-    ghost checked = { λ ty v. checked_by (is_row Bytea ty) ty (codes "[u8; N]") (wire_bytes v) };
-
-    ghost format = { λ _ _. Binary };
 
     ghost by_room = { λ _. Unit {0} };
 
@@ -152,8 +134,6 @@ impl<const N: usize> ToSql for [u8; N] {
     fn encode_format(&self, _ty: &PgType) -> Format {
         Format::Binary
     }
-
-    ghost checks = { λ _ _. refl };
 }
 
 /// BYTEA: the bytes (`byteasend`). They are never NULL, even where there are none.
@@ -163,10 +143,6 @@ impl<'b> ToSql for CowSlice<'b, u8> {
     ghost name = { codes "Cow<[u8]>" };
 
     ghost wire = { λ _ v. wire_bytes (cow_slice_items v) };
-
-    ghost checked = { λ ty v. checked_by (is_row Bytea ty) ty (codes "Cow<[u8]>") (wire_bytes (cow_slice_items v)) };
-
-    ghost format = { λ _ _. Binary };
 
     ghost by_room = { λ _. Unit {0} };
 
@@ -200,6 +176,4 @@ impl<'b> ToSql for CowSlice<'b, u8> {
     fn encode_format(&self, _ty: &PgType) -> Format {
         Format::Binary
     }
-
-    ghost checks = { λ _ _. refl };
 }

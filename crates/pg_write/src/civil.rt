@@ -1,15 +1,13 @@
 //! Writing dates, times of day, and timestamps of `jiff`.
-ghost use Rattle.std.specs.Prelude.{◌≡◌, ◌/◌, ◌-ℤ◌, pos, true, codes, refl};
+ghost use Rattle.std.specs.Prelude.{◌≡◌, ◌/◌, ◌-ℤ◌, pos, true, codes};
 ghost use Rattle.jiff.specs.Words.{civil_nanos, epoch_day, time_nanos};
 ghost use Rattle.pg_base.specs.Civil.{base_day, instant_nanos, wire_date, wire_datetime, wire_instant, wire_time};
 ghost use Rattle.pg_types.specs.Content.{is_row};
 ghost use Rattle.pg_base.specs.Timestamps.{whole_micros};
-ghost use Rattle.pg_types.specs.declared.format.Format.TheVariants.{Binary};
 ghost use Rattle.pg_types.specs.declared.types.built_in.BuiltIn.TheVariants.{Date as DateRow};
 ghost use Rattle.pg_types.specs.declared.types.built_in.BuiltIn.TheVariants.{Time as TimeRow};
 ghost use Rattle.pg_types.specs.declared.types.built_in.BuiltIn.TheVariants.{Timestamp as TimestampRow};
 ghost use Rattle.pg_types.specs.declared.types.built_in.BuiltIn.TheVariants.{Timestamptz};
-ghost use Rattle.pg_write.specs.Writing.{checked_by};
 
 use crate::to_sql::{ToSql, wrong_type};
 use bytes::BytesMut;
@@ -60,10 +58,6 @@ impl ToSql for Date {
 
     ghost wire = { λ _ v. wire_date v };
 
-    ghost checked = { λ ty v. checked_by (is_row DateRow ty) ty (codes "jiff::civil::Date") (wire_date v) };
-
-    ghost format = { λ _ _. Binary };
-
     ghost by_room = { λ _. Unit {0} };
 
     ghost refuses_memory_free = { true };
@@ -94,8 +88,6 @@ impl ToSql for Date {
     fn encode_format(&self, _ty: &PgType) -> Format {
         Format::Binary
     }
-
-    ghost checks = { λ _ _. refl };
 }
 
 /// TIME: 8 bytes, big-endian, in two's complement, the microseconds from midnight, truncated
@@ -106,10 +98,6 @@ impl ToSql for Time {
     ghost name = { codes "jiff::civil::Time" };
 
     ghost wire = { λ _ v. wire_time v };
-
-    ghost checked = { λ ty v. checked_by (is_row TimeRow ty) ty (codes "jiff::civil::Time") (wire_time v) };
-
-    ghost format = { λ _ _. Binary };
 
     ghost by_room = { λ _. Unit {0} };
 
@@ -141,8 +129,6 @@ impl ToSql for Time {
     fn encode_format(&self, _ty: &PgType) -> Format {
         Format::Binary
     }
-
-    ghost checks = { λ _ _. refl };
 }
 
 /// TIMESTAMP: 8 bytes, big-endian, in two's complement, the microseconds from 2000-01-01 00:00:00,
@@ -154,11 +140,6 @@ impl ToSql for DateTime {
     ghost name = { codes "jiff::civil::DateTime" };
 
     ghost wire = { λ _ v. wire_datetime v };
-
-    ghost checked = { λ ty v. checked_by (is_row TimestampRow ty) ty (codes "jiff::civil::DateTime")
-        (wire_datetime v) };
-
-    ghost format = { λ _ _. Binary };
 
     ghost by_room = { λ _. Unit {0} };
 
@@ -190,8 +171,6 @@ impl ToSql for DateTime {
     fn encode_format(&self, _ty: &PgType) -> Format {
         Format::Binary
     }
-
-    ghost checks = { λ _ _. refl };
 }
 
 /// TIMESTAMPTZ: 8 bytes, big-endian, in two's complement, the microseconds from 2000-01-01 00:00:00
@@ -203,10 +182,6 @@ impl ToSql for Timestamp {
     ghost name = { codes "jiff::Timestamp" };
 
     ghost wire = { λ _ v. wire_instant v };
-
-    ghost checked = { λ ty v. checked_by (is_row Timestamptz ty) ty (codes "jiff::Timestamp") (wire_instant v) };
-
-    ghost format = { λ _ _. Binary };
 
     ghost by_room = { λ _. Unit {0} };
 
@@ -238,6 +213,4 @@ impl ToSql for Timestamp {
     fn encode_format(&self, _ty: &PgType) -> Format {
         Format::Binary
     }
-
-    ghost checks = { λ _ _. refl };
 }

@@ -1,10 +1,8 @@
 //! Writing maps of texts.
-ghost use Rattle.std.specs.Prelude.{◌≡◌, map, true, codes, refl, IfOk, IfErr};
+ghost use Rattle.std.specs.Prelude.{◌≡◌, map, true, codes, IfOk, IfErr};
 ghost use Rattle.pg_types.specs.declared.fault.Fault.TheVariants.{Memory};
-ghost use Rattle.pg_types.specs.declared.format.Format.TheVariants.{Binary};
 ghost use Rattle.pg_base.specs.Hstore.{in_key_order, borrowed_entry, owned_entry, wire_hstore};
 ghost use Rattle.pg_base.specs.Texts.{is_named};
-ghost use Rattle.pg_write.specs.Writing.{checked_by};
 
 use crate::to_sql::{ToSql, wrong_type};
 use bytes::BytesMut;
@@ -27,11 +25,6 @@ impl<S: BuildHasher + Drop> ToSql for HashMap<String, Option<String>, S> {
     ghost name = { codes "HashMap" };
 
     ghost wire = { λ _ m. wire_hstore (map owned_entry m.entries) };
-
-    ghost checked = { λ ty m. checked_by (is_named (codes "hstore") ty) ty (codes "HashMap")
-        (wire_hstore (map owned_entry m.entries)) };
-
-    ghost format = { λ _ _. Binary };
 
     ghost refuses_memory_free = { true };
 
@@ -61,8 +54,6 @@ impl<S: BuildHasher + Drop> ToSql for HashMap<String, Option<String>, S> {
     fn encode_format(&self, _ty: &PgType) -> Format {
         Format::Binary
     }
-
-    ghost checks = { λ _ _. refl };
 }
 
 /// The map's entries, borrowed, in the order of their keys' bytes.

@@ -1,11 +1,9 @@
 //! Writing documents.
-ghost use Rattle.std.specs.Prelude.{true, codes, refl};
+ghost use Rattle.std.specs.Prelude.{true, codes};
 ghost use Rattle.serde_json.specs.View.{view};
-ghost use Rattle.pg_types.specs.declared.format.Format.TheVariants.{Binary};
 ghost use Rattle.pg_types.specs.declared.types.built_in.BuiltIn.TheVariants.{Jsonb};
 ghost use Rattle.pg_types.specs.Content.{is_row};
 ghost use Rattle.pg_base.specs.Json.{accepted_json, wire_json};
-ghost use Rattle.pg_write.specs.Writing.{checked_by};
 
 use crate::to_sql::{ToSql, wrong_type};
 use bytes::BytesMut;
@@ -27,11 +25,6 @@ impl ToSql for Value {
     ghost name = { codes "serde_json::Value" };
 
     ghost wire = { λ ty v. wire_json (is_row Jsonb ty) (view v) };
-
-    ghost checked = { λ ty v. checked_by (accepted_json ty) ty (codes "serde_json::Value")
-        (wire_json (is_row Jsonb ty) (view v)) };
-
-    ghost format = { λ _ _. Binary };
 
     ghost refuses_memory_free = { true };
 
@@ -70,6 +63,4 @@ impl ToSql for Value {
     fn encode_format(&self, _ty: &PgType) -> Format {
         Format::Binary
     }
-
-    ghost checks = { λ _ _. refl };
 }

@@ -1,11 +1,9 @@
 //! Writing log positions.
-ghost use Rattle.std.specs.Prelude.{true, codes, refl};
+ghost use Rattle.std.specs.Prelude.{true, codes};
 ghost use Rattle.std.specs.Int.{w64};
-ghost use Rattle.pg_types.specs.declared.format.Format.TheVariants.{Binary};
 ghost use Rattle.pg_types.specs.declared.types.built_in.BuiltIn.TheVariants.{PgLsn as PgLsnRow};
 ghost use Rattle.pg_types.specs.Content.{is_row};
 ghost use Rattle.pg_base.specs.Numbers.{wire_unsigned};
-ghost use Rattle.pg_write.specs.Writing.{checked_by};
 
 use crate::to_sql::{ToSql, wrong_type};
 use bytes::BytesMut;
@@ -23,10 +21,6 @@ impl ToSql for PgLsn {
     ghost name = { codes "PgLsn" };
 
     ghost wire = { λ _ v. wire_unsigned w64 v };
-
-    ghost checked = { λ ty v. checked_by (is_row PgLsnRow ty) ty (codes "PgLsn") (wire_unsigned w64 v) };
-
-    ghost format = { λ _ _. Binary };
 
     ghost by_room = { λ _. Unit {0} };
 
@@ -58,6 +52,4 @@ impl ToSql for PgLsn {
     fn encode_format(&self, _ty: &PgType) -> Format {
         Format::Binary
     }
-
-    ghost checks = { λ _ _. refl };
 }

@@ -1,11 +1,9 @@
 //! Writing Internet addresses and MAC addresses.
-ghost use Rattle.std.specs.Prelude.{true, codes, refl};
-ghost use Rattle.pg_types.specs.declared.format.Format.TheVariants.{Binary};
+ghost use Rattle.std.specs.Prelude.{true, codes};
 ghost use Rattle.pg_types.specs.declared.types.built_in.BuiltIn.TheVariants.{Cidr, Inet, Macaddr};
 ghost use Rattle.pg_types.specs.Content.{is_row};
 ghost use Rattle.pg_base.specs.FixedBytes.{wire_fixed_bytes};
 ghost use Rattle.pg_base.specs.Network.{wire_address, wire_cidr, wire_inet};
-ghost use Rattle.pg_write.specs.Writing.{checked_by};
 
 use crate::to_sql::{ToSql, wrong_type};
 use bytes::BytesMut;
@@ -25,10 +23,6 @@ impl ToSql for IpAddr {
     ghost name = { codes "IpAddr" };
 
     ghost wire = { λ _ v. wire_address v };
-
-    ghost checked = { λ ty v. checked_by (is_row Inet ty) ty (codes "IpAddr") (wire_address v) };
-
-    ghost format = { λ _ _. Binary };
 
     ghost by_room = { λ _. Unit {0} };
 
@@ -60,8 +54,6 @@ impl ToSql for IpAddr {
     fn encode_format(&self, _ty: &PgType) -> Format {
         Format::Binary
     }
-
-    ghost checks = { λ _ _. refl };
 }
 
 /// INET (`inet_send`): as for `IpAddr`, with the netmask of the value.
@@ -71,10 +63,6 @@ impl ToSql for IpInet {
     ghost name = { codes "IpInet" };
 
     ghost wire = { λ _ v. wire_inet v };
-
-    ghost checked = { λ ty v. checked_by (is_row Inet ty) ty (codes "IpInet") (wire_inet v) };
-
-    ghost format = { λ _ _. Binary };
 
     ghost by_room = { λ _. Unit {0} };
 
@@ -106,8 +94,6 @@ impl ToSql for IpInet {
     fn encode_format(&self, _ty: &PgType) -> Format {
         Format::Binary
     }
-
-    ghost checks = { λ _ _. refl };
 }
 
 /// CIDR (`cidr_send`): as INET for `IpInet`.
@@ -117,10 +103,6 @@ impl ToSql for IpCidr {
     ghost name = { codes "IpCidr" };
 
     ghost wire = { λ _ v. wire_cidr v };
-
-    ghost checked = { λ ty v. checked_by (is_row Cidr ty) ty (codes "IpCidr") (wire_cidr v) };
-
-    ghost format = { λ _ _. Binary };
 
     ghost by_room = { λ _. Unit {0} };
 
@@ -152,8 +134,6 @@ impl ToSql for IpCidr {
     fn encode_format(&self, _ty: &PgType) -> Format {
         Format::Binary
     }
-
-    ghost checks = { λ _ _. refl };
 }
 
 /// MACADDR: 6 bytes, in the order of its text (`macaddr_send`).
@@ -163,10 +143,6 @@ impl ToSql for MacAddress {
     ghost name = { codes "MacAddress" };
 
     ghost wire = { λ _ v. wire_fixed_bytes 6 v };
-
-    ghost checked = { λ ty v. checked_by (is_row Macaddr ty) ty (codes "MacAddress") (wire_fixed_bytes 6 v) };
-
-    ghost format = { λ _ _. Binary };
 
     ghost by_room = { λ _. Unit {0} };
 
@@ -198,6 +174,4 @@ impl ToSql for MacAddress {
     fn encode_format(&self, _ty: &PgType) -> Format {
         Format::Binary
     }
-
-    ghost checks = { λ _ _. refl };
 }

@@ -1,11 +1,9 @@
 //! Writing integers and booleans.
-ghost use Rattle.std.specs.Prelude.{true, codes, refl};
+ghost use Rattle.std.specs.Prelude.{true, codes};
 ghost use Rattle.std.specs.Int.{w8, w16, w32, w64};
-ghost use Rattle.pg_types.specs.declared.format.Format.TheVariants.{Binary};
 ghost use Rattle.pg_types.specs.declared.types.built_in.BuiltIn.TheVariants.{Bool, Char, Int2, Int4, Int8, Oid};
 ghost use Rattle.pg_types.specs.Content.{is_row};
 ghost use Rattle.pg_base.specs.Numbers.{wire_bool, wire_signed, wire_unsigned};
-ghost use Rattle.pg_write.specs.Writing.{checked_by};
 
 use crate::to_sql::{ToSql, wrong_type};
 use bytes::BytesMut;
@@ -24,10 +22,6 @@ impl ToSql for bool {
     ghost name = { codes "bool" };
 
     ghost wire = { λ _ v. wire_bool v };
-
-    ghost checked = { λ ty v. checked_by (is_row Bool ty) ty (codes "bool") (wire_bool v) };
-
-    ghost format = { λ _ _. Binary };
 
     ghost by_room = { λ _. Unit {0} };
 
@@ -59,8 +53,6 @@ impl ToSql for bool {
     fn encode_format(&self, _ty: &PgType) -> Format {
         Format::Binary
     }
-
-    ghost checks = { λ _ _. refl };
 }
 
 /// CHAR: 1 byte, in two's complement (`charsend`).
@@ -70,10 +62,6 @@ impl ToSql for i8 {
     ghost name = { codes "i8" };
 
     ghost wire = { λ _ v. wire_signed w8 v };
-
-    ghost checked = { λ ty v. checked_by (is_row Char ty) ty (codes "i8") (wire_signed w8 v) };
-
-    ghost format = { λ _ _. Binary };
 
     ghost by_room = { λ _. Unit {0} };
 
@@ -105,8 +93,6 @@ impl ToSql for i8 {
     fn encode_format(&self, _ty: &PgType) -> Format {
         Format::Binary
     }
-
-    ghost checks = { λ _ _. refl };
 }
 
 /// INT2: 2 bytes, big-endian, in two's complement (`int2send`).
@@ -116,10 +102,6 @@ impl ToSql for i16 {
     ghost name = { codes "i16" };
 
     ghost wire = { λ _ v. wire_signed w16 v };
-
-    ghost checked = { λ ty v. checked_by (is_row Int2 ty) ty (codes "i16") (wire_signed w16 v) };
-
-    ghost format = { λ _ _. Binary };
 
     ghost by_room = { λ _. Unit {0} };
 
@@ -151,8 +133,6 @@ impl ToSql for i16 {
     fn encode_format(&self, _ty: &PgType) -> Format {
         Format::Binary
     }
-
-    ghost checks = { λ _ _. refl };
 }
 
 /// INT4: 4 bytes, big-endian, in two's complement (`int4send`).
@@ -162,10 +142,6 @@ impl ToSql for i32 {
     ghost name = { codes "i32" };
 
     ghost wire = { λ _ v. wire_signed w32 v };
-
-    ghost checked = { λ ty v. checked_by (is_row Int4 ty) ty (codes "i32") (wire_signed w32 v) };
-
-    ghost format = { λ _ _. Binary };
 
     ghost by_room = { λ _. Unit {0} };
 
@@ -197,8 +173,6 @@ impl ToSql for i32 {
     fn encode_format(&self, _ty: &PgType) -> Format {
         Format::Binary
     }
-
-    ghost checks = { λ _ _. refl };
 }
 
 /// INT8: 8 bytes, big-endian, in two's complement (`int8send`).
@@ -208,10 +182,6 @@ impl ToSql for i64 {
     ghost name = { codes "i64" };
 
     ghost wire = { λ _ v. wire_signed w64 v };
-
-    ghost checked = { λ ty v. checked_by (is_row Int8 ty) ty (codes "i64") (wire_signed w64 v) };
-
-    ghost format = { λ _ _. Binary };
 
     ghost by_room = { λ _. Unit {0} };
 
@@ -243,8 +213,6 @@ impl ToSql for i64 {
     fn encode_format(&self, _ty: &PgType) -> Format {
         Format::Binary
     }
-
-    ghost checks = { λ _ _. refl };
 }
 
 /// OID: 4 bytes, unsigned, big-endian (`oidsend`).
@@ -254,10 +222,6 @@ impl ToSql for u32 {
     ghost name = { codes "u32" };
 
     ghost wire = { λ _ v. wire_unsigned w32 v };
-
-    ghost checked = { λ ty v. checked_by (is_row Oid ty) ty (codes "u32") (wire_unsigned w32 v) };
-
-    ghost format = { λ _ _. Binary };
 
     ghost by_room = { λ _. Unit {0} };
 
@@ -289,6 +253,4 @@ impl ToSql for u32 {
     fn encode_format(&self, _ty: &PgType) -> Format {
         Format::Binary
     }
-
-    ghost checks = { λ _ _. refl };
 }

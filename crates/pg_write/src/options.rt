@@ -1,6 +1,5 @@
 //! Writing an option.
-ghost use Rattle.std.specs.Prelude.{true, codes, refl};
-ghost use Rattle.pg_write.specs.Writing.{checked_by};
+ghost use Rattle.std.specs.Prelude.{true, codes};
 ghost use Rattle.pg_base.specs.Options.{NoneOr};
 ghost use Rattle.pg_write.specs.OptionWriting.{wire_option, format_option};
 
@@ -18,8 +17,6 @@ impl<T: ToSql> ToSql for Option<T> {
     ghost name = { codes "Option" };
 
     ghost wire = { λ ty. wire_option (T.wire ty) };
-
-    ghost checked = { λ ty v. checked_by (T.accepted ty) ty (codes "Option") (wire_option (T.wire ty) v) };
 
     ghost format = { λ ty. format_option (T.format ty) };
 
@@ -57,6 +54,4 @@ impl<T: ToSql> ToSql for Option<T> {
             None => Format::Binary,
         }
     }
-
-    ghost checks = { λ _ _. refl };
 }

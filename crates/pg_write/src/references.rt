@@ -1,6 +1,5 @@
 //! Writing through a reference.
-ghost use Rattle.std.specs.Prelude.{true, codes, refl};
-ghost use Rattle.pg_write.specs.Writing.{checked_by};
+ghost use Rattle.std.specs.Prelude.{true, codes};
 
 use crate::to_sql::{ToSql, wrong_type};
 use bytes::BytesMut;
@@ -16,8 +15,6 @@ impl<'b, T: ToSql> ToSql for &'b T {
     ghost name = { codes "&T" };
 
     ghost wire = { λ ty v. T.wire ty v.now };
-
-    ghost checked = { λ ty v. checked_by (T.accepted ty) ty (codes "&T") (T.wire ty v.now) };
 
     ghost format = { λ ty v. T.format ty v.now };
 
@@ -49,6 +46,4 @@ impl<'b, T: ToSql> ToSql for &'b T {
     fn encode_format(&self, ty: &PgType) -> Format {
         (**self).encode_format(ty)
     }
-
-    ghost checks = { λ _ _. refl };
 }

@@ -1,13 +1,11 @@
 //! Writing texts.
-ghost use Rattle.std.specs.Prelude.{◌≡◌, Some, true, codes, refl, string_bytes};
+ghost use Rattle.std.specs.Prelude.{◌≡◌, Some, true, codes, string_bytes};
 ghost use Rattle.std.specs.Box.{boxed_str_bytes};
 ghost use Rattle.std.specs.Cow.{cow_str_bytes};
-ghost use Rattle.pg_types.specs.declared.format.Format.TheVariants.{Binary};
 ghost use Rattle.pg_base.specs.Appending.{Appends};
 ghost use Rattle.pg_types.specs.Content.{content};
 ghost use Rattle.pg_base.specs.Cells.{versioned_cell};
 ghost use Rattle.pg_base.specs.Texts.{accepted_text, has_version, wire_text};
-ghost use Rattle.pg_write.specs.Writing.{checked_by};
 
 use crate::to_sql::{ToSql, wrong_type};
 use bytes::BytesMut;
@@ -40,10 +38,6 @@ impl<'b> ToSql for &'b str {
     ghost name = { codes "&str" };
 
     ghost wire = { λ ty v. wire_text (has_version ty) v.now };
-
-    ghost checked = { λ ty v. checked_by (accepted_text ty) ty (codes "&str") (wire_text (has_version ty) v.now) };
-
-    ghost format = { λ _ _. Binary };
 
     ghost by_room = { λ _. Unit {0} };
 
@@ -78,8 +72,6 @@ impl<'b> ToSql for &'b str {
     fn encode_format(&self, _ty: &PgType) -> Format {
         Format::Binary
     }
-
-    ghost checks = { λ _ _. refl };
 }
 
 /// VARCHAR, TEXT, BPCHAR, NAME, UNKNOWN, and any type named citext, ltree, lquery or ltxtquery: the
@@ -91,11 +83,6 @@ impl ToSql for String {
     ghost name = { codes "String" };
 
     ghost wire = { λ ty v. wire_text (has_version ty) (string_bytes v) };
-
-    ghost checked = { λ ty v. checked_by (accepted_text ty) ty (codes "String")
-        (wire_text (has_version ty) (string_bytes v)) };
-
-    ghost format = { λ _ _. Binary };
 
     ghost by_room = { λ _. Unit {0} };
 
@@ -128,8 +115,6 @@ impl ToSql for String {
     fn encode_format(&self, _ty: &PgType) -> Format {
         Format::Binary
     }
-
-    ghost checks = { λ _ _. refl };
 }
 
 /// VARCHAR, TEXT, BPCHAR, NAME, UNKNOWN, and any type named citext, ltree, lquery or ltxtquery: the
@@ -141,11 +126,6 @@ impl ToSql for BoxedStr {
     ghost name = { codes "Box<str>" };
 
     ghost wire = { λ ty v. wire_text (has_version ty) (boxed_str_bytes v) };
-
-    ghost checked = { λ ty v. checked_by (accepted_text ty) ty (codes "Box<str>")
-        (wire_text (has_version ty) (boxed_str_bytes v)) };
-
-    ghost format = { λ _ _. Binary };
 
     ghost by_room = { λ _. Unit {0} };
 
@@ -178,8 +158,6 @@ impl ToSql for BoxedStr {
     fn encode_format(&self, _ty: &PgType) -> Format {
         Format::Binary
     }
-
-    ghost checks = { λ _ _. refl };
 }
 
 /// VARCHAR, TEXT, BPCHAR, NAME, UNKNOWN, and any type named citext, ltree, lquery or ltxtquery: the
@@ -191,11 +169,6 @@ impl<'b> ToSql for CowStr<'b> {
     ghost name = { codes "Cow<str>" };
 
     ghost wire = { λ ty v. wire_text (has_version ty) (cow_str_bytes v) };
-
-    ghost checked = { λ ty v. checked_by (accepted_text ty) ty (codes "Cow<str>")
-        (wire_text (has_version ty) (cow_str_bytes v)) };
-
-    ghost format = { λ _ _. Binary };
 
     ghost by_room = { λ _. Unit {0} };
 
@@ -230,6 +203,4 @@ impl<'b> ToSql for CowStr<'b> {
     fn encode_format(&self, _ty: &PgType) -> Format {
         Format::Binary
     }
-
-    ghost checks = { λ _ _. refl };
 }

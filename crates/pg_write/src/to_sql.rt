@@ -1,10 +1,11 @@
 //! The trait of writing.
-ghost use Rattle.std.specs.Prelude.{◌≡◌, ◌≤◌, ℕ, List, Bool, IsTrue, IsSome, true, false, length};
+ghost use Rattle.std.specs.Prelude.{◌≡◌, ◌≤◌, ℕ, List, Bool, IsTrue, IsSome, false, length};
 ghost use Rattle.pg_types.specs.declared.format.Format.{Format};
+ghost use Rattle.pg_types.specs.declared.format.Format.TheVariants.{Binary};
 ghost use Rattle.pg_types.specs.Content.{Content, content, IsBuiltIn};
 ghost use Rattle.pg_types.specs.Faults.{NeverMemory, refusal_of};
 ghost use Rattle.pg_base.specs.Appending.{Wire};
-ghost use Rattle.pg_write.specs.Writing.{Writes, KeepsRoomRule, checked_by, IsWrongType};
+ghost use Rattle.pg_write.specs.Writing.{Writes, KeepsRoomRule, checked_wire, IsWrongType};
 
 use bytes::BytesMut;
 use pg_base::fault::{Fault, REASON_LEN, WrongType};
@@ -27,11 +28,8 @@ pub trait ToSql: fmt::Debug + Drop {
     /// What the value is written as for that type: NULL, bytes, or a fault.
     ghost wire: { Content → Self → Wire };
 
-    /// What checked writing of the value writes.
-    ghost checked: { Content → Self → Wire };
-
-    /// The format of the value for that type.
-    ghost format: { Content → Self → Format };
+    /// The format of the value for that type: binary, where an implementation says nothing.
+    ghost format: { Content → Self → Format } = { λ _ _. Binary };
 
     /// Where the buffer has room for the cell, writing the value takes no memory. An implementation
     /// that says nothing claims it of no value.
@@ -65,7 +63,8 @@ pub trait ToSql: fmt::Debug + Drop {
         ty: &PgType,
         out: &mut BytesMut,
     ) -> Result<IsNull, Fault>
-        ensures writes { Writes (checked (content ty.now) self.now) out.old.items out.new.items result }
+        ensures writes { Writes (checked_wire accepted name wire (content ty.now) self.now)
+            out.old.items out.new.items result }
         ensures room { by_room self.now → IsTrue (accepted (content ty.now))
             → KeepsRoomRule (wire (content ty.now) self.now) out.old.spare result }
         ensures never_memory { IsTrue refuses_memory_free → accepted (content ty.now) ≡ false
@@ -75,9 +74,6 @@ pub trait ToSql: fmt::Debug + Drop {
     /// type of this library but a reference or a `Some` around a user's own.
     fn encode_format(&self, ty: &PgType) -> Format
         ensures { result ≡ format (content ty.now) self.now };
-
-    /// Law: checked writing writes the written form of an accepted type, and refuses every other.
-    ghost checks: { (ty : Content) (v : Self) → checked ty v ≡ checked_by (accepted ty) ty name (wire ty v) };
 }
 
 /// Does what `to_sql` does where the type is accepted, and answers [`WrongType`] with the name
@@ -90,8 +86,7 @@ pub fn to_sql_checked_as<T: ToSql>(
     out: &mut BytesMut,
 ) -> Result<IsNull, Fault>
     requires { length rust.now ≤ REASON_LEN }
-    ensures writes { Writes (checked_by (T.accepted (content ty.now)) (content ty.now) rust.now
-        (T.wire (content ty.now) v.now))
+    ensures writes { Writes (checked_wire T.accepted rust.now T.wire (content ty.now) v.now)
         out.old.items out.new.items result }
     ensures room { T.by_room v.now → IsTrue (T.accepted (content ty.now))
         → KeepsRoomRule (T.wire (content ty.now) v.now) out.old.spare result }

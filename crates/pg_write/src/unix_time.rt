@@ -1,8 +1,6 @@
 //! Writing timestamps.
-ghost use Rattle.std.specs.Prelude.{true, codes, refl};
-ghost use Rattle.pg_types.specs.declared.format.Format.TheVariants.{Binary};
+ghost use Rattle.std.specs.Prelude.{true, codes};
 ghost use Rattle.pg_base.specs.Timestamps.{accepts_timestamps, nanos_of, wire_timestamp};
-ghost use Rattle.pg_write.specs.Writing.{checked_by};
 
 use crate::to_sql::{ToSql, wrong_type};
 use bytes::BytesMut;
@@ -23,10 +21,6 @@ impl ToSql for UnixTime {
     ghost name = { codes "UnixTime" };
 
     ghost wire = { λ _ v. wire_timestamp (nanos_of v) };
-
-    ghost checked = { λ ty v. checked_by (accepts_timestamps ty) ty (codes "UnixTime") (wire_timestamp (nanos_of v)) };
-
-    ghost format = { λ _ _. Binary };
 
     ghost by_room = { λ _. Unit {0} };
 
@@ -58,6 +52,4 @@ impl ToSql for UnixTime {
     fn encode_format(&self, _ty: &PgType) -> Format {
         Format::Binary
     }
-
-    ghost checks = { λ _ _. refl };
 }

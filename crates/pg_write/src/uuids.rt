@@ -1,10 +1,8 @@
 //! Writing UUIDs.
-ghost use Rattle.std.specs.Prelude.{true, codes, refl};
-ghost use Rattle.pg_types.specs.declared.format.Format.TheVariants.{Binary};
+ghost use Rattle.std.specs.Prelude.{true, codes};
 ghost use Rattle.pg_types.specs.declared.types.built_in.BuiltIn.TheVariants.{Uuid as UuidRow};
 ghost use Rattle.pg_types.specs.Content.{is_row};
 ghost use Rattle.pg_base.specs.FixedBytes.{wire_fixed_bytes};
-ghost use Rattle.pg_write.specs.Writing.{checked_by};
 
 use crate::to_sql::{ToSql, wrong_type};
 use bytes::BytesMut;
@@ -22,10 +20,6 @@ impl ToSql for Uuid {
     ghost name = { codes "Uuid" };
 
     ghost wire = { λ _ v. wire_fixed_bytes 16 v };
-
-    ghost checked = { λ ty v. checked_by (is_row UuidRow ty) ty (codes "Uuid") (wire_fixed_bytes 16 v) };
-
-    ghost format = { λ _ _. Binary };
 
     ghost by_room = { λ _. Unit {0} };
 
@@ -57,6 +51,4 @@ impl ToSql for Uuid {
     fn encode_format(&self, _ty: &PgType) -> Format {
         Format::Binary
     }
-
-    ghost checks = { λ _ _. refl };
 }

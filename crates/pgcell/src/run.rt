@@ -18,7 +18,7 @@ use std::io::{ErrorKind, Read, Write};
 mod tests;
 
 /// Why a run stopped before each line was answered.
-#[derive(Clone, Copy, Debug, PartialEq, Eq)]
+#[derive(Clone, Copy, Debug)]
 pub enum RunFault {
     /// The reader failed.
     Read,

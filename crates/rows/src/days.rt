@@ -1,6 +1,5 @@
 //! User-defined Rust types that convert DATE.
 
-use pg_base::acceptance::is_date;
 use postgres_types::private::BytesMut;
 use postgres_types::protocol::{int4_from_sql, int4_to_sql};
 use postgres_types::{Fault, Finite, Format, FromSql, IsNull, Paired, ToSql, Type, WrongType};
@@ -47,7 +46,7 @@ impl<'a> FromSql<'a> for Days {
     }
 
     fn accepts(ty: &Type) -> bool {
-        is_date(ty)
+        ty.is(&Type::DATE)
     }
 }
 
@@ -58,15 +57,12 @@ impl ToSql for Days {
     ghost use Rattle.pg_types.specs.declared.types.built_in.BuiltIn.TheVariants.{Date};
     ghost use Rattle.postgres_types.specs.Content.{is_row};
     ghost use Rattle.postgres_types.specs.Numbers.{wire_signed};
-    ghost use Rattle.postgres_types.specs.Writing.{checked_by};
 
     ghost accepted = { is_row Date };
 
     ghost name = { codes "Days" };
 
     ghost wire = { λ _ v. wire_signed w32 v.0 };
-
-    ghost checked = { λ ty v. checked_by (is_row Date ty) ty (codes "Days") (wire_signed w32 v.0) };
 
     ghost format = { λ _ _. Text };
 
@@ -76,7 +72,7 @@ impl ToSql for Days {
     }
 
     fn accepts(ty: &Type) -> bool {
-        is_date(ty)
+        ty.is(&Type::DATE)
     }
 
     fn to_sql_checked(
@@ -95,8 +91,6 @@ impl ToSql for Days {
     fn encode_format(&self, _ty: &Type) -> Format {
         Format::Text
     }
-
-    ghost checks = { λ _ _. refl };
 }
 
 /// Days are read back as themselves.
@@ -163,6 +157,6 @@ impl<'a> FromSql<'a> for NoDay {
     }
 
     fn accepts(ty: &Type) -> bool {
-        is_date(ty)
+        ty.is(&Type::DATE)
     }
 }

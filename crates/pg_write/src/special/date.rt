@@ -1,9 +1,7 @@
 //! Writing dates with infinities.
-ghost use Rattle.std.specs.Prelude.{true, codes, refl};
+ghost use Rattle.std.specs.Prelude.{true, codes};
 ghost use Rattle.std.specs.Int.{w32};
-ghost use Rattle.pg_types.specs.declared.format.Format.TheVariants.{Binary};
 ghost use Rattle.pg_base.specs.Special.{InfinityOr, accepted_date, date_view, wire_special};
-ghost use Rattle.pg_write.specs.Writing.{checked_by};
 
 use crate::to_sql::{ToSql, wrong_type};
 use bytes::BytesMut;
@@ -23,11 +21,6 @@ impl<T: ToSql> ToSql for Date<T> {
     ghost name = { codes "Date" };
 
     ghost wire = { λ ty v. wire_special w32 (T.wire ty) (date_view v) };
-
-    ghost checked = { λ ty v. checked_by (accepted_date T.accepted ty) ty (codes "Date")
-        (wire_special w32 (T.wire ty) (date_view v)) };
-
-    ghost format = { λ _ _. Binary };
 
     ghost by_room = { λ v. InfinityOr T.by_room (date_view v) };
 
@@ -63,6 +56,4 @@ impl<T: ToSql> ToSql for Date<T> {
     fn encode_format(&self, _ty: &PgType) -> Format {
         Format::Binary
     }
-
-    ghost checks = { λ _ _. refl };
 }

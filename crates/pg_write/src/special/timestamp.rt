@@ -1,9 +1,7 @@
 //! Writing timestamps with infinities.
-ghost use Rattle.std.specs.Prelude.{true, codes, refl};
+ghost use Rattle.std.specs.Prelude.{true, codes};
 ghost use Rattle.std.specs.Int.{w64};
-ghost use Rattle.pg_types.specs.declared.format.Format.TheVariants.{Binary};
 ghost use Rattle.pg_base.specs.Special.{InfinityOr, accepted_timestamp, timestamp_view, wire_special};
-ghost use Rattle.pg_write.specs.Writing.{checked_by};
 
 use crate::to_sql::{ToSql, wrong_type};
 use bytes::BytesMut;
@@ -24,11 +22,6 @@ impl<T: ToSql> ToSql for Timestamp<T> {
     ghost name = { codes "Timestamp" };
 
     ghost wire = { λ ty v. wire_special w64 (T.wire ty) (timestamp_view v) };
-
-    ghost checked = { λ ty v. checked_by (accepted_timestamp T.accepted ty) ty (codes "Timestamp")
-        (wire_special w64 (T.wire ty) (timestamp_view v)) };
-
-    ghost format = { λ _ _. Binary };
 
     ghost by_room = { λ v. InfinityOr T.by_room (timestamp_view v) };
 
@@ -64,6 +57,4 @@ impl<T: ToSql> ToSql for Timestamp<T> {
     fn encode_format(&self, _ty: &PgType) -> Format {
         Format::Binary
     }
-
-    ghost checks = { λ _ _. refl };
 }

@@ -274,7 +274,7 @@ fn a_failed_read_leaves_whole_answers(rt: HostRuntime) -> Result<(), Fail> {
         };
         let mut output = make_narrow(rt.alloc(), ROOM)?;
         let outcome = run(rt.alloc(), &mut input, &mut output);
-        same(outcome, Err(RunFault::Read))?;
+        holds(matches!(outcome, Err(RunFault::Read)), "no failed read")?;
         same(output.taken.as_slice(), FIRST_TWO)?;
     }
     Ok(())
@@ -292,7 +292,7 @@ fn a_read_that_fails_at_the_end_loses_no_whole_line(rt: HostRuntime) -> Result<(
         };
         let mut output = make_narrow(rt.alloc(), ROOM)?;
         let outcome = run(rt.alloc(), &mut input, &mut output);
-        same(outcome, Err(RunFault::Read))?;
+        holds(matches!(outcome, Err(RunFault::Read)), "no failed read")?;
         same(output.taken.as_slice(), answers)?;
     }
     Ok(())
@@ -304,7 +304,7 @@ fn a_failed_write_leaves_a_beginning(rt: HostRuntime) -> Result<(), Fail> {
         let mut input = INPUT;
         let mut output = make_narrow(rt.alloc(), room)?;
         let outcome = run(rt.alloc(), &mut input, &mut output);
-        same(outcome, Err(RunFault::Write))?;
+        holds(matches!(outcome, Err(RunFault::Write)), "no failed write")?;
         same(output.taken.as_slice(), &OUTPUT[..room])?;
     }
     Ok(())
@@ -314,7 +314,7 @@ fn a_failed_write_leaves_a_beginning(rt: HostRuntime) -> Result<(), Fail> {
 fn a_writer_that_takes_nothing_is_a_failed_write(rt: HostRuntime) -> Result<(), Fail> {
     let mut input = INPUT;
     let outcome = run(rt.alloc(), &mut input, &mut Full);
-    same(outcome, Err(RunFault::Write))
+    holds(matches!(outcome, Err(RunFault::Write)), "no failed write")
 }
 
 #[test]
@@ -331,7 +331,10 @@ fn what_was_interrupted_is_tried_again(rt: HostRuntime) -> Result<(), Fail> {
         inner: make_narrow(rt.alloc(), ROOM)?,
         is_calm: false,
     };
-    same(run(rt.alloc(), &mut input, &mut output), Ok(()))?;
+    holds(
+        run(rt.alloc(), &mut input, &mut output).is_ok(),
+        "a run that failed",
+    )?;
     same(output.inner.taken.as_slice(), OUTPUT)
 }
 
@@ -358,10 +361,10 @@ fn run_while_refused(
         output.taken.clear();
         output.room = ROOM;
         let mut input = text;
-        let outcome = run(alloc, &mut input, output);
-        if outcome != Err(RunFault::Memory) {
-            same(outcome, Ok(()))?;
-            return Ok(refusals);
+        match run(alloc, &mut input, output) {
+            Err(RunFault::Memory) => {}
+            Ok(()) => return Ok(refusals),
+            Err(_) => return Err(Fail::from("a failed read or write")),
         }
         match output.taken.as_slice() {
             b"" => refusals.before = refusals.before.saturating_add(1),

@@ -12,19 +12,16 @@ use std::test::Fail;
 pub struct Word(pub &'static str);
 
 impl ToSql for Word {
-    ghost use Rattle.std.specs.Prelude.{Ok, Some, codes, refl};
+    ghost use Rattle.std.specs.Prelude.{Ok, Some, codes};
     ghost use Rattle.pg_types.specs.declared.format.Format.TheVariants.{Text as TextFormat};
     ghost use Rattle.pg_types.specs.declared.types.built_in.BuiltIn.TheVariants.{Text};
     ghost use Rattle.postgres_types.specs.Content.{is_row};
-    ghost use Rattle.postgres_types.specs.Writing.{checked_by};
 
     ghost accepted = { is_row Text };
 
     ghost name = { codes "Word" };
 
     ghost wire = { λ _ v. Ok (Some v.0.now) };
-
-    ghost checked = { λ ty v. checked_by (is_row Text ty) ty (codes "Word") (Ok (Some v.0.now)) };
 
     ghost format = { λ _ _. TextFormat };
 
@@ -33,9 +30,8 @@ impl ToSql for Word {
         Ok(IsNull::No)
     }
 
-    #[tactic(auto, using(pg_types::proofs::DerivedTypes::eq_content))]
     fn accepts(ty: &Type) -> bool {
-        *ty == Type::TEXT
+        ty.is(&Type::TEXT)
     }
 
     fn to_sql_checked(
@@ -54,8 +50,6 @@ impl ToSql for Word {
     fn encode_format(&self, _ty: &Type) -> Format {
         Format::Text
     }
-
-    ghost checks = { λ _ _. refl };
 }
 
 /// The format of the value for TEXT.

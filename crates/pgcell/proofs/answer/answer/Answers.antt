@@ -15,7 +15,7 @@ returns-in-None-clause-ok c =
     let new = c.extend_from_slice.new.self.items in
     let asked = rw c.in-None.is at c.in_ok-parse.ensures in
     ok_weaker {P = new ≡ old ++ codes "bad line"} c.extend_from_slice.result
-    (λ printed. (codes "bad line", answers_line c.args.line.now None _ asked refl, printed))
+    (λ answer_text. (codes "bad line", answers_line c.args.line.now None _ asked refl, answer_text))
     (on_ok c.extend_from_slice.result _ old new c.extend_from_slice.ensures.items)
 
 pub returns-in-Some-Norm-clause-ok : goal.returns-in-Some-Norm-clause-ok
@@ -50,5 +50,5 @@ returns-in-Some-Lsn-clause-ok c =
     let answer = lsn_answer (lsn_of position) in
     let asked = rw c.in-Some-Lsn.field-0-is at (rw c.in-Some-Lsn.is at c.in_ok-parse.ensures) in
     ok_weaker {P = c.show_lsn.new.pending.items ≡ c.args.pending.now.items ++ answer} c.show_lsn.result
-    (λ printed. (answer, answers_line c.args.line.now (Some (lsn position)) answer asked refl, printed))
+    (λ answer_text. (answer, answers_line c.args.line.now (Some (lsn position)) answer asked refl, answer_text))
     c.show_lsn.ensures.ok
