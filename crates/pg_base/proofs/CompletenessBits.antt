@@ -35,7 +35,7 @@ number_at_front s h e =
     record { number = subst (IsBe w32 (take 4 s)) (sym number.number) four.1; whole = whole }
 
 -- a number that is not negative is the count
-count_from : (z : ℤ) (s : List ℕ) → IsBe w32 s z → not_negative z ≡ true → IsCount s (count_or_zero z)
+pub count_from : (z : ℤ) (s : List ℕ) → IsBe w32 s z → not_negative z ≡ true → IsCount s (count_or_zero z)
 count_from (pos n) s h e = h
 count_from (negsuc n) s h e = let no : ⊥ = cc in absurd no
 
