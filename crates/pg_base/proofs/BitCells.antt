@@ -16,9 +16,9 @@ use Rattle.pg_base.proofs.BitLemmas.{first_bits_len, packed_len}
 
 -- ---- reading
 -- a count, and as many bytes as so many bits take, spell the first bits
-pub spelt : (b head rest : List ℕ) (n : ℕ) → b ≡ head ++ rest → IsCount head n → length rest ≡ bytes_for n
+pub spells_first_bits : (b head rest : List ℕ) (n : ℕ) → b ≡ head ++ rest → IsCount head n → length rest ≡ bytes_for n
     → FormBits (λ v. v) b (first_bits n rest)
-spelt b head rest n e is whole =
+spells_first_bits b head rest n e is whole =
     let m : n ≡ length (first_bits n rest) = sym (first_bits_len n rest) in
     (head, rest, e, subst (λ x. IsCount head x) m is, whole ∙ ap bytes_for m, ap (λ x. first_bits x rest) m)
 
@@ -39,18 +39,19 @@ packed_as_many : (n : ℕ) (p : List ℕ) → length p ≡ bytes_for n → lengt
 packed_as_many n p whole = packed_len (first_bits n p) ∙ ap bytes_for (first_bits_len n p) ∙ sym whole
 
 -- the cell was appended
-pub appended : (n : ℕ) (p : List ℕ) (old new : Filled) → n ≤ max_length → length p ≡ bytes_for n → new.items
+pub appends_cell : (n : ℕ) (p : List ℕ) (old new : Filled) → n ≤ max_length → length p ≡ bytes_for n → new.items
     ≡ old.items ++ (be w32 (pos n) ++ packed (first_bits n p)) → old.spare ≤ new.spare + (4 + length p)
     → Appends (bits_cell (first_bits n p)) old new (Ok tt)
-appended n p old new h whole items spare =
+appends_cell n p old new h whole items spare =
     let many = packed_as_many n p whole in
     rw (cell_within n p h) (items, omega arith)
 
 -- there was no room for it
-pub refused : (n : ℕ) (p : List ℕ) (old new : Filled) (r : Result ⊤ Fault) → n ≤ max_length → length p ≡ bytes_for n
+pub appends_nothing : (n : ℕ) (p : List ℕ) (old new : Filled) (r : Result ⊤ Fault) → n ≤ max_length
+    → length p ≡ bytes_for n
     → IsErr r → IsErrAnd r (λ f. f ≡ Memory) → new.items ≡ old.items → old.spare < 4 + length p → old.spare ≤ new.spare
     → Appends (bits_cell (first_bits n p)) old new r
-refused n p old new (Ok done) h whole is and items room more = absurd (cc)
-refused n p old new (Err f) h whole is and items room more =
+appends_nothing n p old new (Ok done) h whole is and items room more = absurd (cc)
+appends_nothing n p old new (Err f) h whole is and items room more =
     let many = packed_as_many n p whole in
     rw (cell_within n p h) (items, and, omega arith, more)

@@ -390,15 +390,15 @@ module _ (n m : ℕ) (b : List ℕ) (e : b ≡ packed (first_bits n b)) (s : n �
   popped_within = rw (tidy_len n b e) (omega arith)
 
   -- what n bits are where the first m of others are the same
-  popped : (c : List ℕ) → ((i : ℕ) → i < m → nth_bit c i ≡ nth_bit b i) → first_bits n b ≡ first_bits m c
+  all_but_last : (c : List ℕ) → ((i : ℕ) → i < m → nth_bit c i ≡ nth_bit b i) → first_bits n b ≡ first_bits m c
       ++ nth_bit b m ∷ []
-  popped c h = ap (λ y. first_bits y b) s ∙ first_bits_more m b
+  all_but_last c h = ap (λ y. first_bits y b) s ∙ first_bits_more m b
       ∙ ap (λ y. y ++ nth_bit b m ∷ []) (sym (first_bits_same m c b h))
 
   -- where the last byte holds one bit alone, it is dropped
   module _ (k : ℕ) (one : m % 8 ≡ 0) (whole : k ≡ m / 8) where
-    kept : (i : ℕ) → i < m → nth_bit (take k b) i ≡ nth_bit b i
-    kept i h = ap (λ y. bit_of y (i % 8)) (get_or-take k b (i / 8) 0 (omega arith))
+    same_bits : (i : ℕ) → i < m → nth_bit (take k b) i ≡ nth_bit b i
+    same_bits i h = ap (λ y. bit_of y (i % 8)) (get_or-take k b (i / 8) 0 (omega arith))
 
     kept_len : length (take k b) ≡ m / 8
     kept_len = length-take-le k b (omega (arith, popped_within)) ∙ whole
@@ -409,7 +409,7 @@ module _ (n m : ℕ) (b : List ℕ) (e : b ≡ packed (first_bits n b)) (s : n �
         (λ h. rw (get_or_past (take k b) i 0 (omega (arith, kept_len))) (omega arith)) (cases_lt i k)
 
     pub dropped_view : first_bits n b ≡ first_bits m (take k b) ++ nth_bit b m ∷ []
-    dropped_view = popped (take k b) kept
+    dropped_view = all_but_last (take k b) same_bits
 
     pub dropped_tidy : take k b ≡ packed (first_bits m (take k b))
     dropped_tidy = tidy m (take k b) (kept_len ∙ omega arith) kept_below
@@ -418,7 +418,7 @@ module _ (n m : ℕ) (b : List ℕ) (e : b ≡ packed (first_bits n b)) (s : n �
   -- where it holds more, the bit is cleared
   module _ (x : ℕ) (more : m % 8 ≡ 0 → ⊥) (put : IsPut b (m / 8) (m % 8) false x) (low : x < 256) where
     pub cleared_view : first_bits n b ≡ first_bits m (set b (m / 8) x) ++ nth_bit b m ∷ []
-    cleared_view = popped (set b (m / 8) x)
+    cleared_view = all_but_last (set b (m / 8) x)
         (λ i h. put_other b (m / 8) (m % 8) i x false popped_within put (λ f. omega arith))
 
     cleared_pad : (i : ℕ) → m ≤ i → nth_bit (set b (m / 8) x) i ≡ false

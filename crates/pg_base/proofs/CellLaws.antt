@@ -61,9 +61,9 @@ some_then s x u p =
 pub cell_then : (t u : List ℕ) (c : Cell) → Spells t c → IsCellThen (t ++ u) c u
 cell_then t u None p = null_then (t ++ u) u p.0 (number_then (t ++ u) t u (negsuc p.0) refl p.1)
 cell_then t u (Some x) p =
-    let framed = bytes-frame t x p in
-    let parts : t ++ u ≡ framed.0 ++ (x ++ u) = ap (λ s. s ++ u) framed.1 ∙ append_assoc framed.0 x u in
-    some_then (t ++ u) x u (number_then (t ++ u) framed.0 (x ++ u) (pos (length x)) parts framed.2)
+    let prefix = bytes-frame t x p in
+    let parts : t ++ u ≡ prefix.0 ++ (x ++ u) = ap (λ s. s ++ u) prefix.1 ∙ append_assoc prefix.0 x u in
+    some_then (t ++ u) x u (number_then (t ++ u) prefix.0 (x ++ u) (pos (length x)) parts prefix.2)
 
 -- a whole first cell passes the checks
 pub cell_passes : (s u : List ℕ) (c : Cell) → IsCellThen s c u → first_fault_of (cell_checks s) ≡ None

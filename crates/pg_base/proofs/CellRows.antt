@@ -14,7 +14,7 @@ use Rattle.pg_base.specs.Cells.{AreBytes, Cell, IsBe, Spells, SpellsNone, Spells
 use Rattle.pg_base.proofs.CountLaws.{number_then}
 use Rattle.pg_base.specs.Counts.{ToRead, has_number}
 use Rattle.pg_types.specs.Faults.{size}
-use Rattle.pg_base.proofs.FrameLaws.{taken}
+use Rattle.pg_base.proofs.FrameLaws.{cell_after_length}
 
 -- the first cell is whole, or it is truncated
 abbrev Next : List ℕ → Type 0
@@ -38,15 +38,15 @@ four_bytes h b l =
 -- with fewer than four bytes the length is truncated
 truncated_length : (s : List ℕ) → length s < 4 → SpellsNone s
 truncated_length s h =
-    let cut : has_number s ≡ false = grind (arith, nat_tests) in
-    no_cell s size (rw cut refl)
+    let too_few : has_number s ≡ false = grind (arith, nat_tests) in
+    no_cell s size (rw too_few refl)
 
 -- and with fewer bytes than the length says, the cell is
 truncated_cell : (s h m : List ℕ) (n : ℕ) → s ≡ h ++ m → IsBe w32 h (pos n) → length m < n → SpellsNone s
 truncated_cell s h m n e p l =
     let number = number_then s h m (pos n) e p in
-    let cut : nat_le n (length m) ≡ false = grind (arith, nat_tests) in
-    no_cell s size (rw (number.has, number.number, number.rest, cut) refl)
+    let too_few : nat_le n (length m) ≡ false = grind (arith, nat_tests) in
+    no_cell s size (rw (number.has, number.number, number.rest, too_few) refl)
 
 next_at : (s h m : List ℕ) (z : ℤ) → s ≡ h ++ m → IsBe w32 h z → Next s
 next_at s h m (negsuc k) e p = inl (h, m, None, e, (k, p))
@@ -54,7 +54,7 @@ next_at s h m (pos n) e p = elim (less_or_not (length m) n) [
   | inl q ↦ inr (truncated_cell s h m n e p q)
   | inr q ↦
       let l : length (take n m) ≡ n = simp length-take (omega arith) in
-      let t = taken s h m (take n m) (drop n m) (pos n) e p (ap pos (sym l)) (sym (take-append-drop n m)) in
+      let t = cell_after_length s h m (take n m) (drop n m) (pos n) e p (ap pos (sym l)) (sym (take-append-drop n m)) in
       inl (t.0, drop n m, Some (take n m), t.1, t.2)
 ]
 

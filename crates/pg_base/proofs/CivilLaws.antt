@@ -40,15 +40,15 @@ test_outside low high z h = false_from_ne_true _
 
 -- over a width whose bytes give the number back, and bounds
 module _ (w : Width) (back : (n : ℕ) → n < 2 ^ bits w → from_be_bytes w (to_be_bytes w n) ≡ n) (low high : ℤ) where
-  spelled : (b : List ℕ) (z : ℤ) → IsBe w b z → signed_in w b ≡ z
-  spelled b z h = ap (signed_in w) h.1 ∙ be-back w back z h.0
+  number_of_bytes : (b : List ℕ) (z : ℤ) → IsBe w b z → signed_in w b ≡ z
+  number_of_bytes b z h = ap (signed_in w) h.1 ∙ be-back w back z h.0
 
   within_passes : (b : List ℕ) (z : ℤ) → IsBe w b z → IsBetween low high z → first_fault_count w low high b ≡ None
-  within_passes b z h k = rw (eq-eqb _ _ (be-length w b z h), spelled b z h, test_between low high z k) refl
+  within_passes b z h k = rw (eq-eqb _ _ (be-length w b z h), number_of_bytes b z h, test_between low high z k) refl
 
   outside_is_decode : (b : List ℕ) (z : ℤ) → IsBe w b z → (IsBetween low high z → ⊥) → first_fault_count w low high b
       ≡ Some decode
-  outside_is_decode b z h k = rw (eq-eqb _ _ (be-length w b z h), spelled b z h, test_outside low high z k) refl
+  outside_is_decode b z h k = rw (eq-eqb _ _ (be-length w b z h), number_of_bytes b z h, test_outside low high z k) refl
 
   -- counts are a grammar where a count names one value
   count_grammar : {A B : Type 0} (content_of : A → B) (names : ℤ → A → Type 0)
@@ -115,23 +115,23 @@ answered_8 low high names = count_answered w64 from_be_bytes-to_be_bytes_8 low h
 abbrev pub IsWrittenCount : Width → ℤ → ℤ → ℤ → Wire → Type 0
 IsWrittenCount w low high z wire = (wire ≡ Ok (Some (be w z))) × FitsSigned w z × IsBetween low high z
 
-written : (w : Width) (low high z : ℤ) → FitsSigned w z → IsBetween low high z
+wire_of_count : (w : Width) (low high z : ℤ) → FitsSigned w z → IsBetween low high z
     → IsWrittenCount w low high z (wire_signed w z)
-written w low high z h k = (rw (fits w z h) refl, h, k)
+wire_of_count w low high z h k = (rw (fits w z h) refl, h, k)
 
 day_within : (v : Date) → IsBetween first_day last_day (epoch_day v -ℤ base_day)
 day_within v = omega (arith, signed_arith, epoch_day_range v)
 
 -- no date is refused, and none is written as the least or the greatest number of 4 bytes
 pub date_written : (v : Date) → IsWrittenCount w32 first_day last_day (epoch_day v -ℤ base_day) (wire_date v)
-date_written v = let k = day_within v in written w32 first_day last_day _ (omega (arith, signed_arith, k)) k
+date_written v = let k = day_within v in wire_of_count w32 first_day last_day _ (omega (arith, signed_arith, k)) k
 
 micros_within : (v : Time) → IsBetween (pos 0) last_micros (pos (time_nanos v / 1000))
 micros_within v = omega (arith, signed_arith, time_nanos_bound v)
 
 -- no time is refused
 pub time_written : (v : Time) → IsWrittenCount w64 (pos 0) last_micros (pos (time_nanos v / 1000)) (wire_time v)
-time_written v = let k = micros_within v in written w64 (pos 0) last_micros _ (omega (arith, signed_arith, k)) k
+time_written v = let k = micros_within v in wire_of_count w64 (pos 0) last_micros _ (omega (arith, signed_arith, k)) k
 
 thousandth_within : (z : ℤ) (m n : ℕ) → IsBetween (neg_ℤ (pos (m * 1000))) (pos (n * 1000 + 999)) z
     → IsBetween (neg_ℤ (pos m)) (pos n) (int_div z (pos 1000))
@@ -145,7 +145,8 @@ civil_within v = thousandth_within (civil_nanos v -ℤ base_nanos) 378_651_801_6
 -- no civil datetime is refused, and none is written as the least or the greatest number of 8 bytes
 pub datetime_written : (v : DateTime)
     → IsWrittenCount w64 first_civil last_civil (whole_micros (civil_nanos v)) (wire_datetime v)
-datetime_written v = let k = civil_within v in written w64 first_civil last_civil _ (omega (arith, signed_arith, k)) k
+datetime_written v = let k = civil_within v in
+    wire_of_count w64 first_civil last_civil _ (omega (arith, signed_arith, k)) k
 
 instant_within : (v : Timestamp) → IsBetween first_instant last_instant (whole_micros (instant_nanos v))
 instant_within v = thousandth_within (instant_nanos v -ℤ base_nanos) 378_651_708_001_000_000 252_455_522_400_999_999
@@ -155,7 +156,7 @@ instant_within v = thousandth_within (instant_nanos v -ℤ base_nanos) 378_651_7
 pub instant_written : (v : Timestamp)
     → IsWrittenCount w64 first_instant last_instant (whole_micros (instant_nanos v)) (wire_instant v)
 instant_written v = let k = instant_within v in
-    written w64 first_instant last_instant _ (omega (arith, signed_arith, k)) k
+    wire_of_count w64 first_instant last_instant _ (omega (arith, signed_arith, k)) k
 
 -- what a value is read back as: it stands where its count says
 module _ {A : Type 0} (w : Width) (back : (n : ℕ) → n < 2 ^ bits w → from_be_bytes w (to_be_bytes w n) ≡ n)

@@ -23,7 +23,7 @@ use Rattle.pg_types.specs.Faults.{size, count, json_text, json_number, json_vers
 
 -- what is known of bytes that begin with four of them
 pub record IsNumberAtFront (s : List ℕ) : Type 0 where
-  pub spelled : IsBe w32 (take 4 s) (number_in s)
+  pub number : IsBe w32 (take 4 s) (number_in s)
   pub whole : s ≡ take 4 s ++ drop 4 s
 
 pub number_at_front : (s : List ℕ) → AreBytes s → has_number s ≡ true → IsNumberAtFront s
@@ -32,10 +32,10 @@ number_at_front s h e =
     (let long = leb-true 4 (length s) e in simp length-take (omega (arith, long))) in
     let whole : s ≡ take 4 s ++ drop 4 s = sym (take-append-drop 4 s) in
     let number = number_then s (take 4 s) (drop 4 s) four.0 whole four.1 in
-    record { spelled = subst (IsBe w32 (take 4 s)) (sym number.number) four.1; whole = whole }
+    record { number = subst (IsBe w32 (take 4 s)) (sym number.number) four.1; whole = whole }
 
 -- a number that is not negative is the count
-count_from : (z : ℤ) (s : List ℕ) → IsBe w32 s z → not_negative z ≡ true → IsCount s (count_or_zero z)
+pub count_from : (z : ℤ) (s : List ℕ) → IsBe w32 s z → not_negative z ≡ true → IsCount s (count_or_zero z)
 count_from (pos n) s h e = h
 count_from (negsuc n) s h e = let no : ⊥ = cc in absurd no
 
@@ -46,7 +46,7 @@ count_at_front b h e =
     let has = first_passes (has_number b) size _ e in
     let number = number_at_front b h has.0 in
     let sign = first_passes (not_negative (number_in b)) count None has.1 in
-    (count_from (number_in b) (take 4 b) number.spelled sign.0, number.whole)
+    (count_from (number_in b) (take 4 b) number.number sign.0, number.whole)
 
 pub bits_complete : IsComplete (FormBits (λ v. v)) first_fault_bits
 bits_complete b h e =

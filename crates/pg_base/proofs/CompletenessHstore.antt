@@ -10,7 +10,7 @@ use Rattle.pg_base.proofs.CellLaws.{cell_by, cell_in}
 use Rattle.pg_base.proofs.CellRows.{trailing_bytes}
 use Rattle.pg_base.proofs.Completeness.{both_pass, first_passes}
 use Rattle.pg_base.proofs.CompletenessBits.{count_at_front, number_at_front}
-use Rattle.pg_base.proofs.FrameLaws.{taken}
+use Rattle.pg_base.proofs.FrameLaws.{cell_after_length}
 use Rattle.pg_base.specs.Cells.{AreBytes, Cell, IsBe, Spells}
 use Rattle.pg_base.specs.Counts.{IsCount, after_cell, bytes_in, count_checks, count_or_zero, has_cell, has_number}
 use Rattle.pg_base.specs.Counts.{not_negative, number_in}
@@ -30,7 +30,7 @@ cell_from (negsuc k) h m s e p f = (h, e, (k, p))
 cell_from (pos n) h m s e p f =
     let long = leb-true n (length m) f in
     let len : length (take n m) ≡ n = simp length-take (omega (arith, long)) in
-    taken s h m (take n m) (drop n m) (pos n) e p (ap pos (sym len)) (sym (take-append-drop n m))
+    cell_after_length s h m (take n m) (drop n m) (pos n) e p (ap pos (sym len)) (sym (take-append-drop n m))
 
 text_from : (z : ℤ) (x : List ℕ) → is_utf8 x ≡ true → NoneOr IsUtf8 (cell_by z x)
 text_from (pos n) x e = IsUtf8-from_is_utf8 x e
@@ -40,7 +40,7 @@ text_at_front : (s : List ℕ) → AreBytes s → has_number s ≡ true → has_
     → BeginsWith s (cell_in s) (after_cell s)
 text_at_front s h has whole text =
     let number = number_at_front s h has in
-    let p = cell_from (number_in s) (take 4 s) (drop 4 s) s number.whole number.spelled whole in
+    let p = cell_from (number_in s) (take 4 s) (drop 4 s) s number.whole number.number whole in
     (p.0, p.1, (p.2, text_from (number_in s) (bytes_in s) text))
 
 value_at_front : (s : List ℕ) → AreBytes s → first_fault_of (value_checks s) ≡ None

@@ -39,9 +39,9 @@ no_refusal None b old new fault e h a = let no : ⊥ = cc in no
 no_refusal (Some x) b old new fault e h a = let same : x ≡ b = cc in omega (arith, a.2, ap length same)
 
 -- and takes no more room than they do
-pub appended : {u : ⊤} (w : Bytes) (b : List ℕ) (old new : Filled) → w ≡ Some b → Appends w old new (Ok u)
+pub items_and_spare : {u : ⊤} (w : Bytes) (b : List ℕ) (old new : Filled) → w ≡ Some b → Appends w old new (Ok u)
     → (new.items ≡ old.items ++ b) × (old.spare ≤ new.spare + length b)
-appended w b old new e a = subst (λ (w : Bytes). Extends w old new) e a
+items_and_spare w b old new e a = subst (λ (w : Bytes). Extends w old new) e a
 
 pub none_of : (o : Bytes) → ((t : List ℕ) → o ≡ Some t → ⊥) → o ≡ None
 none_of None h = refl
@@ -68,9 +68,9 @@ short_count f xs h =
     ap count_bytes same ∙ cond_passes (fits_prefix (length xs)) (be w32 (pos (length xs))) fits
 
 -- bytes for which there was room
-pub extended : (b : List ℕ) (old new : Filled) → new.items ≡ old.items ++ b → new.spare + length b ≡ old.spare
+pub extends_by : (b : List ℕ) (old new : Filled) → new.items ≡ old.items ++ b → new.spare + length b ≡ old.spare
     → Extends (Some b) old new
-extended b old new is left = (is, omega (arith, left))
+extends_by b old new is left = (is, omega (arith, left))
 
 -- the first bytes were appended, and then the second
 pub extends_both : (a b : Bytes) (old mid new : Filled) → Extends a old mid → Extends b mid new

@@ -36,11 +36,11 @@ bytes-frame k b e =
     let p = some_of (fits_prefix (length b)) (be w32 (pos (length b)) ++ b) k e in
     (be w32 (pos (length b)), p.1, (fits_length (length b) p.0, refl))
 
--- a length that was taken, and the cell after it, spell the cell
-pub taken : (old h mid cell rest : List ℕ) (n : ℤ) → old ≡ h ++ mid → IsBe w32 h n → n ≡ pos (length cell) → mid ≡ cell
-    ++ rest
+-- a length and the cell after it spell the cell
+pub cell_after_length : (old h mid cell rest : List ℕ) (n : ℤ) → old ≡ h ++ mid → IsBe w32 h n
+    → n ≡ pos (length cell) → mid ≡ cell ++ rest
     → (s : List ℕ) × (old ≡ s ++ rest) × Spells s (Some cell)
-taken old h mid cell rest n e p is m = (
+cell_after_length old h mid cell rest n e p is m = (
   h ++ cell,
   e ∙ ap (λ x. h ++ x) m ∙ sym (append_assoc h cell rest),
   frame-bytes h cell (subst (λ z. IsBe w32 h z) is p),

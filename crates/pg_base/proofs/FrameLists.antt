@@ -82,8 +82,9 @@ module _ {X : Type 0} (view : X → Cell) (xs : List X) (i : ℕ) (x : X) (h : i
   -- a cell that is NULL is one among all
   pub null_here : has_null before ≡ false → is_none here ≡ true → has_null (map view xs) ≡ true
   null_here so_far next =
-      let found : has_null (before ++ here ∷ []) ≡ true = has_null-append before (here ∷ []) ∙ rw (so_far, next) refl in
-      ap has_null whole ∙ has_null-append (before ++ here ∷ []) behind ∙ ap (λ t. t || has_null behind) found
+      let null_so_far : has_null (before ++ here ∷ []) ≡ true
+      = has_null-append before (here ∷ []) ∙ rw (so_far, next) refl in
+      ap has_null whole ∙ has_null-append (before ++ here ∷ []) behind ∙ ap (λ t. t || has_null behind) null_so_far
 
   -- one more cell is not NULL
   pub null_not_here : has_null before ≡ false → is_none here ≡ false → has_null (map view (take (i + 1) xs)) ≡ false

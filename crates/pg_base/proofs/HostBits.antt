@@ -29,8 +29,8 @@ above : (r t k : ℕ) → r ≡ 0 → k ≤ t → suc k ≤ under r t
 above zero t k e h = omega arith
 above (suc r) t k e h = absurd (omega arith)
 
-halved : (n k : ℕ) → n % 2 ^ suc k ≡ n / 2 % 2 ^ k * 2 + n % 2
-halved n k = rw (← add-one k) (mod-pow-add n k 1)
+last_bit_apart : (n k : ℕ) → n % 2 ^ suc k ≡ n / 2 % 2 ^ k * 2 + n % 2
+last_bit_apart n k = rw (← add-one k) (mod-pow-add n k 1)
 
 -- 2 ^ k divides what ends in k zeros
 zeros-divide : (d n k : ℕ) → k ≤ count_trailing_zeros d n → n % 2 ^ k ≡ 0
@@ -40,24 +40,24 @@ zeros-divide zero n (suc k) zeros = absurd (omega arith)
 zeros-divide (suc d) n (suc k) zeros =
     let e = even (n % 2) (count_trailing_zeros d (n / 2)) k zeros in
     let rest = zeros-divide d (n / 2) k e.1 in
-    rw (halved n k, rest, e.0) refl
+    rw (last_bit_apart n k, rest, e.0) refl
 
 -- what 2 ^ k divides ends in k zeros
 divided-zeros : (d n k : ℕ) → k ≤ d → n % 2 ^ k ≡ 0 → k ≤ count_trailing_zeros d n
 unfolding count_trailing_zeros
-divided-zeros d n zero h divided = omega arith
-divided-zeros zero n (suc k) h divided = absurd (omega arith)
-divided-zeros (suc d) n (suc k) h divided =
-    let whole = halved n k in
+divided-zeros d n zero h divides = omega arith
+divided-zeros zero n (suc k) h divides = absurd (omega arith)
+divided-zeros (suc d) n (suc k) h divides =
+    let whole = last_bit_apart n k in
     above (n % 2) (count_trailing_zeros d (n / 2)) k (omega arith)
     (divided-zeros d (n / 2) k (omega arith) (omega arith))
 
 -- n has fewer zeros at its end than that exactly where 2 ^ (d - len) does not divide it
 module _ (d n len : ℕ) where
   all_zeros : n % 2 ^ (d - len) ≡ 0 → nat_lt (len + count_trailing_zeros d n) d ≡ not (n % 2 ^ (d - len) == 0)
-  all_zeros divided =
-      let zeros = divided-zeros d n (d - len) (omega arith) divided in
-      rw (eq-eqb (n % 2 ^ (d - len)) 0 divided, le-ltb (len + count_trailing_zeros d n) d (omega arith)) refl
+  all_zeros divides =
+      let zeros = divided-zeros d n (d - len) (omega arith) divides in
+      rw (eq-eqb (n % 2 ^ (d - len)) 0 divides, le-ltb (len + count_trailing_zeros d n) d (omega arith)) refl
 
   some_one : (n % 2 ^ (d - len) ≡ 0 → ⊥) → nat_lt (len + count_trailing_zeros d n) d ≡ not (n % 2 ^ (d - len) == 0)
   some_one other =
@@ -69,7 +69,7 @@ module _ (d n len : ℕ) where
       rw (ne_eqb (n % 2 ^ (d - len)) 0 other, lt-ltb (len + count_trailing_zeros d n) d few) refl
 
   ends : nat_lt (len + count_trailing_zeros d n) d ≡ not (n % 2 ^ (d - len) == 0)
-  ends = elim (cases_eq (n % 2 ^ (d - len)) 0) [ inl divided ↦ all_zeros divided | inr other ↦ some_one other ]
+  ends = elim (cases_eq (n % 2 ^ (d - len)) 0) [ inl divides ↦ all_zeros divides | inr other ↦ some_one other ]
 
 length-octets_of : (segments : List ℕ) → length (octets_of segments) ≡ 2 * length segments
 length-octets_of [] = refl

@@ -98,21 +98,21 @@ unfolding and_more
 and_more-is [] n = omega arith
 and_more-is (e ∷ es) n = omega (arith, and_more-is es n)
 
-passed : (s rest : List ℕ) (es : List Entry) (n : ℕ) → SpellsEntries s es rest
+fault_after_entries : (s rest : List ℕ) (es : List Entry) (n : ℕ) → SpellsEntries s es rest
     → first_fault_of (entries_checks (and_more es n) s) ≡ first_fault_of (entries_checks n rest)
 unfolding and_more
-passed s rest [] n p = ap (λ x. first_fault_of (entries_checks n x)) p
-passed s rest (e ∷ es) n p =
+fault_after_entries s rest [] n p = ap (λ x. first_fault_of (entries_checks n x)) p
+fault_after_entries s rest (e ∷ es) n p =
     let first = entry_then p.0 p.1 e p.3 in
     rw p.2 (checks_passed (entry_checks (p.0 ++ p.1))
     (entries_checks (and_more es n) (after_cell (after_cell (p.0 ++ p.1)))) first.passes
-    ∙ ap (λ x. first_fault_of (entries_checks (and_more es n) x)) first.rest ∙ passed p.1 rest es n p.4)
+    ∙ ap (λ x. first_fault_of (entries_checks (and_more es n) x)) first.rest ∙ fault_after_entries p.1 rest es n p.4)
 
 -- what is checked after sound entries is what is checked of the rest
 entries_pass : (s rest : List ℕ) (es : List Entry) (n m : ℕ) → SpellsEntries s es rest → length es + n ≡ m
     → first_fault_of (entries_checks m s) ≡ first_fault_of (entries_checks n rest)
 entries_pass s rest es n m p e =
-    ap (λ k. first_fault_of (entries_checks k s)) (sym e ∙ sym (and_more-is es n)) ∙ passed s rest es n p
+    ap (λ k. first_fault_of (entries_checks k s)) (sym e ∙ sym (and_more-is es n)) ∙ fault_after_entries s rest es n p
 
 -- the first n entries of s
 entries_in : ℕ → List ℕ → List Entry
@@ -138,15 +138,15 @@ entries_single b s u es fs c p d q =
     sym (entries_are s [] es p) ∙ ap₂ entries_in same (sym one.rest ∙ two.rest) ∙ entries_are u [] fs q
 
 -- after a sound count, the first fault is that of the entries
-counted : (b : List ℕ) (r : ToRead) → SpellsCount b r → first_fault_hstore b
+fault_after_count : (b : List ℕ) (r : ToRead) → SpellsCount b r → first_fault_hstore b
     ≡ first_fault_of (entries_checks r.left r.bytes)
-counted b r c =
+fault_after_count b r c =
     let one = number_then b c.0 r.bytes (pos r.left) c.1 c.2 in
     rw (one.has, one.number, one.rest) refl
 
 form_passes : (b s : List ℕ) (es : List Entry) → SpellsCount b (record { left = length es; bytes = s })
     → SpellsEntries s es [] → first_fault_hstore b ≡ None
-form_passes b s es c p = counted b (record { left = length es; bytes = s }) c
+form_passes b s es c p = fault_after_count b (record { left = length es; bytes = s }) c
     ∙ entries_pass s [] es 0 (length es) p (omega arith)
 
 pub hstore_grammar : {A : Type 0} (value_at : A → List ℕ → Option Cell)
@@ -164,14 +164,14 @@ next_fault (suc n) s r e = check_failed (entry_checks s) (entries_checks n (afte
 -- between the start and now these entries were read
 pub record HaveBeenRead (start : ToRead) (es : List Entry) (now : ToRead) : Type 0 where
   pub so_many : length es + now.left ≡ start.left
-  pub spelled : SpellsEntries start.bytes es now.bytes
+  pub spelling : SpellsEntries start.bytes es now.bytes
 
 -- the next fault is then the first
 pub entry_fault : (b : List ℕ) (start now : ToRead) (es : List Entry) (r : Refusal) → SpellsCount b start
     → HaveBeenRead start es now
     → first_fault_of (next_checks entry_checks now) ≡ Some r → first_fault_hstore b ≡ Some r
 entry_fault b start now es r c h e =
-    counted b start c ∙ entries_pass start.bytes now.bytes es now.left start.left h.spelled h.so_many
+    fault_after_count b start c ∙ entries_pass start.bytes now.bytes es now.left start.left h.spelling h.so_many
     ∙ next_fault now.left now.bytes r e
 
 one_more : (s t u : List ℕ) (es : List Entry) (e : Entry) (rest : List ℕ) → SpellsEntries s es rest → rest ≡ t ++ u
@@ -185,7 +185,7 @@ pub read_next : (start now next : ToRead) (es : List Entry) (e : Entry) (t : Lis
     → HaveBeenRead start (es ++ e ∷ []) next
 read_next start now next es e t h n is p = record {
   so_many = omega (arith, h.so_many, length-append es (e ∷ []));
-  spelled = one_more start.bytes t next.bytes es e now.bytes h.spelled is p;
+  spelling = one_more start.bytes t next.bytes es e now.bytes h.spelling is p;
 }
 
 -- to have the same at each key is an equivalence

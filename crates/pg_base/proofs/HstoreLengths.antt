@@ -44,9 +44,9 @@ pub entries_next : (es : List BorrowedEntry) (i : ℕ) (d : BorrowedEntry) (bs f
     → entries_bytes (map borrowed_entry (take (i + 1) es)) ≡ Some (bs ++ (f ++ g))
 entries_next es i d bs f g h so_far key value =
     let e : Entry = borrowed_entry (get_or es i d) in
-    let listed : map borrowed_entry (take (i + 1) es) ≡ map borrowed_entry (take i es) ++ e ∷ []
+    let one_more : map borrowed_entry (take (i + 1) es) ≡ map borrowed_entry (take i es) ++ e ∷ []
     = ap (map borrowed_entry) (take_more es i d h) ∙ map-append borrowed_entry (take i es) (get_or es i d ∷ []) in
-    ap entries_bytes listed ∙ entries-push (map borrowed_entry (take i es)) e bs f g so_far key value
+    ap entries_bytes one_more ∙ entries-push (map borrowed_entry (take i es)) e bs f g so_far key value
 
 -- where all entries have bytes, each has, and they are no longer than all
 pub record HasEntry (e : Entry) (bs total : List ℕ) : Type 0 where
@@ -63,13 +63,13 @@ has_entry es i d bs total h so_far all =
     let e : Entry = borrowed_entry (get_or es i d) in
     let before : List Entry = map borrowed_entry (take i es) in
     let behind : List Entry = map borrowed_entry (drop (i + 1) es) in
-    let split = parts_of (entries_bytes before) (entries_bytes (e ∷ behind)) total
+    let parts = parts_of (entries_bytes before) (entries_bytes (e ∷ behind)) total
     (sym (entries-append before (e ∷ behind)) ∙ ap entries_bytes (sym (entry_at es i d h)) ∙ all) in
-    let here = parts_of (concat (frame (Some e.0)) (frame e.1)) (entries_bytes behind) split.1 split.3 in
+    let here = parts_of (concat (frame (Some e.0)) (frame e.1)) (entries_bytes behind) parts.1 parts.3 in
     let texts = parts_of (frame (Some e.0)) (frame e.1) here.0 here.2 in
-    let same : Some bs ≡ Some split.0 = sym so_far ∙ split.2 in
-    let bs_is : bs ≡ split.0 = cc in
-    let bs_len : length bs ≡ length split.0 = subst (λ (s : List ℕ). length bs ≡ length s) bs_is refl in
+    let same : Some bs ≡ Some parts.0 = sym so_far ∙ parts.2 in
+    let bs_is : bs ≡ parts.0 = cc in
+    let bs_len : length bs ≡ length parts.0 = subst (λ (s : List ℕ). length bs ≡ length s) bs_is refl in
     record {
       key = texts.0;
       value = texts.1;
@@ -78,8 +78,8 @@ has_entry es i d bs total h so_far all =
       fits = omega (
         arith,
         bs_len,
-        sum_len total split.0 split.1 split.4,
-        sum_len split.1 here.0 here.1 here.4,
+        sum_len total parts.0 parts.1 parts.4,
+        sum_len parts.1 here.0 here.1 here.4,
         sum_len
             here.0 texts.0 texts.1 texts.4,
       );
@@ -111,7 +111,7 @@ pub has_room : (es : List BorrowedEntry) (i : ℕ) (d : BorrowedEntry) (bs b : L
     → entries_bytes (map borrowed_entry (take i es)) ≡ Some bs
     → hstore_bytes (map borrowed_entry es) ≡ Some b → start ≤ now + length bs → length b ≤ start + 4
     → HasRoom (borrowed_entry (get_or es i d)) now
-has_room es i d bs b start now h so_far all taken enough =
+has_room es i d bs b start now h so_far all room enough =
     let whole = whole_parts (map borrowed_entry es) b all in
     let has = has_entry es i d bs whole.0 h so_far whole.1 in
     record {

@@ -9,6 +9,7 @@ pub mod CellRows
 pub mod CivilLaws
 pub mod Completeness
 pub mod CompletenessBits
+pub mod CompletenessHeads
 pub mod CompletenessHstore
 pub mod CompletenessNetwork
 pub mod Concat

@@ -27,9 +27,9 @@ without_low_le k byte = div-mul-le_self byte (2 ^ k)
 
 -- ---- bytes whose last one is without its pad
 module _ (n m x : ℕ) (p : List ℕ) (count : length p ≡ bytes_for n) (last : m + 1 ≡ length p)
-    (below : (k : ℕ) → get_or p k 0 < 256) (masked : x ≡ without_low (pad_of n) (get_or p m 0)) where
+    (below : (k : ℕ) → get_or p k 0 < 256) (x_is : x ≡ without_low (pad_of n) (get_or p m 0)) where
   masked_at : (i : ℕ) → i / 8 ≡ m → get_or (set p m x) (i / 8) 0 ≡ without_low (pad_of n) (get_or p m 0)
-  masked_at i e = ap (λ y. get_or (set p m x) y 0) e ∙ get_or-set_same p m x 0 (omega arith) ∙ masked
+  masked_at i e = ap (λ y. get_or (set p m x) y 0) e ∙ get_or-set_same p m x 0 (omega arith) ∙ x_is
 
   masked_near : (i : ℕ) → i < n → i / 8 ≡ m → nth_bit (set p m x) i ≡ nth_bit p i
   masked_near i h e =
@@ -51,7 +51,7 @@ module _ (n m x : ℕ) (p : List ℕ) (count : length p ≡ bytes_for n) (last :
   masked_pad i h = ⊎_elim (masked_zero i h) (masked_past i h) (cases_eq (i / 8) m)
 
   masked_below : x < 256
-  masked_below = omega (arith, masked, without_low_le (pad_of n) (get_or p m 0), below m)
+  masked_below = omega (arith, x_is, without_low_le (pad_of n) (get_or p m 0), below m)
 
   pub masked_view : first_bits n (set p m x) ≡ first_bits n p
   masked_view = first_bits_same n (set p m x) p masked_inside
@@ -68,8 +68,8 @@ packed_parts n p whole last count below e =
     let x = without_low (pad_of n) last in
     let end : m + 1 ≡ length p = sym (ap length e ∙ length_push whole last) in
     let at : get_or p m 0 ≡ last = ap (λ y. get_or y m 0) e ∙ get_or_push whole last 0 m refl in
-    let masked : x ≡ without_low (pad_of n) (get_or p m 0) = ap (without_low (pad_of n)) (sym at) in
-    ap packed (sym (masked_view n m x p count end below masked)) ∙ sym (masked_packed n m x p count end below masked)
+    let x_is : x ≡ without_low (pad_of n) (get_or p m 0) = ap (without_low (pad_of n)) (sym at) in
+    ap packed (sym (masked_view n m x p count end below x_is)) ∙ sym (masked_packed n m x p count end below x_is)
     ∙ ap (λ y. set y m x) e ∙
     set_at whole last [] x m refl
 

@@ -136,7 +136,7 @@ first_fault_network n =
 
 -- the parts n where there is no fault, and else the fault
 abbrev pub NetworkOrFault : Network → Option Refusal → Outcome Network → Type 0
-NetworkOrFault n fault (Ok made) = (made ≡ n) × (fault ≡ None)
+NetworkOrFault n fault (Ok network) = (network ≡ n) × (fault ≡ None)
 NetworkOrFault n fault (Err r) = fault ≡ Some r
 
 -- whether the address has its family's length and the netmask fits

@@ -7,7 +7,9 @@ ghost use Rattle.pg_base.specs.Cells.{Cell, cell_of};
 ghost use Rattle.pg_base.specs.Civil.{FormCount, IsAfterMidnight, IsDayOf, first_civil, first_day};
 ghost use Rattle.pg_base.specs.Civil.{first_fault_count, first_instant, instant_nanos, last_civil};
 ghost use Rattle.pg_base.specs.Civil.{last_day, last_instant, last_micros};
-ghost use Rattle.pg_base.specs.Timestamps.{IsAfterBase};
+ghost use Rattle.pg_base.specs.Numbers.{first_fault_number};
+ghost use Rattle.pg_base.specs.Timestamps.{FormTimestamp, IsAfterBase, nanos_of};
+ghost use Rattle.pg_base.specs.declared.unix_time.UnixTime.{UnixTime as PlainUnixTime};
 ghost use Rattle.pg_types.specs.Content.{content};
 ghost use Rattle.pg_types.specs.Faults.{Outcome};
 
@@ -122,4 +124,11 @@ pub fn instant_format(alloc: Global, raw: &[u8])
         (v : JiffTimestamp) × FormCount w64 first_instant last_instant (IsAfterBase instant_nanos) raw.now v }
 {
     cell_has_outcome::<jiff::Timestamp>(alloc, &PgType::TIMESTAMPTZ, Some(raw));
+}
+
+/// TIMESTAMP and TIMESTAMPTZ: bytes that pass every check spell a `UnixTime`.
+pub fn unix_time_format(alloc: Global, raw: &[u8])
+    ensures { first_fault_number 8 raw.now ≡ None → (v : PlainUnixTime) × FormTimestamp nanos_of raw.now v }
+{
+    cell_has_outcome::<UnixTime>(alloc, &PgType::TIMESTAMP, Some(raw));
 }

@@ -6,11 +6,12 @@
 //! a map for what it has at each key.
 ghost use Rattle.std.specs.Prelude.{◌≡◌, Bool, List, Option, ℕ};
 ghost use Rattle.std.specs.Int.{w8, w16, w32, w64};
+ghost use Rattle.pg_base.specs.Arrays.{SpellsHead, head_checks};
 ghost use Rattle.pg_base.specs.Bits.{FormBits, first_fault_bits};
 ghost use Rattle.pg_base.specs.Bytea.{FormBytes, first_fault_bytes};
 ghost use Rattle.pg_base.specs.Cells.{Cell};
 ghost use Rattle.pg_base.specs.FixedBytes.{FormFixedBytes};
-ghost use Rattle.pg_base.specs.Formats.{IsComplete, IsGrammar};
+ghost use Rattle.pg_base.specs.Formats.{IsComplete, IsGrammar, first_fault_of};
 ghost use Rattle.pg_base.specs.Hstore.{FormHstore, first_fault_hstore};
 ghost use Rattle.pg_base.specs.Json.{FormJson, first_fault_json};
 ghost use Rattle.pg_base.specs.Network.{FormAddress, FormCidr, FormInet, first_fault_cidr, first_fault_inet};
@@ -138,4 +139,11 @@ pub fn hstore_format()
     ensures grammar { IsGrammar (λ m n. (q : List ℕ) → m q ≡ n q)
         (FormHstore (λ (m : List ℕ → Option Cell). m)) first_fault_hstore }
     ensures complete { IsComplete (FormHstore (λ (m : List ℕ → Option Cell). m)) first_fault_hstore }
+{}
+
+/// The head of an array.
+#[tactic(auto, using(crate::proofs::CompletenessHeads::head_grammar, crate::proofs::CompletenessHeads::head_complete))]
+pub fn array_head_format()
+    ensures grammar { IsGrammar (λ r q. r ≡ q) SpellsHead (λ b. first_fault_of (head_checks b)) }
+    ensures complete { IsComplete SpellsHead (λ b. first_fault_of (head_checks b)) }
 {}

@@ -2,7 +2,7 @@
 use Rattle.std.proofs.Common.{◌≡◌, ◌++◌, arith, length, pos}
 use Rattle.std.proofs.lemmas.Int.{ints}
 use Rattle.std.proofs.lemmas.Grind.{common_steps}
-use Rattle.pg_base.proofs.FrameLaws.{taken}
+use Rattle.pg_base.proofs.FrameLaws.{cell_after_length}
 use Rattle.pg_read.proofs.private.read_cell.Goals as goal
 
 pub returns : goal.returns
@@ -11,5 +11,6 @@ returns c =
     let cell = c.split_at.result.0.now in
     let rest = c.split_at.result.1.now in
     let is : c.in_ok-len.len ≡ pos (length cell) = omega (arith, ints) in
-    let truncated : c.read_be_i32.new.buf.now ≡ cell ++ rest = grind (arith, common_steps) in
-    taken c.args.buf.now.now number.0 c.read_be_i32.new.buf.now cell rest c.in_ok-len.len number.1 number.2 is truncated
+    let parts : c.read_be_i32.new.buf.now ≡ cell ++ rest = grind (arith, common_steps) in
+    cell_after_length c.args.buf.now.now number.0 c.read_be_i32.new.buf.now cell rest c.in_ok-len.len number.1 number.2
+    is parts

@@ -15,10 +15,10 @@ invariant_of-result c =
     elim c.match-checked_sub.branch [
       | in-Some w ↦
           let last : w.in-Some.last + 1 ≡ length p = omega (arith, ap length copy, w.in-Some.ensures) in
-          let masked = w.without_pad.ensures ∙ ap (λ x. without_low (pad_of n) (get_or x w.in-Some.last 0))
+          let last_is = w.without_pad.ensures ∙ ap (λ x. without_low (pad_of n) (get_or x w.in-Some.last 0))
           (sym copy) in
           rw w.bytes-is (masked_packed n w.in-Some.last w.without_pad.result p count last
-          (λ k. rw copy (fit k).fits) masked)
+          (λ k. rw copy (fit k).fits) last_is)
       | in_default w ↦
           let none : length p ≡ 0 = omega (arith, ap length copy, w.in_default.ensures) in
           rw w.bytes-is (none_tidy n p count none)
@@ -34,10 +34,10 @@ returns-clause-ok c =
     let same : first_bits n c.match-checked_sub.bytes.items ≡ first_bits n p = (elim c.match-checked_sub.branch [
       | in-Some w ↦
           let last : w.in-Some.last + 1 ≡ length p = omega (arith, ap length copy, w.in-Some.ensures) in
-          let masked = w.without_pad.ensures ∙ ap (λ x. without_low (pad_of n) (get_or x w.in-Some.last 0))
+          let last_is = w.without_pad.ensures ∙ ap (λ x. without_low (pad_of n) (get_or x w.in-Some.last 0))
           (sym copy) in
           rw w.bytes-is (masked_view n w.in-Some.last w.without_pad.result p count last
-          (λ k. rw copy (fit k).fits) masked)
+          (λ k. rw copy (fit k).fits) last_is)
       | in_default w ↦ ap (λ x. first_bits n x.items) w.bytes-is
     ]) in
     same ∙ ap (first_bits n) (copy ∙ c.bytes-padded.ensures.bytes)

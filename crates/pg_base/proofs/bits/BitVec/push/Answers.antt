@@ -20,10 +20,10 @@ returns-then-self c =
     (let g = c.if-self.true in grind (arith, nat_tests)) in
     (refl, rw full refl)
 
-refused : (old new : List Bool) (bit : Bool) (r : Result ⊤ Fault) → new ≡ old → length old < most_bits → IsErr r
+pushes_nothing : (old new : List Bool) (bit : Bool) (r : Result ⊤ Fault) → new ≡ old → length old < most_bits → IsErr r
     → IsErrAnd r (λ f. f ≡ Memory) → Pushes old bit new r
-refused old new bit (Ok done) e h is and = absurd (cc)
-refused old new bit (Err f) e h is and =
+pushes_nothing old new bit (Ok done) e h is and = absurd (cc)
+pushes_nothing old new bit (Err f) e h is and =
     let room : nat_lt (length old) most_bits ≡ true = grind (arith, nat_tests) in
     (e, rw room (ap refusal_of and))
 
@@ -32,7 +32,8 @@ returns-in_err-push c =
     let count : length c.args.self.now ≡ c.self.inside.len = ap length (sym c.self.view_is)
     ∙ first_bits_len c.self.inside.len c.self.inside.bytes.items in
     let same = ap (first_bits c.self.inside.len) c.in_err-push.ensures.items ∙ c.self.view_is in
-    refused c.args.self.now (first_bits c.self.inside.len c.push.new.self.items) c.args.bit c.from_residual.result same
+    pushes_nothing c.args.self.now (first_bits c.self.inside.len c.push.new.self.items) c.args.bit
+    c.from_residual.result same
     (omega arith) c.from_residual.ensures.0
     c.from_residual.ensures.1
 

@@ -12,12 +12,12 @@ pub returns : goal.returns
 returns c =
     let lower_bound = c.args.lower_bound in
     let cells = map owned_cell c.args.cells.now in
-    let reserved = c.reserve.new.self in
-    let headed = c.extend_by_head.new.out in
+    let with_room = c.reserve.new.self in
+    let after_head = c.extend_by_head.new.out in
     let done = c.extend_by_frames.new.out in
-    let head = subst (λ z. Extends (array_head z c.args.oid cells) reserved headed)
+    let head = subst (λ z. Extends (array_head z c.args.oid cells) with_room after_head)
     (to_z-of_z w32 lower_bound c.ranges.lower_bound) c.extend_by_head.ensures in
     let both = extends_both (array_head lower_bound c.args.oid cells)
-    (frames cells) reserved headed done head c.extend_by_frames.ensures in
-    appends_reserved (array_bytes lower_bound c.args.oid cells) c.args.out.now reserved done
+    (frames cells) with_room after_head done head c.extend_by_frames.ensures in
+    appends_reserved (array_bytes lower_bound c.args.oid cells) c.args.out.now with_room done
     c.in_ok-reserve.ensures.items c.in_ok-reserve.ensures.spare.0 both

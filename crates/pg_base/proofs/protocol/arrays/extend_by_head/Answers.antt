@@ -6,46 +6,48 @@ use Rattle.bytes.specs.Filled.{Filled}
 use Rattle.pg_base.specs.Appending.{Extends}
 use Rattle.pg_base.specs.Arrays.{array_head, flags_of, owned_cell}
 use Rattle.pg_base.specs.Cells.{be}
-use Rattle.pg_base.proofs.Concat.{extended, extends_both, short_count}
+use Rattle.pg_base.proofs.Concat.{extends_by, extends_both, short_count}
 use Rattle.pg_base.proofs.protocol.arrays.extend_by_head.Goals as goal
 
 -- these bytes, under another name
-renamed : (a b : List ℕ) (old new : Filled) → a ≡ b → new.items ≡ old.items ++ a → new.spare + length a ≡ old.spare
+extends_by_same : (a b : List ℕ) (old new : Filled) → a ≡ b → new.items ≡ old.items ++ a
+    → new.spare + length a ≡ old.spare
     → Extends (Some b) old new
-renamed a b old new same is left = subst (λ s. Extends (Some s) old new) same (extended a old new is left)
+extends_by_same a b old new same is left = subst (λ s. Extends (Some s) old new) same (extends_by a old new is left)
 
 pub returns : goal.returns
 returns c =
     let cells = map owned_cell c.args.cells.now in
     let start = c.args.out.now in
     let dimensions = c.extend_reserved.new.self in
-    let flagged = c.extend_reserved-2.new.self in
-    let named = c.extend_reserved-3.new.self in
-    let counted = c.extend_reserved-4.new.self in
+    let after_flags = c.extend_reserved-2.new.self in
+    let after_oid = c.extend_reserved-3.new.self in
+    let after_count = c.extend_reserved-4.new.self in
     let done = c.extend_reserved-5.new.self in
     let one : List ℕ = be w32 (pos 1) in
     let flags : List ℕ = be w32 (flags_of cells) in
     let oid : List ℕ = to_be_bytes w32 c.args.oid in
     let count : List ℕ = be w32 (pos (length c.args.cells.now)) in
     let lower_bound : List ℕ = be w32 c.args.lower_bound in
-    let first = renamed c.to_be_bytes.result one start dimensions c.to_be_bytes.ensures c.extend_reserved.ensures.items
-    c.extend_reserved.ensures.spare in
-    let second = renamed c.to_be_bytes-2.result flags dimensions flagged
+    let first = extends_by_same c.to_be_bytes.result one start dimensions c.to_be_bytes.ensures
+    c.extend_reserved.ensures.items c.extend_reserved.ensures.spare in
+    let second = extends_by_same c.to_be_bytes-2.result flags dimensions after_flags
     (c.to_be_bytes-2.ensures ∙ ap (be w32)
     (to_z-of_z w32 c.flags_of.result (record { sfits = c.flags_of.type_inv }) ∙ c.flags_of.ensures))
     c.extend_reserved-2.ensures.items c.extend_reserved-2.ensures.spare in
-    let third = renamed c.to_be_bytes-3.result oid flagged named c.to_be_bytes-3.ensures
+    let third = extends_by_same c.to_be_bytes-3.result oid after_flags after_oid c.to_be_bytes-3.ensures
     c.extend_reserved-3.ensures.items c.extend_reserved-3.ensures.spare in
-    let fourth = renamed c.to_be_bytes-4.result count named counted
+    let fourth = extends_by_same c.to_be_bytes-4.result count after_oid after_count
     (c.to_be_bytes-4.ensures ∙ ap (to_be_bytes w32)
     (of_z-to_z w32 (length c.args.cells.now) (omega (arith, c.requires.few)))) c.extend_reserved-4.ensures.items
     c.extend_reserved-4.ensures.spare in
-    let fifth = renamed c.to_be_bytes-5.result lower_bound counted done
+    let fifth = extends_by_same c.to_be_bytes-5.result lower_bound after_count done
     (c.to_be_bytes-5.ensures ∙ ap (be w32) (to_z-of_z w32 c.args.lower_bound c.ranges.lower_bound))
     c.extend_reserved-5.ensures.items c.extend_reserved-5.ensures.spare in
-    let last = extends_both (Some count) (Some lower_bound) named counted done fourth fifth in
-    let all = extends_both (Some oid) (Some (count ++ lower_bound)) flagged named done third last in
-    let behind = extends_both (Some flags) (Some (oid ++ count ++ lower_bound)) dimensions flagged done second all in
+    let last = extends_both (Some count) (Some lower_bound) after_oid after_count done fourth fifth in
+    let all = extends_both (Some oid) (Some (count ++ lower_bound)) after_flags after_oid done third last in
+    let behind = extends_both (Some flags) (Some (oid ++ count ++ lower_bound)) dimensions after_flags done second
+    all in
     let head = extends_both (Some one) (Some (flags ++ oid ++ count ++ lower_bound)) start dimensions done first
     behind in
     let few : array_head c.args.lower_bound c.args.oid cells ≡ Some (one ++ flags ++ oid ++ count ++ lower_bound)

@@ -3,7 +3,7 @@ use Rattle.std.proofs.Common.{◌≡◌, ◌∙◌, ◌++◌, length, ap, refl, 
 use Rattle.std.specs.Int.{w32, to_be_bytes}
 use Rattle.std.proofs.lemmas.Int.{of_z-to_z}
 use Rattle.pg_base.specs.Bits.{first_bits, packed}
-use Rattle.pg_base.proofs.BitCells.{appended, cell_past, refused}
+use Rattle.pg_base.proofs.BitCells.{appends_cell, cell_past, appends_nothing}
 use Rattle.pg_base.proofs.protocol.bits.varbit_to_sql.Goals as goal
 
 pub returns-then-len-gt-MAX_LEN : goal.returns-then-len-gt-MAX_LEN
@@ -11,10 +11,10 @@ returns-then-len-gt-MAX_LEN c = rw (cell_past c.args.len c.args.bytes.now c.if-l
 
 pub returns-in_err-reserve : goal.returns-in_err-reserve
 returns-in_err-reserve c =
-    let told = c.from_residual.ensures in
+    let fault = c.from_residual.ensures in
     let left = c.in_err-reserve.ensures in
-    refused c.args.len c.args.bytes.now c.args.out.now c.reserve.new.self c.from_residual.result
-    c.if-len-gt-MAX_LEN.false c.requires told.0 told.1 left.items left.spare.1 left.spare.0
+    appends_nothing c.args.len c.args.bytes.now c.args.out.now c.reserve.new.self c.from_residual.result
+    c.if-len-gt-MAX_LEN.false c.requires fault.0 fault.1 left.items left.spare.1 left.spare.0
 
 pub returns : goal.returns
 returns c =
@@ -27,7 +27,7 @@ returns c =
     let items = c.extend_by_bits.ensures.items ∙ ap (λ x. x ++ packed (first_bits n p)) head
     ∙ append_assoc old.items (to_be_bytes w32 n) (packed (first_bits n p)) in
     let count : length c.to_be_bytes.result ≡ 4 = ap length c.to_be_bytes.ensures in
-    appended n p old c.extend_by_bits.new.out c.if-len-gt-MAX_LEN.false c.requires items
+    appends_cell n p old c.extend_by_bits.new.out c.if-len-gt-MAX_LEN.false c.requires items
     (omega (
       arith,
       count,

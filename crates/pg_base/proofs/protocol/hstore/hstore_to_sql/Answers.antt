@@ -1,7 +1,7 @@
 -- What the proof of `hstore_to_sql` answers by hand.
 use Rattle.std.proofs.Common.{◌+◌, ◌≤◌, ◌++◌, List, ℕ, length, ap, ◌∙◌, arith, append_assoc, length-append}
 use Rattle.pg_base.proofs.HstoreLengths.{has_room, entries_next}
-use Rattle.pg_base.proofs.Concat.{no_refusal, appended}
+use Rattle.pg_base.proofs.Concat.{no_refusal, items_and_spare}
 use Rattle.pg_base.proofs.protocol.hstore.hstore_to_sql.Goals as goal
 
 pub returns-in_err-text_frame_to_sql : goal.returns-in_err-text_frame_to_sql
@@ -22,7 +22,7 @@ returns-in_err-text_frame_to_sql-2 c =
     omega (arith, all.2, c.in_ok-reserve.ensures.spare.1, c.in_ok-int4_to_sql.ensures.1) in
     let room = has_room c.args.entries.now c.loop-key.key-index _ so_far.0 all.0 c.int4_to_sql.new.out.spare
     c.loop-key.out.spare c.loop-key-test.true so_far.1 all.1 so_far.3 enough in
-    let key = appended _ room.key _ _ room.key_is c.in_ok-text_frame_to_sql.ensures in
+    let key = items_and_spare _ room.key _ _ room.key_is c.in_ok-text_frame_to_sql.ensures in
     absurd (no_refusal _ room.value _ _ _ room.value_is
     (omega (arith, room.fits, key.1)) c.in_err-text_frame_to_sql-2.ensures)
 
@@ -34,8 +34,8 @@ loop-key-preserved c =
     omega (arith, all.2, c.in_ok-reserve.ensures.spare.1, c.in_ok-int4_to_sql.ensures.1) in
     let room = has_room c.args.entries.now c.loop-key.key-index _ so_far.0 all.0 c.int4_to_sql.new.out.spare
     c.loop-key.out.spare c.loop-key-test.true so_far.1 all.1 so_far.3 enough in
-    let key = appended _ room.key _ _ room.key_is c.in_ok-text_frame_to_sql.ensures in
-    let value = appended _ room.value _ _ room.value_is c.in_ok-text_frame_to_sql-2.ensures in
+    let key = items_and_spare _ room.key _ _ room.key_is c.in_ok-text_frame_to_sql.ensures in
+    let value = items_and_spare _ room.value _ _ room.value_is c.in_ok-text_frame_to_sql-2.ensures in
     let start : List ℕ = c.int4_to_sql.new.out.items in
     let frames : List ℕ = room.key ++ room.value in (
       so_far.0 ++ frames,
