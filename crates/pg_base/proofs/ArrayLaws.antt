@@ -26,8 +26,8 @@ after_head b = after_dimensions (count_or_zero (number_in b)) (drop pair_width (
 drop_part : (k : ℕ) (x s : List ℕ) → length x ≡ k → drop k (x ++ s) ≡ s
 drop_part k x s e = ap (λ n. drop n (x ++ s)) (sym e) ∙ drop-append_seam x s
 
-long_whole : (s l x rest : List ℕ) (n : ℕ) → s ≡ l ++ (x ++ rest) → IsCount l n → length x ≡ number_width → nat_le pair_width (length s)
-    ≡ true
+long_whole : (s l x rest : List ℕ) (n : ℕ) → s ≡ l ++ (x ++ rest) → IsCount l n → length x ≡ number_width
+    → nat_le pair_width (length s) ≡ true
 long_whole s l x rest n e p h =
     let four : length l ≡ 4 = be-length w32 l (pos n) p in
     let all : length s ≡ 8 + length rest =

@@ -9,8 +9,8 @@ use Rattle.pg_types.specs.declared.fault.Fault.{Fault}
 use Rattle.pg_types.specs.declared.fault.Fault.TheVariants.{Transmit}
 use Rattle.pg_write.specs.ArrayWriting.{element_cells, element_frame_cell}
 
--- the frame of the cell was appended; or it is refused with this fault or has no frame, or memory ran out, and the bytes
--- are as they were
+-- the frame of the cell was appended; or it is refused with this fault or has no frame, or memory ran out, and the
+-- bytes are as they were
 abbrev pub AppendsFrame : Wire → List ℕ → List ℕ → Result ⊤ Fault → Type 0
 AppendsFrame w old new (Ok done) = (c : Cell) × (b : List ℕ) × (w ≡ Ok c) × (frame c ≡ Some b) × (new ≡ old ++ b)
 AppendsFrame w old new (Err f) = (new ≡ old) × IfSome (refusal_of f) (λ r. element_frame_cell w ≡ Err r)

@@ -9,8 +9,8 @@ use Rattle.pg_types.specs.Faults.{Refusal, Outcome}
 use Rattle.pg_base.specs.Formats.{Checks, first_fault_of}
 use Rattle.pg_base.specs.ArrayTypes.{accepted_list, accepted_element, element_of}
 use Rattle.pg_base.specs.Sameness.{SameList}
-use Rattle.pg_read.specs.ArrayReading.{DecodesArray, ElementsGive, ReadsAll, ReadsArray, ReadsChecked, ReadsElements, ReadsFixed}
-use Rattle.pg_read.specs.ArrayReading.{ReadsList, ReadsByElement, end_checks, fixed_checks}
+use Rattle.pg_read.specs.ArrayReading.{DecodesArray, ElementsGive, ReadsAll, ReadsArray, ReadsChecked, ReadsElements}
+use Rattle.pg_read.specs.ArrayReading.{ReadsFixed, ReadsList, ReadsByElement, end_checks, fixed_checks}
 use Rattle.pg_read.specs.Reading.{SameOutcome, GivesSingle, ReadsSingle}
 use Rattle.pg_read.specs.ReadingLaws.{no_fault, not_null_single}
 

@@ -12,7 +12,8 @@ use Rattle.pg_base.specs.Counts.{IsCount, count_bytes}
 use Rattle.pg_types.specs.Faults.{Outcome, transmit}
 use Rattle.pg_base.proofs.FrameLaws.{parts_of}
 use Rattle.pg_base.specs.Sameness.{SameList}
-use Rattle.pg_write.specs.ArrayWriting.{element_cells, element_frame_cell, cons_cell, with_frame, wire_array}
+use Rattle.pg_write.proofs.ElementCells.{in_front_ok}
+use Rattle.pg_write.specs.ArrayWriting.{element_cells, element_frame_cell, with_frame, wire_array}
 
 -- the cells are those that the values are written as
 abbrev pub AllWritten : {A : Type 0} → (A → Wire) → List A → List Cell → Type 0
@@ -26,28 +27,12 @@ frame_after_cell : (w : Wire) (c : Cell) → element_frame_cell w ≡ Ok c → w
 frame_after_cell (Ok d) c e = ap Ok (has_frame d c (frame d) e)
 frame_after_cell (Err r) c e = cc
 
--- what is known where a cell stands before others
-record IsInFront (w : Wire) (r : Outcome (List Cell)) (cs : List Cell) : Type 0 where
-  -- the cell, and the others
-  pub cell : Cell
-  pub others : List Cell
-  pub cell_is : w ≡ Ok cell
-  pub others_are : r ≡ Ok others
-  -- they are all the cells
-  pub all : cs ≡ cell ∷ others
-
-in_front_of : (w : Wire) (r : Outcome (List Cell)) (cs : List Cell) → cons_cell w r ≡ Ok cs → IsInFront w r cs
-in_front_of (Err x) r cs e = let no : ⊥ = cc in absurd no
-in_front_of (Ok c) (Err x) cs e = let no : ⊥ = cc in absurd no
-in_front_of (Ok c) (Ok ds) cs e =
-    record { cell = c; others = ds; cell_is = refl; others_are = refl; all = cc }
-
 -- the cells of elements are those that they are written as
 pub elements_written : {A : Type 0} (wire : A → Wire) (vs : List A) (cs : List Cell) → element_cells wire vs ≡ Ok cs
     → AllWritten wire vs cs
 elements_written wire [] cs e = let none : cs ≡ [] = cc in subst (AllWritten wire []) (sym none) tt
 elements_written wire (v ∷ vs) cs e =
-    let p = in_front_of (element_frame_cell (wire v)) (element_cells wire vs) cs e in
+    let p = in_front_ok (element_frame_cell (wire v)) (element_cells wire vs) cs e in
     subst (AllWritten wire (v ∷ vs)) (sym p.all)
     (frame_after_cell (wire v) p.cell p.cell_is, elements_written wire vs p.others p.others_are)
 
