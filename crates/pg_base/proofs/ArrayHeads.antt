@@ -14,7 +14,16 @@ pub one_dimension : (b h m x s : List ℕ) (d : ℕ) (r : Result ToRead Fault) �
     → Answers (Decodes (SpellsDimensions (suc zero)) (λ s. first_fault_of (dimension_checks (suc zero) s)) s) r
     → Answers (Decodes SpellsHead (λ b. first_fault_of (head_checks b)) b) r
 one_dimension b h m x s d (Ok cells) e is one parts eight p =
-    (1, h, x, s, e ∙ ap (λ t. h ++ t) parts, subst (IsCount h) one is, eight, p)
+    record {
+      dimension_count = 1;
+      count_prefix = h;
+      flags_and_oid = x;
+      behind = s;
+      is = e ∙ ap (λ t. h ++ t) parts;
+      counts = subst (IsCount h) one is;
+      width = eight;
+      spells = p;
+    }
 one_dimension b h m x s d (Err f) e is one parts eight p =
     IfSome_then (refusal_of f) p (λ r q. dimension_fault b h x s 1 r (e ∙ ap (λ t. h ++ t) parts)
     (subst (IsCount h) one is) eight q)

@@ -5,11 +5,11 @@ use Rattle.std.proofs.Math.Seq.{drop-append_seam}
 use Rattle.std.proofs.lemmas.Bool.Decides.{nat_tests}
 use Rattle.std.proofs.lemmas.List.{length-append}
 use Rattle.std.specs.Int.{w32}
-use Rattle.pg_base.specs.Arrays.{SpellsDimensions, SpellsHead, ArrayBody, dimension_checks, head_checks}
+use Rattle.pg_base.specs.Arrays.{SpellsDimensions, SpellsHead, ArrayBody, dimension_checks, head_checks, pair_width}
 use Rattle.pg_base.proofs.CellLaws.{cells_single}
 use Rattle.pg_base.specs.Cells.{Cell, CellsInRow}
 use Rattle.pg_base.proofs.CountLaws.{number_then}
-use Rattle.pg_base.specs.Counts.{IsCount, ToRead, number_in, count_or_zero}
+use Rattle.pg_base.specs.Counts.{IsCount, ToRead, after_number, number_in, number_width, count_or_zero}
 use Rattle.pg_base.proofs.FormatLaws.{be-length}
 use Rattle.pg_types.specs.Faults.{Refusal}
 use Rattle.pg_base.specs.Formats.{first_fault_of}
@@ -17,24 +17,24 @@ use Rattle.pg_base.specs.Formats.{first_fault_of}
 -- what is to be read after so many dimensions
 abbrev after_dimensions : ℕ → List ℕ → ToRead
 after_dimensions zero s = record { left = 0; bytes = s }
-after_dimensions (suc d) s = record { left = count_or_zero (number_in s); bytes = drop 4 (drop 4 s) }
+after_dimensions (suc d) s = record { left = count_or_zero (number_in s); bytes = drop number_width (after_number s) }
 
 -- and after the head
 abbrev after_head : List ℕ → ToRead
-after_head b = after_dimensions (count_or_zero (number_in b)) (drop 8 (drop 4 b))
+after_head b = after_dimensions (count_or_zero (number_in b)) (drop pair_width (after_number b))
 
 drop_part : (k : ℕ) (x s : List ℕ) → length x ≡ k → drop k (x ++ s) ≡ s
 drop_part k x s e = ap (λ n. drop n (x ++ s)) (sym e) ∙ drop-append_seam x s
 
-long_whole : (s l x rest : List ℕ) (n : ℕ) → s ≡ l ++ (x ++ rest) → IsCount l n → length x ≡ 4 → nat_le 8 (length s)
-    ≡ true
+long_whole : (s l x rest : List ℕ) (n : ℕ) → s ≡ l ++ (x ++ rest) → IsCount l n → length x ≡ number_width
+    → nat_le pair_width (length s) ≡ true
 long_whole s l x rest n e p h =
     let four : length l ≡ 4 = be-length w32 l (pos n) p in
     let all : length s ≡ 8 + length rest =
     omega (arith, ap length e, length-append l (x ++ rest), length-append x rest, four, h) in
     grind (arith, nat_tests)
 
-long_enough : (x s : List ℕ) → length x ≡ 8 → nat_le 8 (length (x ++ s)) ≡ true
+long_enough : (x s : List ℕ) → length x ≡ pair_width → nat_le pair_width (length (x ++ s)) ≡ true
 long_enough x s h =
     let all : length (x ++ s) ≡ 8 + length s = omega (arith, length-append x s, h) in
     grind (arith, nat_tests)
@@ -52,12 +52,17 @@ dimensions_then zero s r p =
           (sym p.0) p.1;
     }
 dimensions_then (suc zero) s r p =
-    let number = number_then s p.0 (p.1 ++ r.bytes) (pos r.left) p.2 p.3 in
+    let prefix = p.0 in
+    let lower_bound = p.1 in
+    let is = p.2 in
+    let counts = p.3 in
+    let width = p.4 in
+    let number = number_then s prefix (lower_bound ++ r.bytes) (pos r.left) is counts in
     record {
-      passes = rw (long_whole s p.0 p.1 r.bytes r.left p.2 p.3 p.4, number.number) refl;
+      passes = rw (long_whole s prefix lower_bound r.bytes r.left is counts width, number.number) refl;
       behind = rw (number.number, number.rest)
           (ap (λ (x : List ℕ). let q : ToRead = record { left = r.left; bytes = x } in q)
-          (drop_part 4 p.1 r.bytes p.4));
+          (drop_part number_width lower_bound r.bytes width));
     }
 dimensions_then (suc (suc d)) s r p = absurd p
 
@@ -68,20 +73,22 @@ record IsHead (b : List ℕ) (r : ToRead) : Type 0 where
 
 head_then : (b : List ℕ) (r : ToRead) → SpellsHead b r → IsHead b r
 head_then b r p =
-    let number = number_then b p.1 (p.2 ++ p.3) (pos p.0) p.4 p.5 in
-    let first = dimensions_then p.0 p.3 r p.7 in
-    let part : drop 8 (p.2 ++ p.3) ≡ p.3 = drop_part 8 p.2 p.3 p.6 in
+    let number = number_then b p.count_prefix (p.flags_and_oid ++ p.behind) (pos p.dimension_count) p.is p.counts in
+    let first = dimensions_then p.dimension_count p.behind r p.spells in
+    let part : drop pair_width (p.flags_and_oid ++ p.behind) ≡ p.behind =
+    drop_part pair_width p.flags_and_oid p.behind p.width in
+    let long = long_enough p.flags_and_oid p.behind p.width in
     record {
-      passes = rw (number.has, number.number, number.rest, long_enough p.2 p.3 p.6, part) first.passes;
+      passes = rw (number.has, number.number, number.rest, long, part) first.passes;
       behind = rw (number.number, number.rest, part) first.behind;
     }
 
 -- after sound flags the first fault is that of the dimensions
-pub dimension_fault : (b h x s : List ℕ) (d : ℕ) (r : Refusal) → b ≡ h ++ (x ++ s) → IsCount h d → length x ≡ 8
+pub dimension_fault : (b h x s : List ℕ) (d : ℕ) (r : Refusal) → b ≡ h ++ (x ++ s) → IsCount h d → length x ≡ pair_width
     → first_fault_of (dimension_checks d s) ≡ Some r → first_fault_of (head_checks b) ≡ Some r
 dimension_fault b h x s d r e is flags f =
     let number = number_then b h (x ++ s) (pos d) e is in
-    let part : drop 8 (x ++ s) ≡ s = drop_part 8 x s flags in
+    let part : drop pair_width (x ++ s) ≡ s = drop_part pair_width x s flags in
     rw (number.has, number.number, number.rest, long_enough x s flags, part) f
 
 -- a head passes its checks

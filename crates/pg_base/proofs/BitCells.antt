@@ -20,7 +20,14 @@ pub spells_first_bits : (b head rest : List ℕ) (n : ℕ) → b ≡ head ++ res
     → FormBits (λ v. v) b (first_bits n rest)
 spells_first_bits b head rest n e is whole =
     let m : n ≡ length (first_bits n rest) = sym (first_bits_len n rest) in
-    (head, rest, e, subst (λ x. IsCount head x) m is, whole ∙ ap bytes_for m, ap (λ x. first_bits x rest) m)
+    record {
+      count_prefix = head;
+      bits_bytes = rest;
+      is = e;
+      counts = subst (λ x. IsCount head x) m is;
+      width = whole ∙ ap bytes_for m;
+      first = ap (λ x. first_bits x rest) m;
+    }
 
 -- ---- writing
 -- the bytes of a cell

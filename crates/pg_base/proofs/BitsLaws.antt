@@ -22,8 +22,9 @@ bits_single b s t p q n m e f is it =
 pub bits_grammar : {A : Type 0} (bits_of : A → List Bool)
     → IsGrammar (λ v w. bits_of v ≡ bits_of w) (FormBits bits_of) first_fault_bits
 bits_grammar bits_of = record {
-  passes = λ b v h. bits_pass b h.0 h.1 (length (bits_of v)) h.2 h.3 h.4;
+  passes = λ b v h. bits_pass b h.count_prefix h.bits_bytes (length (bits_of v)) h.is h.counts h.width;
   single = λ b v w h k.
-      let same = bits_single b h.0 k.0 h.1 k.1 (length (bits_of v)) (length (bits_of w)) h.2 k.2 h.3 k.3 in
-      h.5 ∙ ap (λ n. first_bits n h.1) same.0 ∙ ap (first_bits (length (bits_of w))) same.1 ∙ sym k.5;
+      let same = bits_single b h.count_prefix k.count_prefix h.bits_bytes k.bits_bytes (length (bits_of v))
+      (length (bits_of w)) h.is k.is h.counts k.counts in
+      h.first ∙ ap (λ n. first_bits n h.bits_bytes) same.0 ∙ ap (first_bits (length (bits_of w))) same.1 ∙ sym k.first;
 }

@@ -152,8 +152,10 @@ form_passes b s es c p = fault_after_count b (record { left = length es; bytes =
 pub hstore_grammar : {A : Type 0} (value_at : A → List ℕ → Option Cell)
     → IsGrammar (λ m n. (q : List ℕ) → value_at m q ≡ value_at n q) (FormHstore value_at) first_fault_hstore
 hstore_grammar value_at = record {
-  passes = λ b m h. form_passes b h.1 h.0 h.2 h.3;
-  single = λ b m n h k. λ q. h.4 q ∙ ap (last_value q) (entries_single b h.1 k.1 h.0 k.0 h.2 h.3 k.2 k.3) ∙ sym (k.4 q);
+  passes = λ b m h. form_passes b h.behind h.entries h.counts h.spells;
+  single = λ b m n h k.
+      let same = entries_single b h.behind k.behind h.entries k.entries h.counts h.spells k.counts k.spells in
+      λ q. h.values q ∙ ap (last_value q) same ∙ sym (k.values q);
 }
 
 next_fault : (n : ℕ) (s : List ℕ) (r : Refusal) → first_fault_of (checks_of_next entry_checks n s) ≡ Some r

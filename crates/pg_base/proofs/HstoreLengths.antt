@@ -65,23 +65,33 @@ has_entry es i d bs total h so_far all =
     let behind : List Entry = map borrowed_entry (drop (i + 1) es) in
     let parts = parts_of (entries_bytes before) (entries_bytes (e ∷ behind)) total
     (sym (entries-append before (e ∷ behind)) ∙ ap entries_bytes (sym (entry_at es i d h)) ∙ all) in
-    let here = parts_of (concat (frame (Some e.0)) (frame e.1)) (entries_bytes behind) parts.1 parts.3 in
-    let texts = parts_of (frame (Some e.0)) (frame e.1) here.0 here.2 in
-    let same : Some bs ≡ Some parts.0 = sym so_far ∙ parts.2 in
-    let bs_is : bs ≡ parts.0 = cc in
-    let bs_len : length bs ≡ length parts.0 = subst (λ (s : List ℕ). length bs ≡ length s) bs_is refl in
+    let first = parts.0 in
+    let rest = parts.1 in
+    let rest_is = parts.3 in
+    let whole = parts.4 in
+    let here = parts_of (concat (frame (Some e.0)) (frame e.1)) (entries_bytes behind) rest rest_is in
+    let entry = here.0 in
+    let others = here.1 in
+    let rest_whole = here.4 in
+    let texts = parts_of (frame (Some e.0)) (frame e.1) entry here.2 in
+    let key = texts.0 in
+    let value = texts.1 in
+    let value_is = texts.3 in
+    let entry_whole = texts.4 in
+    let same : Some bs ≡ Some first = sym so_far ∙ parts.2 in
+    let bs_is : bs ≡ first = cc in
+    let bs_len : length bs ≡ length first = subst (λ (s : List ℕ). length bs ≡ length s) bs_is refl in
     record {
-      key = texts.0;
-      value = texts.1;
+      key = key;
+      value = value;
       key_is = texts.2;
-      value_is = texts.3;
+      value_is = value_is;
       fits = omega (
         arith,
         bs_len,
-        sum_len total parts.0 parts.1 parts.4,
-        sum_len parts.1 here.0 here.1 here.4,
-        sum_len
-            here.0 texts.0 texts.1 texts.4,
+        sum_len total first rest whole,
+        sum_len rest entry others rest_whole,
+        sum_len entry key value entry_whole,
       );
     }
 
@@ -96,8 +106,12 @@ whole_parts es b e =
     let n : ℕ = length es in
     let parts = parts_of (count_bytes n) (entries_bytes es) b e in
     let four : parts.0 ≡ be w32 (pos n) = count_of (fits_prefix n) (be w32 (pos n)) parts.0 parts.2 in
-    let sum : length b ≡ length parts.0 + length parts.1 = sum_len b parts.0 parts.1 parts.4 in
-    (parts.1, parts.3, sum ∙ ap (λ (s : List ℕ). length s + length parts.1) four)
+    let prefix = parts.0 in
+    let entries = parts.1 in
+    let entries_are = parts.3 in
+    let whole = parts.4 in
+    let sum : length b ≡ length prefix + length entries = sum_len b prefix entries whole in
+    (entries, entries_are, sum ∙ ap (λ (s : List ℕ). length s + length entries) four)
 
 -- what is left of room for all entries has room for the next
 pub record HasRoom (e : Entry) (room : ℕ) : Type 0 where
@@ -129,7 +143,9 @@ pub key_none : (es : List BorrowedEntry) (i : ℕ) (d : BorrowedEntry) (bs : Lis
     → frame (Some (get_or es i d).0.now) ≡ None → hstore_bytes (map borrowed_entry es) ≡ None
 key_none es i d bs h so_far none = none_of (hstore_bytes (map borrowed_entry es)) (λ t e.
     let parts = parts_of (count_bytes (length (map borrowed_entry es))) (entries_bytes (map borrowed_entry es)) t e in
-    let has = has_entry es i d bs parts.1 h so_far parts.3 in
+    let bytes = parts.1 in
+    let are = parts.3 in
+    let has = has_entry es i d bs bytes h so_far are in
     let no : None ≡ Some has.key = sym none ∙ has.key_is in cc)
 
 pub value_none : (es : List BorrowedEntry) (i : ℕ) (d : BorrowedEntry) (bs : List ℕ) → i < length es
@@ -137,7 +153,9 @@ pub value_none : (es : List BorrowedEntry) (i : ℕ) (d : BorrowedEntry) (bs : L
     → frame (cell_of (get_or es i d).1) ≡ None → hstore_bytes (map borrowed_entry es) ≡ None
 value_none es i d bs h so_far none = none_of (hstore_bytes (map borrowed_entry es)) (λ t e.
     let parts = parts_of (count_bytes (length (map borrowed_entry es))) (entries_bytes (map borrowed_entry es)) t e in
-    let has = has_entry es i d bs parts.1 h so_far parts.3 in
+    let bytes = parts.1 in
+    let are = parts.3 in
+    let has = has_entry es i d bs bytes h so_far are in
     let no : None ≡ Some has.value = sym none ∙ has.value_is in cc)
 
 -- the bytes of a short list of entries that have bytes

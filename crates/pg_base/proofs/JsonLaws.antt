@@ -22,15 +22,16 @@ not_empty text = grind (arith, nat_tests)
 
 json_passes : {A : Type 0} (view_of : A → Data) (versioned : Bool) (b : List ℕ) (v : A)
     → FormJson view_of versioned b v → first_fault_json versioned b ≡ None
-json_passes view_of false b v h = rw (h.1, is_utf8-from_IsUtf8 h.0 h.2, h.3, h.4) refl
-json_passes view_of true b v h = rw (h.1, not_empty h.0, is_utf8-from_IsUtf8 h.0 h.2, h.3, h.4) refl
+json_passes view_of false b v h = rw (h.is, is_utf8-from_IsUtf8 h.text h.utf8, h.document, h.no_float) refl
+json_passes view_of true b v h =
+    rw (h.is, not_empty h.text, is_utf8-from_IsUtf8 h.text h.utf8, h.document, h.no_float) refl
 
 json_single : {A : Type 0} (view_of : A → Data) (versioned : Bool) (b : List ℕ) (v w : A)
     → FormJson view_of versioned b v → FormJson view_of versioned b w → view_of v ≡ view_of w
 json_single view_of versioned b v w h k =
-    let same : h.0 ≡ k.0 = sym (text_back versioned h.0) ∙ ap (text_in versioned) (sym h.1 ∙ k.1)
-    ∙ text_back versioned k.0 in
-    let bytes : Some (view_of v) ≡ Some (view_of w) = cc (h.3, k.3, same) in
+    let same : h.text ≡ k.text = sym (text_back versioned h.text) ∙ ap (text_in versioned) (sym h.is ∙ k.is)
+    ∙ text_back versioned k.text in
+    let bytes : Some (view_of v) ≡ Some (view_of w) = cc (h.document, k.document, same) in
     cc
 
 pub json_grammar : {A : Type 0} (view_of : A → Data) (versioned : Bool)

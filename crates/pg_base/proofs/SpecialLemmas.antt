@@ -11,7 +11,8 @@ pub finite_date : (b : List ℕ) (n : ℤ) → IsBe w32 b n → n ≢ infinity_n
     → IsFiniteCell w32 b
 finite_date b n is not_greatest not_least = record {
   width = ap length is.1 ∙ length-bytes_high_first 4 (cast_unsigned w32 n);
-  not_infinity = λ e. not_greatest (int4_grammar.single b n (infinity_number w32) is (record { sfits = omega arith }, e));
+  not_infinity = λ e. not_greatest
+      (int4_grammar.single b n (infinity_number w32) is (record { sfits = omega arith }, e));
   not_minus_infinity = λ e. not_least
       (int4_grammar.single b n (minus_infinity_number w32) is (record { sfits = omega arith }, e));
 }

@@ -21,13 +21,28 @@ pair_width = 8
 -- many there are, with any lower bound
 abbrev pub SpellsDimensions : ℕ → List ℕ → ToRead → Type 0
 SpellsDimensions zero s r = (r.left ≡ 0) × (s ≡ r.bytes)
-SpellsDimensions (suc zero) s r = (l x : List ℕ) × (s ≡ l ++ (x ++ r.bytes)) × IsCount l r.left × (length x ≡ number_width)
+SpellsDimensions (suc zero) s r =
+    (l x : List ℕ) × (s ≡ l ++ (x ++ r.bytes)) × IsCount l r.left × (length x ≡ number_width)
 SpellsDimensions (suc (suc d)) s r = ⊥
 
 -- b is a head, with any flags and any OID, and then what is to be read
-abbrev pub SpellsHead : List ℕ → ToRead → Type 0
-SpellsHead b r =
-    (d : ℕ) × (h x s : List ℕ) × (b ≡ h ++ (x ++ s)) × IsCount h d × (length x ≡ pair_width) × SpellsDimensions d s r
+pub record SpellsHead (b : List ℕ) (r : ToRead) : Type 0 where
+  -- how many dimensions there are
+  pub dimension_count : ℕ
+  -- the bytes of this count
+  pub count_prefix : List ℕ
+  -- those of the flags and of the OID
+  pub flags_and_oid : List ℕ
+  -- and those after them
+  pub behind : List ℕ
+  -- they follow one another
+  pub is : b ≡ count_prefix ++ (flags_and_oid ++ behind)
+  -- the count's bytes are the count
+  pub counts : IsCount count_prefix dimension_count
+  -- the flags and the OID have the width of two numbers
+  pub width : length flags_and_oid ≡ pair_width
+  -- the dimensions come next
+  pub spells : SpellsDimensions dimension_count behind r
 
 -- the checks of so many dimensions
 abbrev pub dimension_checks : ℕ → List ℕ → Checks

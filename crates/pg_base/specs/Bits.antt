@@ -79,10 +79,23 @@ Pops old None new = (old ≡ []) × (new ≡ [])
 
 -- the bytes spell these bits: their number in four bytes, and bytes of which they are the first bits; there are as many
 -- bytes as they take, and what pads the last one is free
+pub record SpellsBits (b : List ℕ) (v : List Bool) : Type 0 where
+  -- the bytes of the number of bits
+  pub count_prefix : List ℕ
+  -- and those of the bits
+  pub bits_bytes : List ℕ
+  -- they follow one another
+  pub is : b ≡ count_prefix ++ bits_bytes
+  -- the number is that of the bits
+  pub counts : IsCount count_prefix (length v)
+  -- there are as many bytes as the bits take
+  pub width : length bits_bytes ≡ bytes_for (length v)
+  -- the bits are the first of these bytes
+  pub first : v ≡ first_bits (length v) bits_bytes
+
+-- the bytes spell the bits of a value
 abbrev pub FormBits : {A : Type 0} → (A → List Bool) → List ℕ → A → Type 0
-FormBits bits_of b v =
-    (s p : List ℕ) × (b ≡ s ++ p) × IsCount s (length (bits_of v)) × (length p ≡ bytes_for (length (bits_of v))) ×
-    (bits_of v ≡ first_bits (length (bits_of v)) p)
+FormBits bits_of b v = SpellsBits b (bits_of v)
 
 -- the checks of the count come first; then any other number of bytes than the bits take is Size
 abbrev pub first_fault_bits : List ℕ → Option Refusal

@@ -51,10 +51,17 @@ last_value q (e ∷ es) = or_this q e (last_value q es)
 
 -- b spells a map: it is a count and that many entries, and the map has just their keys, each with its last entry's
 -- value; the first argument tells what a map has at a key
-abbrev pub FormHstore : {A : Type 0} → (A → List ℕ → Option Cell) → List ℕ → A → Type 0
-FormHstore value_at b m =
-    (es : List Entry) × (s : List ℕ) × SpellsCount b (record { left = length es; bytes = s }) × SpellsEntries s es []
-    × ((q : List ℕ) → value_at m q ≡ last_value q es)
+pub record FormHstore {A : Type 0} (value_of : A → List ℕ → Option Cell) (b : List ℕ) (m : A) : Type 0 where
+  -- the entries
+  pub entries : List Entry
+  -- the bytes after the count
+  pub behind : List ℕ
+  -- the count is that of the entries
+  pub counts : SpellsCount b (record { left = length entries; bytes = behind })
+  -- the bytes after it spell the entries
+  pub spells : SpellsEntries behind entries []
+  -- the map has at each key what the last entry has
+  pub values : (q : List ℕ) → value_of m q ≡ last_value q entries
 
 -- the checks of a key: bytes that are truncated are Size, a negative length KeyLength, and what is no UTF-8 Utf8
 abbrev pub key_checks : List ℕ → Checks

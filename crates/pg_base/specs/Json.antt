@@ -20,9 +20,17 @@ abbrev pub accepted_json : Content → Bool
 accepted_json ty = is_row Json ty || is_row Jsonb ty
 
 -- the bytes are the cell of a text, after a version in JSONB, that reads as v, whose numbers are all kept as i64 or u64
-abbrev pub FormJson : {A : Type 0} → (A → Data) → Bool → List ℕ → A → Type 0
-FormJson view_of versioned b v = (text : List ℕ) × (b ≡ versioned_cell versioned text) × IsUtf8 text
-    × (read text ≡ Some (view_of v)) × (has_float (view_of v) ≡ false)
+pub record FormJson {A : Type 0} (view_of : A → Data) (versioned : Bool) (b : List ℕ) (v : A) : Type 0 where
+  -- the text
+  pub text : List ℕ
+  -- the bytes are its cell
+  pub is : b ≡ versioned_cell versioned text
+  -- it is UTF-8
+  pub utf8 : IsUtf8 text
+  -- it reads as v
+  pub document : read text ≡ Some (view_of v)
+  -- and v has no other number
+  pub no_float : has_float (view_of v) ≡ false
 
 -- the document that bytes are, if they are one
 abbrev pub document_of : List ℕ → Option Data

@@ -156,19 +156,26 @@ module _ {A X : Type 0} (items : X → List A) (reads : Cell → Outcome A → T
   -- a list is what was read where nothing is to be read
   pub list_ends : (x : X) → now ≡ nothing → items x ≡ vs → ReadsList items reads (Some b) (Ok x)
   list_ends x end is =
-      let all = all_taken start now cs taken end in (
-        start.left,
-        cs,
-        [],
-        (start.bytes, head, all.1),
-        (subst (λ xs. ReadsAll reads cs (Ok xs)) (sym is) values, none_left start.left cs all.0),
-      )
+      let all = all_taken start now cs taken end in
+      record {
+        count = start.left;
+        cells = cs;
+        rest = [];
+        body = (start.bytes, head, all.1);
+        gives = (subst (λ xs. ReadsAll reads cs (Ok xs)) (sym is) values, none_left start.left cs all.0);
+      }
 
   truncated : (r : Refusal) → first_fault_of (next_checks cell_checks now) ≡ Some r
       → ReadsList items reads (Some b) (Err r)
   truncated r e =
       let all = all_there start now cs r taken e in
-      inr (start.left, cs, now.bytes, (start.bytes, head, all.0), inr (vs, values, all.1))
+      inr (record {
+        count = start.left;
+        cells = cs;
+        rest = now.bytes;
+        body = (start.bytes, head, all.0);
+        gives = inr (vs, values, all.1);
+      })
 
   -- it is Size where the next step fails
   pub list_truncated : (fault : Option Refusal)
@@ -184,14 +191,13 @@ module _ {A X : Type 0} (items : X → List A) (reads : Cell → Outcome A → T
         let one = taken_next start now next cs c t taken n is spells in
         let all = all_remaining b start next (cs ++ c ∷ []) head bytes one in
         let fault : ReadsAll reads (cs ++ c ∷ []) (Err r) = fault_more reads cs (c ∷ []) vs r values (inl h) in
-        inr (
-          start.left,
-          (cs ++ c ∷ []) ++ all.0,
-          all.1,
-          (start.bytes, head, all.2),
-          inl
-              (fault_stays reads (cs ++ c ∷ []) all.0 r fault),
-        )
+        inr (record {
+          count = start.left;
+          cells = (cs ++ c ∷ []) ++ all.0;
+          rest = all.1;
+          body = (start.bytes, head, all.2);
+          gives = inl (fault_stays reads (cs ++ c ∷ []) all.0 r fault);
+        })
 
     pub list_refused : (fault : Option Refusal) → IfSome fault (λ r. reads c (Err r))
         → IfSome fault (λ r. ReadsList items reads (Some b) (Err r))
@@ -206,4 +212,10 @@ pub same_items : {A X Y : Type 0} (items : X → List A) (others : Y → List A)
 same_items items others reads None cell x y e h = absurd h
 same_items items others reads (Some m) None x y e h = absurd h
 same_items items others reads (Some m) (Some b) x y e h =
-    (h.0, h.1, h.2, h.3, subst (λ vs. ReadsElements (reads m) h.0 h.1 h.2 (Ok vs)) (sym e) h.4)
+    record {
+      count = h.count;
+      cells = h.cells;
+      rest = h.rest;
+      body = h.body;
+      gives = subst (λ vs. ReadsElements (reads m) h.count h.cells h.rest (Ok vs)) (sym e) h.gives;
+    }

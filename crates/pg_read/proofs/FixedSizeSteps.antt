@@ -58,7 +58,13 @@ module _ {A : Type 0} (reads : Cell → Outcome A → Type 0) (expected : ℕ) (
       (checks_passed (end_checks start.left cs []) ((nat_le expected start.left, too_few expected start.left) ∷ [])
       (none_left start.left cs all.0)
       ∙ (rw (no_more start.left expected enough) refl)) in
-      (start.left, cs, [], (start.bytes, head, all.1), (read_within, none_fails))
+      record {
+        count = start.left;
+        cells = cs;
+        rest = [];
+        body = (start.bytes, head, all.1);
+        gives = (read_within, none_fails);
+      }
 
   -- the count is smaller
   pub array_short : now ≡ nothing → length vs < expected → Reads (Err (too_few expected (length vs)))
@@ -71,14 +77,13 @@ module _ {A : Type 0} (reads : Cell → Outcome A → Type 0) (expected : ℕ) (
       (checks_passed (end_checks start.left cs []) ((nat_le expected start.left, too_few expected start.left) ∷ [])
       (none_left start.left cs all.0)
       ∙ (rw (more start.left expected fewer) refl)) in
-      inr (
-        start.left,
-        cs,
-        [],
-        (start.bytes, head, all.1),
-        inr
-            (vs, read_within, failed ∙ ap (λ n. Some (too_few expected n)) many),
-      )
+      inr (record {
+        count = start.left;
+        cells = cs;
+        rest = [];
+        body = (start.bytes, head, all.1);
+        gives = inr (vs, read_within, failed ∙ ap (λ n. Some (too_few expected n)) many);
+      })
 
   truncated : (r : Refusal) → first_fault_of (next_checks cell_checks now) ≡ Some r → Reads (Err r)
   truncated r e =
@@ -87,7 +92,13 @@ module _ {A : Type 0} (reads : Cell → Outcome A → Type 0) (expected : ℕ) (
       = rw (no_more expected (length cs) cells_within)
       (check_failed (end_checks start.left cs now.bytes)
       ((nat_le expected start.left, too_few expected start.left) ∷ []) r all.1) in
-      inr (start.left, cs, now.bytes, (start.bytes, head, all.0), inr (vs, read_within, failed))
+      inr (record {
+        count = start.left;
+        cells = cs;
+        rest = now.bytes;
+        body = (start.bytes, head, all.0);
+        gives = inr (vs, read_within, failed);
+      })
 
   -- the next step fails
   pub array_truncated : (fault : Option Refusal)
@@ -112,7 +123,13 @@ module _ {A : Type 0} (reads : Cell → Outcome A → Type 0) (expected : ℕ) (
         ∙ take-append_seam cs (c ∷ all.0) in
         let failed : first_fault_of (fixed_checks expected start.left cells all.1) ≡ Some (excess expected) =
         rw (more expected (length cells) longer) refl in
-        inr (start.left, cells, all.1, (start.bytes, head, all.2), inr (vs, (rw first values), failed))
+        inr (record {
+          count = start.left;
+          cells = cells;
+          rest = all.1;
+          body = (start.bytes, head, all.2);
+          gives = inr (vs, (rw first values), failed);
+        })
 
     refused : length vs < expected → (r : Refusal) → reads c (Err r) → Reads (Err r)
     refused wanted r h =
@@ -120,14 +137,14 @@ module _ {A : Type 0} (reads : Cell → Outcome A → Type 0) (expected : ℕ) (
         let fault : ReadsAll reads (cs ++ c ∷ []) (Err r) = fault_more reads cs (c ∷ []) vs r values (inl h) in
         let few : length (cs ++ c ∷ []) ≤ expected =
         omega (arith, length-append cs (c ∷ []), as_many reads cs vs values, wanted) in
-        inr (
-          start.left,
-          (cs ++ c ∷ []) ++ all.0,
-          all.1,
-          (start.bytes, head, all.2),
-          inl (rw (take_more expected (cs ++ c ∷ []) all.0 few)
-              (fault_stays reads (cs ++ c ∷ []) (take (expected - length (cs ++ c ∷ [])) all.0) r fault)),
-        )
+        inr (record {
+          count = start.left;
+          cells = (cs ++ c ∷ []) ++ all.0;
+          rest = all.1;
+          body = (start.bytes, head, all.2);
+          gives = inl (rw (take_more expected (cs ++ c ∷ []) all.0 few)
+              (fault_stays reads (cs ++ c ∷ []) (take (expected - length (cs ++ c ∷ [])) all.0) r fault));
+        })
 
     -- the next cell is refused
     pub array_refused : length vs < expected → (fault : Option Refusal) → IfSome fault (λ r. reads c (Err r))

@@ -42,14 +42,25 @@ abbrev pub ReadsFixed : {A : Type 0} → ℕ → (Cell → Outcome A → Type 0)
     → Type 0
 ReadsFixed expected reads n cs rest = ReadsChecked reads (fixed_checks expected n cs rest) (take expected cs)
 
+-- bytes are an array's whose elements give this outcome
+pub record ElementsGive {A : Type 0} (elements : ℕ → List Cell → List ℕ → Outcome (List A) → Type 0) (b : List ℕ)
+    (o : Outcome (List A)) : Type 0 where
+  -- how many elements the head states
+  pub count : ℕ
+  -- their cells
+  pub cells : List Cell
+  -- the bytes after them
+  pub rest : List ℕ
+  -- all these are the array's
+  pub body : ArrayBody b count cells rest
+  -- and this is what they give
+  pub gives : elements count cells rest o
+
 -- bytes that begin with no sound head give its first fault, and all others what their elements give
 abbrev pub DecodesArray : {A X : Type 0} → (X → List A) → (ℕ → List Cell → List ℕ → Outcome (List A) → Type 0) → List ℕ
     → Outcome X → Type 0
-DecodesArray items elements b (Ok x) =
-    (n : ℕ) × (cs : List Cell) × (rest : List ℕ) × ArrayBody b n cs rest × elements n cs rest (Ok (items x))
-DecodesArray items elements b (Err r) =
-    (first_fault_of (head_checks b) ≡ Some r)
-    ⊎ ((n : ℕ) × (cs : List Cell) × (rest : List ℕ) × ArrayBody b n cs rest × elements n cs rest (Err r))
+DecodesArray items elements b (Ok x) = ElementsGive elements b (Ok (items x))
+DecodesArray items elements b (Err r) = (first_fault_of (head_checks b) ≡ Some r) ⊎ ElementsGive elements b (Err r)
 
 -- what the cell of an array gives: NULL is WasNull
 abbrev pub ReadsArray : {A X : Type 0} → (X → List A) → (ℕ → List Cell → List ℕ → Outcome (List A) → Type 0) → Cell

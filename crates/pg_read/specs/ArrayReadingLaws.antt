@@ -2,15 +2,15 @@
 use Rattle.std.specs.Prelude.{◌≡◌, ℕ, List, [], ◌∷◌, take, Option, Some, None, Ok, Err, Bool, IsTrue}
 use Rattle.std.proofs.Common.{sym, ◌∙◌, subst, inl, inr, true≢false}
 use Rattle.pg_base.proofs.ArrayLaws.{body_single, head_passes}
-use Rattle.pg_base.specs.Arrays.{ArrayBody, head_checks}
+use Rattle.pg_base.specs.Arrays.{head_checks}
 use Rattle.pg_base.specs.Cells.{Cell}
 use Rattle.pg_types.specs.Content.{Content}
 use Rattle.pg_types.specs.Faults.{Refusal, Outcome}
 use Rattle.pg_base.specs.Formats.{Checks, first_fault_of}
 use Rattle.pg_base.specs.ArrayTypes.{accepted_list, accepted_element, element_of}
 use Rattle.pg_base.specs.Sameness.{SameList}
-use Rattle.pg_read.specs.ArrayReading.{DecodesArray, ReadsAll, ReadsArray, ReadsChecked, ReadsElements, ReadsFixed}
-use Rattle.pg_read.specs.ArrayReading.{ReadsList, ReadsByElement, end_checks, fixed_checks}
+use Rattle.pg_read.specs.ArrayReading.{DecodesArray, ElementsGive, ReadsAll, ReadsArray, ReadsChecked, ReadsElements}
+use Rattle.pg_read.specs.ArrayReading.{ReadsFixed, ReadsList, ReadsByElement, end_checks, fixed_checks}
 use Rattle.pg_read.specs.Reading.{SameOutcome, GivesSingle, ReadsSingle}
 use Rattle.pg_read.specs.ReadingLaws.{no_fault, not_null_single}
 
@@ -81,39 +81,39 @@ ElementsSingle {A} same elements =
 -- where elements have one outcome, so has the cell of their array
 module _ {A X : Type 0} (items : X → List A) (same : A → A → Type 0)
     (elements : ℕ → List Cell → List ℕ → Outcome (List A) → Type 0) (single : ElementsSingle same elements) where
-  body_outcome : (b : List ℕ) (n m : ℕ) (cs ds : List Cell) (u w : List ℕ) (r s : Outcome (List A))
-      → ArrayBody b n cs u → ArrayBody b m ds w → elements n cs u r → elements m ds w s
+  body_outcome : (b : List ℕ) (r s : Outcome (List A)) → ElementsGive elements b r → ElementsGive elements b s
       → SameOutcome (SameList same) r s
-  body_outcome b n m cs ds u w r s p q h k =
-      let e = body_single b n m cs ds u w p q in
-      single n cs u r s h (subst (λ x. elements x cs u s) (sym e.0)
-      (subst (λ x. elements m x u s) (sym e.1) (subst (λ x. elements m ds x s) (sym e.2) k)))
+  body_outcome b r s h k =
+      let e = body_single b h.count k.count h.cells k.cells h.rest k.rest h.body k.body in
+      single h.count h.cells h.rest r s h.gives (subst (λ x. elements x h.cells h.rest s) (sym e.0)
+      (subst (λ x. elements k.count x h.rest s) (sym e.1)
+      (subst (λ x. elements k.count k.cells x s) (sym e.2) k.gives)))
 
-  no_head_fault : (b : List ℕ) (n : ℕ) (cs : List Cell) (u : List ℕ) (r : Refusal) → ArrayBody b n cs u
+  no_head_fault : (b : List ℕ) (o : Outcome (List A)) (r : Refusal) → ElementsGive elements b o
       → first_fault_of (head_checks b) ≡ Some r → ⊥
-  no_head_fault b n cs u r p e = no_fault (first_fault_of (head_checks b)) r
-      (head_passes b (record { left = n; bytes = p.0 }) p.1) e
+  no_head_fault b o r h e = no_fault (first_fault_of (head_checks b)) r
+      (head_passes b (record { left = h.count; bytes = h.body.0 }) h.body.1) e
 
   one_decoded : (b : List ℕ) → GivesSingle (λ x y. SameList same (items x) (items y)) (DecodesArray items elements b)
-  one_decoded b (Ok x) (Ok y) h k = body_outcome b h.0 k.0 h.1 k.1 h.2 k.2 (Ok (items x)) (Ok (items y)) h.3 k.3 h.4 k.4
+  one_decoded b (Ok x) (Ok y) h k = body_outcome b (Ok (items x)) (Ok (items y)) h k
   one_decoded b (Ok x) (Err f) h k = elim k [
-    | inl y ↦ no_head_fault b h.0 h.1 h.2 f h.3 y
-    | inr y ↦ body_outcome b h.0 y.0 h.1 y.1 h.2 y.2 (Ok (items x)) (Err f) h.3 y.3 h.4 y.4
+    | inl y ↦ no_head_fault b (Ok (items x)) f h y
+    | inr y ↦ body_outcome b (Ok (items x)) (Err f) h y
   ]
   one_decoded b (Err r) (Ok y) h k = elim h [
-    | inl z ↦ no_head_fault b k.0 k.1 k.2 r k.3 z
-    | inr z ↦ body_outcome b z.0 k.0 z.1 k.1 z.2 k.2 (Err r) (Ok (items y)) z.3 k.3 z.4 k.4
+    | inl z ↦ no_head_fault b (Ok (items y)) r k z
+    | inr z ↦ body_outcome b (Err r) (Ok (items y)) z k
   ]
   one_decoded b (Err r) (Err f) h k = elim h [
     | inl z ↦ elim k [
       | inl y ↦ let e : Some r ≡ Some f = sym z ∙ y in cc
       | inr y ↦
-          absurd (no_head_fault b y.0 y.1 y.2 r y.3 z)
+          absurd (no_head_fault b (Err f) r y z)
     ]
     | inr z ↦ elim k [
-      | inl y ↦ absurd (no_head_fault b z.0 z.1 z.2 f z.3 y)
+      | inl y ↦ absurd (no_head_fault b (Err r) f z y)
       | inr y ↦
-          body_outcome b z.0 y.0 z.1 y.1 z.2 y.2 (Err r) (Err f) z.3 y.3 z.4 y.4
+          body_outcome b (Err r) (Err f) z y
     ]
   ]
 

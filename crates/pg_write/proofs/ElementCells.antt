@@ -15,12 +15,22 @@ use Rattle.pg_base.specs.ArrayTypes.{element_of}
 use Rattle.pg_write.specs.ArrayWriting.{element_cells, element_frame_cell, cons_cell, lower_bound_of, wire_array}
 use Rattle.pg_write.specs.ArrayWriting.{wire_list, wire_by_element}
 
+-- what is known where a cell stands before others
+pub record IsInFront (w : Wire) (r : Outcome (List Cell)) (cs : List Cell) : Type 0 where
+  -- the cell, and the others
+  pub cell : Cell
+  pub others : List Cell
+  pub cell_is : w ≡ Ok cell
+  pub others_are : r ≡ Ok others
+  -- they are all the cells
+  pub all : cs ≡ cell ∷ others
+
 -- a cell before others: all are there
-in_front_ok : (w : Wire) (r : Outcome (List Cell)) (cs : List Cell) → cons_cell w r ≡ Ok cs → (c : Cell)
-    × (ds : List Cell) × (w ≡ Ok c) × (r ≡ Ok ds) × (cs ≡ c ∷ ds)
+pub in_front_ok : (w : Wire) (r : Outcome (List Cell)) (cs : List Cell) → cons_cell w r ≡ Ok cs → IsInFront w r cs
 in_front_ok (Err x) r cs e = let no : ⊥ = cc in absurd no
 in_front_ok (Ok c) (Err x) cs e = let no : ⊥ = cc in absurd no
-in_front_ok (Ok c) (Ok ds) cs e = (c, ds, refl, refl, cc)
+in_front_ok (Ok c) (Ok ds) cs e =
+    record { cell = c; others = ds; cell_is = refl; others_are = refl; all = cc }
 
 module _ {A : Type 0} (wire : A → Wire) where
   -- the cells of the first elements and those of the others
@@ -29,8 +39,8 @@ module _ {A : Type 0} (wire : A → Wire) where
   cells-append [] vs cs ds e f = let none : cs ≡ [] = cc in rw none f
   cells-append (u ∷ us) vs cs ds e f =
       let p = in_front_ok (element_frame_cell (wire u)) (element_cells wire us) cs e in
-      ap (cons_cell (element_frame_cell (wire u))) (cells-append us vs p.1 ds p.3 f)
-      ∙ ap (λ w. cons_cell w (Ok (p.1 ++ ds))) p.2 ∙ ap (λ ws. Ok (ws ++ ds)) (sym p.4)
+      ap (cons_cell (element_frame_cell (wire u))) (cells-append us vs p.others ds p.others_are f)
+      ∙ ap (λ w. cons_cell w (Ok (p.others ++ ds))) p.cell_is ∙ ap (λ ws. Ok (ws ++ ds)) (sym p.all)
 
   -- the first fault is that of the others where the first elements have none
   cells-fault : (us vs : List A) (cs : List Cell) (r : Refusal) → element_cells wire us ≡ Ok cs → element_cells wire vs
@@ -38,7 +48,8 @@ module _ {A : Type 0} (wire : A → Wire) where
   cells-fault [] vs cs r e f = f
   cells-fault (u ∷ us) vs cs r e f =
       let p = in_front_ok (element_frame_cell (wire u)) (element_cells wire us) cs e in
-      ap (cons_cell (element_frame_cell (wire u))) (cells-fault us vs p.1 r p.3 f) ∙ rw p.2 refl
+      ap (cons_cell (element_frame_cell (wire u))) (cells-fault us vs p.others r p.others_are f)
+      ∙ rw p.cell_is refl
 
   module _ (vs : List A) (i : ℕ) (v : A) (h : i < length vs) (is : v ≡ get_or vs i v) where
     more : take (i + 1) vs ≡ take i vs ++ v ∷ []

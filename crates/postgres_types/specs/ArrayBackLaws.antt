@@ -15,7 +15,7 @@ use Rattle.pg_base.specs.Formats.{Checks, first_fault_of}
 use Rattle.pg_base.specs.ArrayTypes.{accepted_list, accepted_element, element_of}
 use Rattle.pg_base.specs.Sameness.{SameList}
 use Rattle.pg_read.specs.ArrayReading.{ReadsAll, ReadsArray, ReadsChecked, ReadsElements, ReadsFixed, ReadsList}
-use Rattle.pg_read.specs.ArrayReading.{ReadsByElement, end_checks, fixed_checks}
+use Rattle.pg_read.specs.ArrayReading.{ElementsGive, ReadsByElement, end_checks, fixed_checks}
 use Rattle.pg_read.specs.ReadingLaws.{no_fault}
 use Rattle.pg_write.specs.ArrayWriting.{element_cells, element_frame_cell, cons_cell, lower_bound_of, wire_array}
 use Rattle.pg_write.specs.ArrayWriting.{wire_fixed, wire_list, wire_by_element}
@@ -94,11 +94,11 @@ list_cell wire wanted ty element vs c e =
     let few = tested (fits_prefix (length vs)) written c whole.1 in
     let a = array_cell (lower_bound_of ty) (oid_of element) (element_cells (wire element) vs) c few.1 in
     record {
-      bytes = a.1;
-      cells = a.0;
-      is = a.4;
-      body = array_body (lower_bound_of ty) (oid_of element) a.0 a.1 a.3;
-      written = elements_written (wire element) vs a.0 a.2;
+      bytes = a.bytes;
+      cells = a.cells;
+      is = a.is;
+      body = array_body (lower_bound_of ty) (oid_of element) a.cells a.bytes a.written;
+      written = elements_written (wire element) vs a.cells a.cells_are;
       whole = whole.0;
     }
 
@@ -139,13 +139,22 @@ module _ {A X : Type 0} (items : X → List A) (same : A → A → Type 0) (read
     elements_taken : (o : Outcome (List A)) → ReadsAll reads cell.cells o → elements (length cell.cells) cell.cells [] o
     elements_taken o h = its_cells.taken cell.cells o many h
 
-    elements_given : (n : ℕ) (cs : List Cell) (rest : List ℕ) (o : Outcome (List A)) → ArrayBody cell.bytes n cs rest
-        → elements n cs rest o → ReadsAll reads cell.cells o
-    elements_given n cs rest o p h =
-        let e = body_single cell.bytes n (length cell.cells) cs cell.cells rest [] p cell.body in
+    -- the outcome is that of its cells, and only that
+    elements_give : (o : Outcome (List A)) → ReadsAll reads cell.cells o → ElementsGive elements cell.bytes o
+    elements_give o h = record {
+      count = length cell.cells;
+      cells = cell.cells;
+      rest = [];
+      body = cell.body;
+      gives = elements_taken o h;
+    }
+
+    elements_given : (o : Outcome (List A)) → ElementsGive elements cell.bytes o → ReadsAll reads cell.cells o
+    elements_given o h =
+        let e = body_single cell.bytes h.count (length cell.cells) h.cells cell.cells h.rest [] h.body cell.body in
         its_cells.given cell.cells o many
         (subst (λ x. elements x cell.cells [] o) e.0
-        (subst (λ x. elements n x [] o) e.1 (subst (λ x. elements n cs x o) e.2 h)))
+        (subst (λ x. elements h.count x [] o) e.1 (subst (λ x. elements h.count h.cells x o) e.2 h.gives)))
 
     sound_head : (r : Refusal) → first_fault_of (head_checks cell.bytes) ≡ Some r → ⊥
     sound_head r = no_fault (first_fault_of (head_checks cell.bytes)) r
@@ -154,18 +163,18 @@ module _ {A X : Type 0} (items : X → List A) (same : A → A → Type 0) (read
     bytes_read : (x : X) → ReadsAll reads cell.cells (Ok (items x)) → Reads c (Ok x)
     bytes_read x h =
         subst (λ d. Reads d (Ok x)) (sym cell.is)
-        (length cell.cells, cell.cells, [], cell.body, elements_taken (Ok (items x)) h)
+        (elements_give (Ok (items x)) h)
 
     bytes_refused : (r : Refusal) → ReadsAll reads cell.cells (Err r) → Reads c (Err r)
     bytes_refused r h =
         subst (λ (d : Cell). let o : Outcome X = Err r in Reads d o) (sym cell.is)
-        (inr (length cell.cells, cell.cells, [], cell.body, elements_taken (Err r) h))
+        (inr (elements_give (Err r) h))
 
     cells_read : (x : X) → Reads (Some cell.bytes) (Ok x) → ReadsAll reads cell.cells (Ok (items x))
-    cells_read x h = elements_given h.0 h.1 h.2 (Ok (items x)) h.3 h.4
+    cells_read x h = elements_given (Ok (items x)) h
 
     cells_refused : (r : Refusal) → Reads (Some cell.bytes) (Err r) → ReadsAll reads cell.cells (Err r)
-    cells_refused r h = elim h [ inl z ↦ absurd (sound_head r z) | inr z ↦ elements_given z.0 z.1 z.2 (Err r) z.3 z.4 ]
+    cells_refused r h = elim h [ inl z ↦ absurd (sound_head r z) | inr z ↦ elements_given (Err r) z ]
 
   list_back_reads : (x : X) (c : Cell) (o : Outcome X) → Written (items x) ≡ Ok c → BackList items back x o → Reads c o
   list_back_reads x c (Ok y) e h =
@@ -200,7 +209,7 @@ module _ {A X : Type 0} (items : X → List A) (same : A → A → Type 0) (read
 
   list_from_bytes : (b : List ℕ) (x : X) → Reads (Some b) (Ok x) → WrittenAsBytes Reads x (Written (items x))
   list_from_bytes b x h =
-      let read = its_cells.from_cells h.0 h.1 h.2 (items x) h.4 in
+      let read = its_cells.from_cells h.count h.cells h.rest (items x) h.gives in
       list_written x read.0 (Written (items x)) read.1 refl
 
   -- lists are lawful where their elements are

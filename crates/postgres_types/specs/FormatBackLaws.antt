@@ -123,7 +123,14 @@ packed_spells : (v : List Bool) → fits_prefix (length v) ≡ true
     → FormBits (λ u. u) (be w32 (pos (length v)) ++ packed v) v
 packed_spells v h =
     let holds : FitsSigned w32 (pos (length v)) = record { sfits = omega (arith, leb-true (length v) max_length h) } in
-    (be w32 (pos (length v)), packed v, refl, (holds, refl), packed_len v, sym (first_bits_packed v))
+    record {
+      count_prefix = be w32 (pos (length v));
+      bits_bytes = packed v;
+      is = refl;
+      counts = (holds, refl);
+      width = packed_len v;
+      first = sym (first_bits_packed v);
+    }
 
 bits_written_if : (v : List Bool) (t : Bool) (b : List ℕ) → (t ≡ true → ReadsBits (λ u. u) (Some b) (Ok v))
     → WrittenAsBytes (ReadsBits (λ u. u)) v (wire_of (if t then Some b else None))

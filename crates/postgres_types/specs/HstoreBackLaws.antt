@@ -95,12 +95,20 @@ entries_spelled : (es : List Entry) (s : List ℕ) → AreTexts es → entries_b
 entries_spelled [] s h e = cc
 entries_spelled (x ∷ xs) s h e =
     let p = parts_of (concat (frame (Some x.0)) (frame x.1)) (entries_bytes xs) s e in
-    let q = parts_of (frame (Some x.0)) (frame x.1) p.0 p.2 in (
-      p.0,
-      p.1,
-      p.4,
-      (q.0, q.1, q.4, (frame_spells (Some x.0) q.0 q.2, h.0.0), (frame_spells x.1 q.1 q.3, h.0.1)),
-      entries_spelled xs p.1 h.1 p.3,
+    let entry = p.0 in
+    let others = p.1 in
+    let others_are = p.3 in
+    let all = p.4 in
+    let q = parts_of (frame (Some x.0)) (frame x.1) entry p.2 in
+    let key = q.0 in
+    let value = q.1 in
+    let value_is = q.3 in
+    let both = q.4 in (
+      entry,
+      others,
+      all,
+      (key, value, both, (frame_spells (Some x.0) key q.2, h.0.0), (frame_spells x.1 value value_is, h.0.1)),
+      entries_spelled xs others h.1 others_are,
     )
 
 -- and a count prefix and them, and what has their values, the whole
@@ -109,7 +117,17 @@ spelled : {A : Type 0} (value_at : A → List ℕ → Option Cell) (m : A) (es :
     → hstore_bytes es ≡ Some b → FormHstore value_at b m
 spelled value_at m es b h has e =
     let p = parts_of (count_bytes (length es)) (entries_bytes es) b e in
-    (es, p.1, (p.0, p.4, count_is (length es) p.0 p.2), entries_spelled es p.1 h p.3, has)
+    let prefix = p.0 in
+    let behind = p.1 in
+    let spelt = p.3 in
+    let all = p.4 in
+    record {
+      entries = es;
+      behind = behind;
+      counts = (prefix, all, count_is (length es) prefix p.2);
+      spells = entries_spelled es behind h spelt;
+      values = has;
+    }
 
 module _ {S : Type 0} where
   -- the entries of a map, in key order
@@ -138,8 +156,17 @@ module _ {S : Type 0} where
   map_kept m (Some b) e =
       let law = hstore_grammar (value_at {S = S}) in
       let h = spelled value_at m (entries_of m) b (ordered_texts (map owned_entry m.entries) (owned_texts m.entries))
-      (has_last m) e in
-      (law.passes b m h, λ n k. (h.0, h.1, h.2, h.3, λ q. sym (k q) ∙ h.4 q), λ n k. law.single b m n h k)
+      (has_last m) e in (
+        law.passes b m h,
+        λ n k. record {
+          entries = h.entries;
+          behind = h.behind;
+          counts = h.counts;
+          spells = h.spells;
+          values = λ q. sym (k q) ∙ h.values q;
+        },
+        λ n k. law.single b m n h k,
+      )
 
   -- a map is lawful, and is read back as itself
   pub hstore_lawful : IsLawful (SameMap {S = S}) ReadsHstore (λ m. wire_hstore (map owned_entry m.entries))

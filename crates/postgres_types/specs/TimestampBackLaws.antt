@@ -34,7 +34,10 @@ again_by : {A : Type 0} (w : Width) (low high : ℤ) (names : ℤ → A → Type
     → ((v : A) → IsWrittenCount w low high (count_of v) (wire v)) → ((z : ℤ) (v : A) → names z v → count_of v ≡ z)
     → (b : List ℕ) (v : A) → ReadsCount w low high names (Some b) (Ok v) → wire v ≡ Ok (Some b)
 again_by w low high names count_of wire written one b v h =
-    (written v).0 ∙ ap (λ z. Ok (Some (be w z))) (one h.0 v h.3) ∙ ap (λ c. Ok (Some c)) (sym h.1.1)
+    let count = h.0 in
+    let spells = h.1 in
+    let named = h.3 in
+    (written v).0 ∙ ap (λ z. Ok (Some (be w z))) (one count v named) ∙ ap (λ c. Ok (Some c)) (sym spells.1)
 
 no_fault_by : (o : Option Refusal) → ((r : Refusal) → o ≡ Some r → ⊥) → o ≡ None
 no_fault_by None h = refl

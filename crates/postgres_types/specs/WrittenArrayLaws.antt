@@ -12,7 +12,8 @@ use Rattle.pg_base.specs.Counts.{IsCount, count_bytes}
 use Rattle.pg_types.specs.Faults.{Outcome, transmit}
 use Rattle.pg_base.proofs.FrameLaws.{parts_of}
 use Rattle.pg_base.specs.Sameness.{SameList}
-use Rattle.pg_write.specs.ArrayWriting.{element_cells, element_frame_cell, cons_cell, with_frame, wire_array}
+use Rattle.pg_write.proofs.ElementCells.{in_front_ok}
+use Rattle.pg_write.specs.ArrayWriting.{element_cells, element_frame_cell, with_frame, wire_array}
 
 -- the cells are those that the values are written as
 abbrev pub AllWritten : {A : Type 0} → (A → Wire) → List A → List Cell → Type 0
@@ -26,19 +27,14 @@ frame_after_cell : (w : Wire) (c : Cell) → element_frame_cell w ≡ Ok c → w
 frame_after_cell (Ok d) c e = ap Ok (has_frame d c (frame d) e)
 frame_after_cell (Err r) c e = cc
 
-in_front_of : (w : Wire) (r : Outcome (List Cell)) (cs : List Cell) → cons_cell w r ≡ Ok cs → (c : Cell)
-    × (ds : List Cell) × (w ≡ Ok c) × (r ≡ Ok ds) × (cs ≡ c ∷ ds)
-in_front_of (Err x) r cs e = cc
-in_front_of (Ok c) (Err x) cs e = cc
-in_front_of (Ok c) (Ok ds) cs e = (c, ds, refl, refl, cc)
-
 -- the cells of elements are those that they are written as
 pub elements_written : {A : Type 0} (wire : A → Wire) (vs : List A) (cs : List Cell) → element_cells wire vs ≡ Ok cs
     → AllWritten wire vs cs
 elements_written wire [] cs e = let none : cs ≡ [] = cc in subst (AllWritten wire []) (sym none) tt
 elements_written wire (v ∷ vs) cs e =
-    let p = in_front_of (element_frame_cell (wire v)) (element_cells wire vs) cs e in
-    subst (AllWritten wire (v ∷ vs)) (sym p.4) (frame_after_cell (wire v) p.0 p.2, elements_written wire vs p.1 p.3)
+    let p = in_front_ok (element_frame_cell (wire v)) (element_cells wire vs) cs e in
+    subst (AllWritten wire (v ∷ vs)) (sym p.all)
+    (frame_after_cell (wire v) p.cell p.cell_is, elements_written wire vs p.others p.others_are)
 
 mapped : (f : List ℕ → List ℕ) (o : Option (List ℕ)) (s : List ℕ) → option_map f o ≡ Some s → (x : List ℕ)
     × (o ≡ Some x) × (s ≡ f x)
@@ -50,38 +46,52 @@ pub array_body : (lower_bound : ℤ) (oid : ℕ) (cs : List Cell) (b : List ℕ)
     → ArrayBody b (length cs) cs []
 array_body lower_bound oid cs b e =
     let p = parts_of (array_head lower_bound oid cs) (frames cs) b e in
+    let elements = p.1 in
+    let elements_are = p.3 in
+    let all = p.4 in
     let one : List ℕ = be w32 (pos 1) in
     let skipped : List ℕ = be w32 (flags_of cs) ++ to_be_bytes w32 oid in
     let first : List ℕ = be w32 lower_bound in
     let h = mapped (λ n. one ++ (be w32 (flags_of cs) ++ (to_be_bytes w32 oid ++ (n ++ first))))
     (count_bytes (length cs)) p.0 p.2 in
-    let is : b ≡ one ++ (skipped ++ (h.0 ++ (first ++ p.1))) = p.4 ∙ ap (λ x. x ++ p.1) h.2
-    ∙ ap (λ x. one ++ (skipped ++ x)) (append_assoc h.0 first p.1) in
+    let is : b ≡ one ++ (skipped ++ (h.0 ++ (first ++ elements))) = all ∙ ap (λ x. x ++ elements) h.2
+    ∙ ap (λ x. one ++ (skipped ++ x)) (append_assoc h.0 first elements) in
     let dimension : IsCount one 1 = (record { sfits = omega arith }, refl) in (
-      p.1,
-      (
-        1,
-        one,
-        skipped,
-        h.0 ++ (first ++ p.1),
-        is,
-        dimension,
-        refl,
-        (h.0, first, refl, count_is (length cs) h.0 h.1, refl),
-      ),
-      (frames_alone cs p.1 p.3, omega arith, inl refl),
+      elements,
+      record {
+        dimension_count = 1;
+        count_prefix = one;
+        flags_and_oid = skipped;
+        behind = h.0 ++ (first ++ elements);
+        is = is;
+        counts = dimension;
+        width = refl;
+        spells = (h.0, first, refl, count_is (length cs) h.0 h.1, refl);
+      },
+      (frames_alone cs elements elements_are, omega arith, inl refl),
     )
 
 wire_of_bytes : (o : Option (List ℕ)) (c : Cell) → wire_of o ≡ Ok c → (b : List ℕ) × (o ≡ Some b) × (c ≡ Some b)
 wire_of_bytes None c e = cc
 wire_of_bytes (Some b) c e = (b, refl, cc)
 
+-- what is known of a written array
+pub record IsArrayCell (lower_bound : ℤ) (oid : ℕ) (r : Outcome (List Cell)) (c : Cell) : Type 0 where
+  -- the cells of its elements, and its bytes
+  pub cells : List Cell
+  pub bytes : List ℕ
+  pub cells_are : r ≡ Ok cells
+  -- the bytes are those of the cells
+  pub written : array_bytes lower_bound oid cells ≡ Some bytes
+  pub is : c ≡ Some bytes
+
 -- a written array has the bytes of cells
 pub array_cell : (lower_bound : ℤ) (oid : ℕ) (r : Outcome (List Cell)) (c : Cell) → wire_array lower_bound oid r ≡ Ok c
-    → (cs : List Cell) × (b : List ℕ) × (r ≡ Ok cs) × (array_bytes lower_bound oid cs ≡ Some b) × (c ≡ Some b)
-array_cell lower_bound oid (Err x) c e = cc
-array_cell lower_bound oid (Ok cs) c e = let p = wire_of_bytes (array_bytes lower_bound oid cs) c e in
-    (cs, p.0, refl, p.1, p.2)
+    → IsArrayCell lower_bound oid r c
+array_cell lower_bound oid (Err x) c e = let no : ⊥ = cc in absurd no
+array_cell lower_bound oid (Ok cs) c e =
+    let p = wire_of_bytes (array_bytes lower_bound oid cs) c e in
+    record { cells = cs; bytes = p.0; cells_are = refl; written = p.1; is = p.2 }
 
 -- what is not refused meets the test
 pub tested : (t : Bool) (w : Wire) (c : Cell) → (if t then w else Err transmit) ≡ Ok c → (t ≡ true) × (w ≡ Ok c)
