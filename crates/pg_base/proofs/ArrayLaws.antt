@@ -42,13 +42,13 @@ long_enough x s h =
 -- what is known of bytes that begin with dimensions
 record AreDimensions (d : ℕ) (s : List ℕ) (r : ToRead) : Type 0 where
   pub passes : first_fault_of (dimension_checks d s) ≡ None
-  pub behind : after_dimensions d s ≡ r
+  pub remaining_is : after_dimensions d s ≡ r
 
 dimensions_then : (d : ℕ) (s : List ℕ) (r : ToRead) → SpellsDimensions d s r → AreDimensions d s r
 dimensions_then zero s r p =
     record {
       passes = refl;
-      behind = ap₂ (λ (n : ℕ) (x : List ℕ). let r : ToRead = record { left = n; bytes = x } in r)
+      remaining_is = ap₂ (λ (n : ℕ) (x : List ℕ). let r : ToRead = record { left = n; bytes = x } in r)
           (sym p.0) p.1;
     }
 dimensions_then (suc zero) s r p =
@@ -60,7 +60,7 @@ dimensions_then (suc zero) s r p =
     let number = number_then s prefix (lower_bound ++ r.bytes) (pos r.left) is counts in
     record {
       passes = rw (long_whole s prefix lower_bound r.bytes r.left is counts width, number.number) refl;
-      behind = rw (number.number, number.rest)
+      remaining_is = rw (number.number, number.rest)
           (ap (λ (x : List ℕ). let q : ToRead = record { left = r.left; bytes = x } in q)
           (drop_part number_width lower_bound r.bytes width));
     }
@@ -69,18 +69,18 @@ dimensions_then (suc (suc d)) s r p = absurd p
 -- what is known of bytes that begin with a head
 record IsHead (b : List ℕ) (r : ToRead) : Type 0 where
   pub passes : first_fault_of (head_checks b) ≡ None
-  pub behind : after_head b ≡ r
+  pub remaining_is : after_head b ≡ r
 
 head_then : (b : List ℕ) (r : ToRead) → SpellsHead b r → IsHead b r
 head_then b r p =
-    let number = number_then b p.count_prefix (p.flags_and_oid ++ p.behind) (pos p.dimension_count) p.is p.counts in
-    let first = dimensions_then p.dimension_count p.behind r p.spells in
-    let part : drop pair_width (p.flags_and_oid ++ p.behind) ≡ p.behind =
-    drop_part pair_width p.flags_and_oid p.behind p.width in
-    let long = long_enough p.flags_and_oid p.behind p.width in
+    let number = number_then b p.count_prefix (p.flags_and_oid ++ p.remaining) (pos p.dimension_count) p.is p.counts in
+    let first = dimensions_then p.dimension_count p.remaining r p.spells in
+    let part : drop pair_width (p.flags_and_oid ++ p.remaining) ≡ p.remaining =
+    drop_part pair_width p.flags_and_oid p.remaining p.width in
+    let long = long_enough p.flags_and_oid p.remaining p.width in
     record {
       passes = rw (number.has, number.number, number.rest, long, part) first.passes;
-      behind = rw (number.number, number.rest, part) first.behind;
+      remaining_is = rw (number.number, number.rest, part) first.remaining_is;
     }
 
 -- after sound flags the first fault is that of the dimensions
@@ -97,7 +97,7 @@ head_passes b r p = (head_then b r p).passes
 
 -- and bytes begin with one head
 pub head_single : (b : List ℕ) (r q : ToRead) → SpellsHead b r → SpellsHead b q → r ≡ q
-head_single b r q p k = sym (head_then b r p).behind ∙ (head_then b q k).behind
+head_single b r q p k = sym (head_then b r p).remaining_is ∙ (head_then b q k).remaining_is
 
 -- bytes are one array's
 pub body_single : (b : List ℕ) (n m : ℕ) (cs ds : List Cell) (u w : List ℕ) → ArrayBody b n cs u → ArrayBody b m ds w

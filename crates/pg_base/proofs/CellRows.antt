@@ -103,9 +103,9 @@ dimension_bytes (suc (suc d)) s r p b = absurd p
 
 pub head_bytes : (b : List ℕ) (r : ToRead) → SpellsHead b r → AreBytes b → AreBytes r.bytes
 head_bytes b r p h =
-    let after = p.flags_and_oid ++ p.behind in
-    dimension_bytes p.dimension_count p.behind r p.spells
-    (trailing_bytes after p.flags_and_oid p.behind refl (trailing_bytes b p.count_prefix after p.is h))
+    let after = p.flags_and_oid ++ p.remaining in
+    dimension_bytes p.dimension_count p.remaining r p.spells
+    (trailing_bytes after p.flags_and_oid p.remaining refl (trailing_bytes b p.count_prefix after p.is h))
 
 -- and so is what stands after cells
 pub row_bytes : (s u : List ℕ) (cs : List Cell) → SpellsAll s cs u → AreBytes s → AreBytes u

@@ -33,35 +33,35 @@ module _ {X : Type 0} (view : X → Cell) (xs : List X) (i : ℕ) (x : X) (h : i
   abbrev here : Cell
   here = view x
 
-  abbrev behind : List Cell
-  behind = map view (drop (i + 1) xs)
+  abbrev later : List Cell
+  later = map view (drop (i + 1) xs)
 
   more : map view (take (i + 1) xs) ≡ before ++ here ∷ []
   more = ap (map view) (take_more xs i x h) ∙ map-append view (take i xs) (get_or xs i x ∷ [])
       ∙ ap (λ y. before ++ view y ∷ []) (sym is)
 
-  whole : map view xs ≡ (before ++ here ∷ []) ++ behind
+  whole : map view xs ≡ (before ++ here ∷ []) ++ later
   whole = ap (map view) (sym (take-append-drop (i + 1) xs)) ∙ map-append view (take (i + 1) xs) (drop (i + 1) xs)
-      ∙ ap (λ l. l ++ behind) more
+      ∙ ap (λ l. l ++ later) more
 
   frames_more : frames (map view (take (i + 1) xs)) ≡ concat (frames before) (frame here)
   frames_more = ap frames more ∙ frames-append before (here ∷ [])
       ∙ ap (concat (frames before)) (concat-nil (frame here))
 
-  frames_whole : frames (map view xs) ≡ concat (concat (frames before) (frame here)) (frames behind)
+  frames_whole : frames (map view xs) ≡ concat (concat (frames before) (frame here)) (frames later)
   frames_whole =
-      ap frames whole ∙ frames-append (before ++ here ∷ []) behind
-      ∙ ap (λ b. concat b (frames behind))
+      ap frames whole ∙ frames-append (before ++ here ∷ []) later
+      ∙ ap (λ b. concat b (frames later))
       (frames-append before (here ∷ []) ∙ ap (concat (frames before)) (concat-nil (frame here)))
 
   -- what is left of room for all frames has room for the next
   pub next_room : (start now : Filled) → HasRoomFor (frames (map view xs)) start.spare
       → Extends (frames before) start now → HasRoomFor (frame here) now.spare
   next_room start now room so_far =
-      let all : HasRoomFor (concat (concat (frames before) (frame here)) (frames behind)) start.spare =
+      let all : HasRoomFor (concat (concat (frames before) (frame here)) (frames later)) start.spare =
       subst (λ b. HasRoomFor b start.spare) frames_whole room in
       room_for_second (frames before) (frame here) start now
-      (room_for_first (concat (frames before) (frame here)) (frames behind) start.spare all) so_far
+      (room_for_first (concat (frames before) (frame here)) (frames later) start.spare all) so_far
 
   -- one more frame was appended
   pub next_frame : (start now new : Filled) → Extends (frames before) start now → Extends (frame here) now new
@@ -84,7 +84,7 @@ module _ {X : Type 0} (view : X → Cell) (xs : List X) (i : ℕ) (x : X) (h : i
   null_here so_far next =
       let null_so_far : has_null (before ++ here ∷ []) ≡ true
       = has_null-append before (here ∷ []) ∙ rw (so_far, next) refl in
-      ap has_null whole ∙ has_null-append (before ++ here ∷ []) behind ∙ ap (λ t. t || has_null behind) null_so_far
+      ap has_null whole ∙ has_null-append (before ++ here ∷ []) later ∙ ap (λ t. t || has_null later) null_so_far
 
   -- one more cell is not NULL
   pub null_not_here : has_null before ≡ false → is_none here ≡ false → has_null (map view (take (i + 1) xs)) ≡ false

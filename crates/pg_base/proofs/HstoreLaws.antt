@@ -152,9 +152,9 @@ form_passes b s es c p = fault_after_count b (record { left = length es; bytes =
 pub hstore_grammar : {A : Type 0} (value_at : A → List ℕ → Option Cell)
     → IsGrammar (λ m n. (q : List ℕ) → value_at m q ≡ value_at n q) (FormHstore value_at) first_fault_hstore
 hstore_grammar value_at = record {
-  passes = λ b m h. form_passes b h.behind h.entries h.counts h.spells;
+  passes = λ b m h. form_passes b h.remaining h.entries h.counts h.spells;
   single = λ b m n h k.
-      let same = entries_single b h.behind k.behind h.entries k.entries h.counts h.spells k.counts k.spells in
+      let same = entries_single b h.remaining k.remaining h.entries k.entries h.counts h.spells k.counts k.spells in
       λ q. h.values q ∙ ap (last_value q) same ∙ sym (k.values q);
 }
 

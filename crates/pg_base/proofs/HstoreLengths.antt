@@ -62,14 +62,14 @@ pub has_entry : (es : List BorrowedEntry) (i : ℕ) (d : BorrowedEntry) (bs tota
 has_entry es i d bs total h so_far all =
     let e : Entry = borrowed_entry (get_or es i d) in
     let before : List Entry = map borrowed_entry (take i es) in
-    let behind : List Entry = map borrowed_entry (drop (i + 1) es) in
-    let parts = parts_of (entries_bytes before) (entries_bytes (e ∷ behind)) total
-    (sym (entries-append before (e ∷ behind)) ∙ ap entries_bytes (sym (entry_at es i d h)) ∙ all) in
+    let later : List Entry = map borrowed_entry (drop (i + 1) es) in
+    let parts = parts_of (entries_bytes before) (entries_bytes (e ∷ later)) total
+    (sym (entries-append before (e ∷ later)) ∙ ap entries_bytes (sym (entry_at es i d h)) ∙ all) in
     let first = parts.0 in
     let rest = parts.1 in
     let rest_is = parts.3 in
     let whole = parts.4 in
-    let here = parts_of (concat (frame (Some e.0)) (frame e.1)) (entries_bytes behind) rest rest_is in
+    let here = parts_of (concat (frame (Some e.0)) (frame e.1)) (entries_bytes later) rest rest_is in
     let entry = here.0 in
     let others = here.1 in
     let rest_whole = here.4 in

@@ -54,8 +54,8 @@ no_second (Some h) = refl
 -- a text without a slash names no position, since nothing stands after one
 pub no_slash : (s : List ℕ) → position_or_len is_slash s ≡ length s → lsn_of s ≡ None
 no_slash s e =
-    let behind : after_first is_slash s ≡ [] = drop_all _ s (omega arith) in
-    rw behind (no_second (half_of (before_first is_slash s)))
+    let no_rest : after_first is_slash s ≡ [] = drop_all _ s (omega arith) in
+    rw no_rest (no_second (half_of (before_first is_slash s)))
 
 other_than : (b c : ℕ) (t : Bool) → (c == b) ≡ t → digit_value c < 16 → (digit_value b < 16 → ⊥) → (c == b) ≡ false
 other_than b c true e h digitless = absurd (digitless (rw (← eqb-true c b e) h))

@@ -62,8 +62,8 @@ inet_grammar = record { passes = inet_passes; single = inet_single }
 cidr_passes : (b : List ℕ) (n : Network) → FormCidr b n → first_fault_cidr b ≡ None
 cidr_passes b n h =
     let at_mask : slice_index b 1 ≡ n.masklen = ap (λ s. slice_index s 1) h.0.1 in
-    let behind : drop 4 b ≡ address_octets n.address = ap (drop 4) h.0.1 in
-    let clear : (host_part (drop 4 b) (slice_index b 1) == 0) ≡ true = rw (behind, at_mask) (eq-eqb _ 0 h.1) in
+    let octets_are : drop 4 b ≡ address_octets n.address = ap (drop 4) h.0.1 in
+    let clear : (host_part (drop 4 b) (slice_index b 1) == 0) ≡ true = rw (octets_are, at_mask) (eq-eqb _ 0 h.1) in
     let last = (host_part (drop 4 b) (slice_index b 1) == 0, host_bits) ∷ [] in
     let others : first_fault_cidr b ≡ first_fault_of last =
     ap (λ s. first_fault_of (inet_checks s ++ last)) h.0.1 ∙ checks_hold last h.0.0 n.address n.masklen h.0.2 h.0.3 in

@@ -34,15 +34,15 @@ pub record SpellsHead (b : List ℕ) (r : ToRead) : Type 0 where
   -- those of the flags and of the OID
   pub flags_and_oid : List ℕ
   -- and those after them
-  pub behind : List ℕ
+  pub remaining : List ℕ
   -- they follow one another
-  pub is : b ≡ count_prefix ++ (flags_and_oid ++ behind)
+  pub is : b ≡ count_prefix ++ (flags_and_oid ++ remaining)
   -- the count's bytes are the count
   pub counts : IsCount count_prefix dimension_count
   -- the flags and the OID have the width of two numbers
   pub width : length flags_and_oid ≡ pair_width
   -- the dimensions come next
-  pub spells : SpellsDimensions dimension_count behind r
+  pub spells : SpellsDimensions dimension_count remaining r
 
 -- the checks of so many dimensions
 abbrev pub dimension_checks : ℕ → List ℕ → Checks

@@ -55,11 +55,11 @@ pub record FormHstore {A : Type 0} (value_of : A → List ℕ → Option Cell) (
   -- the entries
   pub entries : List Entry
   -- the bytes after the count
-  pub behind : List ℕ
+  pub remaining : List ℕ
   -- the count is that of the entries
-  pub counts : SpellsCount b (record { left = length entries; bytes = behind })
+  pub counts : SpellsCount b (record { left = length entries; bytes = remaining })
   -- the bytes after it spell the entries
-  pub spells : SpellsEntries behind entries []
+  pub spells : SpellsEntries remaining entries []
   -- the map has at each key what the last entry has
   pub values : (q : List ℕ) → value_of m q ≡ last_value q entries
 

@@ -59,11 +59,11 @@ module _ {A B : Type 0} (f : A × B → Wire) (xs : List A) (ys : List B) (same 
         → Binds f (take i (zip xs ys)) old mid (Ok u) → AppendsFrameOrPart (f here) mid low (Err fault) → new
         ≡ take (length old) low
         → Binds f (zip xs ys) old new (Err (i, fault))
-    refused_param fault old mid low new (cs, bs, cells, all, was) (front, why) cut =
+    refused_param fault old mid low new (cs, bs, cells, all, was) (front, why) truncation =
         let rest = drop (length mid) low in
         let is : low ≡ old ++ (bs ++ rest) = sym (take-append-drop (length mid) low)
         ∙ ap (λ s. s ++ rest) (front ∙ was) ∙ append_assoc old bs rest in
-        let back : new ≡ old = cut ∙ ap (take (length old)) is ∙ take-append_seam old (bs ++ rest) in (
+        let back : new ≡ old = truncation ∙ ap (take (length old)) is ∙ take-append_seam old (bs ++ rest) in (
           back,
           is_ok (element_cells f (take i (zip xs ys))) cs cells,
           (here, slice_get_read (zip xs ys) (length (zip xs ys)) i here refl within stands, why),

@@ -118,14 +118,14 @@ spelled : {A : Type 0} (value_at : A → List ℕ → Option Cell) (m : A) (es :
 spelled value_at m es b h has e =
     let p = parts_of (count_bytes (length es)) (entries_bytes es) b e in
     let prefix = p.0 in
-    let behind = p.1 in
+    let remaining = p.1 in
     let spelt = p.3 in
     let all = p.4 in
     record {
       entries = es;
-      behind = behind;
+      remaining = remaining;
       counts = (prefix, all, count_is (length es) prefix p.2);
-      spells = entries_spelled es behind h spelt;
+      spells = entries_spelled es remaining h spelt;
       values = has;
     }
 
@@ -160,7 +160,7 @@ module _ {S : Type 0} where
         law.passes b m h,
         λ n k. record {
           entries = h.entries;
-          behind = h.behind;
+          remaining = h.remaining;
           counts = h.counts;
           spells = h.spells;
           values = λ q. sym (k q) ∙ h.values q;

@@ -46,10 +46,10 @@ returns c =
     c.extend_reserved-5.ensures.items c.extend_reserved-5.ensures.spare in
     let last = extends_both (Some count) (Some lower_bound) after_oid after_count done fourth fifth in
     let all = extends_both (Some oid) (Some (count ++ lower_bound)) after_flags after_oid done third last in
-    let behind = extends_both (Some flags) (Some (oid ++ count ++ lower_bound)) dimensions after_flags done second
+    let head_extends = extends_both (Some flags) (Some (oid ++ count ++ lower_bound)) dimensions after_flags done second
     all in
     let head = extends_both (Some one) (Some (flags ++ oid ++ count ++ lower_bound)) start dimensions done first
-    behind in
+    head_extends in
     let few : array_head c.args.lower_bound c.args.oid cells ≡ Some (one ++ flags ++ oid ++ count ++ lower_bound)
     = ap (option_map (λ n. one ++ flags ++ oid ++ n ++ lower_bound))
     (short_count owned_cell c.args.cells.now c.requires.few) in
