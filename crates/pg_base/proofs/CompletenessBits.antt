@@ -56,14 +56,14 @@ bits_complete b h e =
     let many = eqb-true (length (drop 4 b)) (bytes_for n) (first_passes _ size None parts.1).0 in
     let len : n ≡ length (first_bits n (drop 4 b)) = sym (first_bits_len n (drop 4 b)) in (
       first_bits n (drop 4 b),
-      (
-        take 4 b,
-        drop 4 b,
-        number.1,
-        subst (IsCount (take 4 b)) len number.0,
-        many ∙ ap bytes_for len,
-        ap (λ m. first_bits m (drop 4 b)) len,
-      ),
+      record {
+        count_prefix = take 4 b;
+        bits_bytes = drop 4 b;
+        is = number.1;
+        counts = subst (IsCount (take 4 b)) len number.0;
+        width = many ∙ ap bytes_for len;
+        first = ap (λ m. first_bits m (drop 4 b)) len;
+      },
     )
 
 -- ---- documents
@@ -89,9 +89,12 @@ text_read text e =
 
 -- what a text reads as is the value
 pub json_complete : (versioned : Bool) → IsComplete (FormJson (λ d. d) versioned) (first_fault_json versioned)
-json_complete false b h e = let p = text_read b e in (p.0, (b, refl, p.1.0, p.1.1, p.1.2))
+json_complete false b h e =
+    let p = text_read b e in
+    (p.0, record { text = b; is = refl; utf8 = p.1.0; document = p.1.1; no_float = p.1.2 })
 json_complete true [] h e = let no : ⊥ = cc in absurd no
 json_complete true (x ∷ b) h e =
     let version = first_passes (x == 1) json_version _ (first_passes _ size _ e).1 in
     let p = text_read b version.1 in
-    (p.0, (b, ap (λ y. y ∷ b) (eqb-true x 1 version.0), p.1.0, p.1.1, p.1.2))
+    let is : x ∷ b ≡ 1 ∷ b = ap (λ y. y ∷ b) (eqb-true x 1 version.0) in
+    (p.0, record { text = b; is = is; utf8 = p.1.0; document = p.1.1; no_float = p.1.2 })

@@ -53,14 +53,14 @@ head_complete b h e =
     (trailing_bytes b (take 4 b) rest number.1 h) in
     let p = dimensions_at_front d (drop 8 rest) bytes eight.1 in (
       p.0,
-      (
-        d,
-        take 4 b,
-        take 8 rest,
-        drop 8 rest,
-        number.1 ∙ ap (λ x. take 4 b ++ x) parts,
-        number.0,
-        len,
-        p.1,
-      ),
+      record {
+        dimension_count = d;
+        count_prefix = take 4 b;
+        flags_and_oid = take 8 rest;
+        remaining = drop 8 rest;
+        is = number.1 ∙ ap (λ x. take 4 b ++ x) parts;
+        counts = number.0;
+        width = len;
+        spells = p.1;
+      },
     )

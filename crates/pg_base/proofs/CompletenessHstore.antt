@@ -113,11 +113,11 @@ hstore_complete b h e =
     let number = count_at_front b h passes.0 in
     let p = entries_at_front n (drop 4 b) (trailing_bytes b (take 4 b) (drop 4 b) number.1 h) passes.1 in (
       λ q. last_value q p.0,
-      (
-        p.0,
-        drop 4 b,
-        (take 4 b, number.1, subst (IsCount (take 4 b)) (sym p.1.0) number.0),
-        p.1.1,
-        λ q. refl,
-      ),
+      record {
+        entries = p.0;
+        remaining = drop 4 b;
+        counts = (take 4 b, number.1, subst (IsCount (take 4 b)) (sym p.1.0) number.0);
+        spells = p.1.1;
+        values = λ q. refl;
+      },
     )
