@@ -1,6 +1,5 @@
 -- Arrays (array_send, array_recv): a head, and then the elements' frames. The head is a count of dimensions, flags
--- and the
--- elements' OID in four bytes each, and for each dimension its length and its lower bound.
+-- and the elements' OID in four bytes each, and for each dimension its length and its lower bound.
 use Rattle.std.specs.Prelude.{◌≡◌, ℕ, zero, suc, List, [], ◌∷◌, ◌++◌, length, drop, Option, false, nat_le, Result}
 use Rattle.std.specs.Prelude.{ℤ, pos, option_map, Bool, ◌||◌, is_none, if◌then◌else◌, Vec}
 use Rattle.std.specs.Borrow.{Bor}
@@ -78,8 +77,7 @@ abbrev pub flags_of : List Cell → ℤ
 flags_of cs = if has_null cs then pos 1 else pos 0
 
 -- the head that is written, of one dimension whatever the number of cells: the flags, the OID of the elements' type,
--- the number of
--- cells, and the number of the first of them
+-- the number of cells, and the number of the first of them
 abbrev pub array_head : ℤ → ℕ → List Cell → Option (List ℕ)
 array_head lower_bound oid cs =
     option_map (λ n. be w32 (pos 1) ++ be w32 (flags_of cs) ++ to_be_bytes w32 oid ++ n ++ be w32 lower_bound)

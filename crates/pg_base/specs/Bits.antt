@@ -65,8 +65,7 @@ TakesBytes b (Ok v) = (8 * length b ≤ most_bits) × (v ≡ first_bits (8 * len
 TakesBytes b (Err f) = refusal_of f ≡ (if nat_le (8 * length b) most_bits then None else Some transmit)
 
 -- the bit was put at the end; or nothing was changed, with Transmit where there are the most bits already, and
--- otherwise
--- only for memory
+-- otherwise only for memory
 abbrev pub Pushes : List Bool → Bool → List Bool → Result ⊤ Fault → Type 0
 Pushes old bit new (Ok done) = (length old < most_bits) × (new ≡ old ++ bit ∷ [])
 Pushes old bit new (Err f) = (new ≡ old)

@@ -1,9 +1,7 @@
 -- Cells, their frames, and cells in a row.
 -- PostgreSQL frames values so in DataRow and Bind (documentation, "Message Formats"), and in array_send, record_send
--- and
--- hstore_send: a length of four bytes, -1 for NULL, and that many bytes. That every negative length is NULL in
--- reading is
--- the upstream crate's rule; the server itself writes -1 alone.
+-- and hstore_send: a length of four bytes, -1 for NULL, and that many bytes. That every negative length is NULL in
+-- reading is the upstream crate's rule; the server itself writes -1 alone.
 use Rattle.std.specs.Prelude.{Bool, true, false, ◌≡◌, ℕ, ◌<◌, ◌≤◌, ◌^◌, ℤ, pos, negsuc, List, [], ◌∷◌, ◌++◌, length}
 use Rattle.std.specs.Prelude.{Option, Some, None, ◌⊎◌, FitsSigned, if◌then◌else◌, nat_le, option_map, slice_index}
 use mir.Val.{bits}

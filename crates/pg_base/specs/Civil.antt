@@ -1,6 +1,5 @@
 -- Dates and times: DATE (date_send, date_recv), TIME (time_send, time_recv), and timestamps that have a least and a
--- greatest
--- count. Which date a day number is, and which timestamp stands at a nanosecond, are the words of `jiff`.
+-- greatest count. Which date a day number is, and which timestamp stands at a nanosecond, are the words of `jiff`.
 use Rattle.std.specs.Prelude.{◌≡◌, ℕ, ◌/◌, ℤ, pos, neg_ℤ, ◌+ℤ◌, ◌-ℤ◌, ◌*ℤ◌, int_le, List, [], ◌∷◌}
 use Rattle.std.specs.Prelude.{Option, Bool, ◌&&◌, Ok, Err}
 use Rattle.std.specs.Int.{Width, w32, w64, byte_len}

@@ -1,6 +1,6 @@
 -- Documents: JSON (json_send, json_recv), whose cell is the document's text, and JSONB (jsonb_send, jsonb_recv),
--- whose cell
--- is a version and then the text. What a text means is the reading of serde_json, and what is written its compact text.
+-- whose cell is a version and then the text. What a text means is the reading of serde_json, and what is written its
+-- compact text.
 use Rattle.std.specs.Prelude.{◌≡◌, ℕ, ◌==◌, List, [], ◌∷◌, length, drop, slice_index, nat_lt, Bool, true, false}
 use Rattle.std.specs.Prelude.{not, ◌||◌, if◌then◌else◌, Option, Some, None, is_some, option_map, unwrap_or, IsUtf8}
 use Rattle.std.specs.Prelude.{Ok, Err}
@@ -43,8 +43,7 @@ document_checks text =
     ∷ (not (unwrap_or (option_map has_float (document_of text)) false), json_number) ∷ []
 
 -- no document is JsonText, and another number JsonNumber; before that, in JSONB, no bytes are Size, and another first
--- byte
--- than the version is JsonVersion
+-- byte than the version is JsonVersion
 abbrev pub first_fault_json : Bool → List ℕ → Option Refusal
 first_fault_json false b = first_fault_of (document_checks b)
 first_fault_json true b = first_fault_of

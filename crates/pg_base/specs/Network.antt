@@ -93,8 +93,8 @@ abbrev pub FormAddress : List ℕ → IpAddr → Type 0
 FormAddress b a = (masklen : ℕ) × FormInet b (with_netmask a masklen)
 
 -- the checks of INET: fewer than four bytes are Size, then another family than 2 and 3 is Family, a netmask that is
--- too long
--- Netmask, another number of octets than the family's AddressLength, and octets of another length than that Size
+-- too long Netmask, another number of octets than the family's AddressLength, and octets of another length than that
+-- Size
 abbrev pub inet_checks : List ℕ → Checks
 inet_checks b =
     (nat_le head_len (length b), size)

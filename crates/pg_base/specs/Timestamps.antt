@@ -1,6 +1,5 @@
 -- Timestamps: TIMESTAMP (timestamp_send, timestamp_recv) and TIMESTAMPTZ (timestamptz_send, timestamptz_recv), which
--- have one
--- format. A timestamp is told by its nanoseconds from 1970-01-01 00:00:00 UTC.
+-- have one format. A timestamp is told by its nanoseconds from 1970-01-01 00:00:00 UTC.
 use Rattle.std.specs.Prelude.{◌≡◌, ℤ, pos, ◌+ℤ◌, ◌-ℤ◌, ◌*ℤ◌, int_div, ℕ, List, Bool, ◌||◌}
 use Rattle.std.specs.Int.{byte_len, w64}
 use Rattle.pg_types.specs.declared.types.built_in.BuiltIn.TheVariants.{Timestamp, Timestamptz}

@@ -97,10 +97,8 @@ InValue view back (Ok s) = OfValue (λ v. back (Ok v)) (view s)
 InValue view back (Err r) = back (Err r)
 
 -- what a value is read back as: as its cell is read, where what the value inside is read back as stands for its
--- reading.
--- So it is WasNull where the cell is NULL, Size where it has another width, the infinity where it is one's, and
--- otherwise
--- Value of what the value inside is read back as, or its fault
+-- reading. So it is WasNull where the cell is NULL, Size where it has another width, the infinity where it is one's,
+-- and otherwise Value of what the value inside is read back as, or its fault
 abbrev pub BackValue : {A B : Type 0} → Width → (B → Special A) → Wire → (Outcome A → Type 0) → Outcome B → Type 0
 BackValue w view (Ok c) back outcome = ReadsSpecial w view (λ _. back) c outcome
 BackValue w view (Err r) back outcome = InValue view back outcome
