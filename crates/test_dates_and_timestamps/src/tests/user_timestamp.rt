@@ -47,20 +47,17 @@ impl<'a> FromSql<'a> for Micros {
         Err(Fault::WasNull)
     }
 
-    #[tactic(auto, using(pg_types::proofs::DerivedTypes::eq_content))]
     fn accepts(ty: &Type) -> bool {
-        *ty == Type::TIMESTAMP
+        ty.is(&Type::TIMESTAMP)
     }
 }
 
 impl ToSql for Micros {
-    ghost use Rattle.std.specs.Prelude.{codes, refl};
+    ghost use Rattle.std.specs.Prelude.{codes};
     ghost use Rattle.std.specs.Int.{w64};
-    ghost use Rattle.pg_types.specs.declared.format.Format.TheVariants.{Binary};
     ghost use Rattle.pg_types.specs.declared.types.built_in.BuiltIn.TheVariants.{Timestamp as TimestampRow};
     ghost use Rattle.postgres_types.specs.Content.{is_row};
     ghost use Rattle.postgres_types.specs.Numbers.{wire_signed};
-    ghost use Rattle.postgres_types.specs.Writing.{checked_by};
 
     ghost accepted = { is_row TimestampRow };
 
@@ -68,18 +65,13 @@ impl ToSql for Micros {
 
     ghost wire = { λ _ v. wire_signed w64 v.0 };
 
-    ghost checked = { λ ty v. checked_by (is_row TimestampRow ty) ty (codes "Micros") (wire_signed w64 v.0) };
-
-    ghost format = { λ _ _. Binary };
-
     fn to_sql(&self, alloc: Global, _ty: &Type, out: &mut BytesMut) -> Result<IsNull, Fault> {
         timestamp_to_sql(alloc, self.0, out)?;
         Ok(IsNull::No)
     }
 
-    #[tactic(auto, using(pg_types::proofs::DerivedTypes::eq_content))]
     fn accepts(ty: &Type) -> bool {
-        *ty == Type::TIMESTAMP
+        ty.is(&Type::TIMESTAMP)
     }
 
     fn to_sql_checked(
@@ -98,8 +90,6 @@ impl ToSql for Micros {
     fn encode_format(&self, _ty: &Type) -> Format {
         Format::Binary
     }
-
-    ghost checks = { λ _ _. refl };
 }
 
 /// A second after 2000-01-01 00:00:00.

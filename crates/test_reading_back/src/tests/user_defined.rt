@@ -59,15 +59,12 @@ impl ToSql for Degrees {
     ghost use Rattle.pg_types.specs.declared.types.built_in.BuiltIn.TheVariants.{Int4};
     ghost use Rattle.postgres_types.specs.Content.{is_row};
     ghost use Rattle.postgres_types.specs.Numbers.{wire_signed};
-    ghost use Rattle.postgres_types.specs.Writing.{checked_by};
 
     ghost accepted = { is_row Int4 };
 
     ghost name = { codes "Degrees" };
 
     ghost wire = { λ _ v. wire_signed w32 v.0 };
-
-    ghost checked = { λ ty v. checked_by (is_row Int4 ty) ty (codes "Degrees") (wire_signed w32 v.0) };
 
     ghost format = { λ _ _. Text };
 
@@ -95,8 +92,6 @@ impl ToSql for Degrees {
     fn encode_format(&self, _ty: &Type) -> Format {
         Format::Text
     }
-
-    ghost checks = { λ _ _. refl };
 }
 
 /// Degrees are read back as themselves.
