@@ -5,7 +5,7 @@ ghost use Rattle.std.specs.Prelude.{◌≡◌, ◌≤◌, ◌+◌, ◌++◌, dro
 ghost use Rattle.std.specs.Int.{to_be_bytes, w32};
 ghost use Rattle.pg_types.specs.Content.{content};
 ghost use Rattle.pg_params.specs.ParamWriting.{AppendsFrame, AppendsFrameOrPart, Binds, FramesFrom};
-ghost use Rattle.pg_write.specs.Writing.{Writes, checked_wire};
+ghost use Rattle.pg_write.specs.Writing.{Writes, checked};
 
 use bytes::{BufMut, BytesMut};
 use pg_base::fault::Fault;
@@ -30,7 +30,7 @@ pub fn frame_value<T: ToSql>(
     ty: &PgType,
     out: &mut BytesMut,
 ) -> Result<(), Fault>
-    ensures { AppendsFrame (checked_wire T.accepted T.name T.wire (content ty.now) value.now)
+    ensures { AppendsFrame (checked T.accepted T.name T.wire (content ty.now) value.now)
         out.old.items out.new.items result }
 {
     let start = out.len();
@@ -48,7 +48,7 @@ fn value_to_sql<T: ToSql>(
     ty: &PgType,
     out: &mut BytesMut,
 ) -> Result<(), Fault>
-    ensures { AppendsFrameOrPart (checked_wire T.accepted T.name T.wire (content ty.now) value.now)
+    ensures { AppendsFrameOrPart (checked T.accepted T.name T.wire (content ty.now) value.now)
         out.old.items out.new.items result }
 {
     let start = out.len();
@@ -72,7 +72,7 @@ pub fn params_to_sql(
     out: &mut BytesMut,
 ) -> Result<(), (usize, Fault)>
     requires { length params.now ≡ length types.now }
-    ensures { Binds (λ p. checked_wire (ToSql-box p.0).ToSql.accepted (ToSql-box p.0).ToSql.name
+    ensures { Binds (λ p. checked (ToSql-box p.0).ToSql.accepted (ToSql-box p.0).ToSql.name
         (ToSql-box p.0).ToSql.wire (content p.1) p.0.value)
         (zip params.now types.now) out.old.items out.new.items result }
 {
@@ -93,7 +93,7 @@ fn param_to_sql(
     ty: &PgType,
     out: &mut BytesMut,
 ) -> Result<(), Fault>
-    ensures { AppendsFrameOrPart (checked_wire (ToSql-box param.now).ToSql.accepted (ToSql-box param.now).ToSql.name
+    ensures { AppendsFrameOrPart (checked (ToSql-box param.now).ToSql.accepted (ToSql-box param.now).ToSql.name
         (ToSql-box param.now).ToSql.wire (content ty.now) param.now.value)
         out.old.items out.new.items result }
 {
@@ -135,7 +135,7 @@ fn write_boxed(
     ty: &PgType,
     out: &mut BytesMut,
 ) -> Result<IsNull, Fault>
-    ensures { Writes (checked_wire (ToSql-box param.now).ToSql.accepted (ToSql-box param.now).ToSql.name
+    ensures { Writes (checked (ToSql-box param.now).ToSql.accepted (ToSql-box param.now).ToSql.name
         (ToSql-box param.now).ToSql.wire (content ty.now) param.now.value)
         out.old.items out.new.items result }
 {

@@ -10,8 +10,8 @@ use Rattle.pg_types.specs.declared.format.IsNull.TheVariants.{Yes, No}
 
 -- what checked writing writes: the written form for a type that is accepted, and for any other WrongType, with the type
 -- and the name of the Rust type
-abbrev pub checked_wire : {A : Type 0} → (Content → Bool) → List ℕ → (Content → A → Wire) → Content → A → Wire
-checked_wire accepted rust wire ty v = if accepted ty then wire ty v else Err (wrong_type ty rust)
+abbrev pub checked : {A : Type 0} → (Content → Bool) → List ℕ → (Content → A → Wire) → Content → A → Wire
+checked accepted rust wire ty v = if accepted ty then wire ty v else Err (wrong_type ty rust)
 
 -- the fault is WrongType, with the type and the name of the Rust type, or memory ran out
 abbrev pub IsWrongType : Content → List ℕ → Fault → Type 0

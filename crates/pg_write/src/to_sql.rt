@@ -5,7 +5,7 @@ ghost use Rattle.pg_types.specs.declared.format.Format.TheVariants.{Binary};
 ghost use Rattle.pg_types.specs.Content.{Content, content, IsBuiltIn};
 ghost use Rattle.pg_types.specs.Faults.{NeverMemory, refusal_of};
 ghost use Rattle.pg_base.specs.Appending.{Wire};
-ghost use Rattle.pg_write.specs.Writing.{Writes, KeepsRoomRule, checked_wire, IsWrongType};
+ghost use Rattle.pg_write.specs.Writing.{Writes, KeepsRoomRule, checked, IsWrongType};
 
 use bytes::BytesMut;
 use pg_base::fault::{Fault, REASON_LEN, WrongType};
@@ -63,7 +63,7 @@ pub trait ToSql: fmt::Debug + Drop {
         ty: &PgType,
         out: &mut BytesMut,
     ) -> Result<IsNull, Fault>
-        ensures writes { Writes (checked_wire accepted name wire (content ty.now) self.now)
+        ensures writes { Writes (checked accepted name wire (content ty.now) self.now)
             out.old.items out.new.items result }
         ensures room { by_room self.now → IsTrue (accepted (content ty.now))
             → KeepsRoomRule (wire (content ty.now) self.now) out.old.spare result }
@@ -86,7 +86,7 @@ pub fn to_sql_checked_as<T: ToSql>(
     out: &mut BytesMut,
 ) -> Result<IsNull, Fault>
     requires { length rust.now ≤ REASON_LEN }
-    ensures writes { Writes (checked_wire T.accepted rust.now T.wire (content ty.now) v.now)
+    ensures writes { Writes (checked T.accepted rust.now T.wire (content ty.now) v.now)
         out.old.items out.new.items result }
     ensures room { T.by_room v.now → IsTrue (T.accepted (content ty.now))
         → KeepsRoomRule (T.wire (content ty.now) v.now) out.old.spare result }
