@@ -66,6 +66,8 @@ impl ToSql for Days {
 
     ghost format = { λ _ _. Text };
 
+    ghost by_room = { λ _. Unit {0} };
+
     fn to_sql(&self, alloc: Global, _ty: &Type, out: &mut BytesMut) -> Result<IsNull, Fault> {
         int4_to_sql(alloc, self.0, out)?;
         Ok(IsNull::No)
