@@ -3,14 +3,14 @@ use Rattle.std.proofs.Common.{◌≡◌, ℕ, suc, zero, List, ◌++◌, length,
 use Rattle.std.proofs.lemmas.Option.{IfSome_then}
 use Rattle.pg_types.specs.declared.fault.Fault.{Fault}
 use Rattle.pg_base.proofs.ArrayLaws.{dimension_fault}
-use Rattle.pg_base.specs.Arrays.{SpellsDimensions, SpellsHead, dimension_checks, head_checks}
+use Rattle.pg_base.specs.Arrays.{SpellsDimensions, SpellsHead, dimension_checks, head_checks, pair_width}
 use Rattle.pg_base.specs.Counts.{IsCount, ToRead}
 use Rattle.pg_types.specs.Faults.{Answers, refusal_of}
 use Rattle.pg_base.specs.Formats.{Decodes, first_fault_of}
 
 -- what the one dimension gives, the head gives
 pub one_dimension : (b h m x s : List ℕ) (d : ℕ) (r : Result ToRead Fault) → b ≡ h ++ m → IsCount h d → d ≡ 1 → m ≡ x
-    ++ s → length x ≡ 8
+    ++ s → length x ≡ pair_width
     → Answers (Decodes (SpellsDimensions (suc zero)) (λ s. first_fault_of (dimension_checks (suc zero) s)) s) r
     → Answers (Decodes SpellsHead (λ b. first_fault_of (head_checks b)) b) r
 one_dimension b h m x s d (Ok cells) e is one parts eight p =

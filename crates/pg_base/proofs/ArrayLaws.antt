@@ -29,14 +29,14 @@ drop_part k x s e = ap (λ n. drop n (x ++ s)) (sym e) ∙ drop-append_seam x s
 long_whole : (s l x rest : List ℕ) (n : ℕ) → s ≡ l ++ (x ++ rest) → IsCount l n → length x ≡ number_width
     → nat_le pair_width (length s) ≡ true
 long_whole s l x rest n e p h =
-    let four : length l ≡ 4 = be-length w32 l (pos n) p in
-    let all : length s ≡ 8 + length rest =
+    let four : length l ≡ number_width = be-length w32 l (pos n) p in
+    let all : length s ≡ pair_width + length rest =
     omega (arith, ap length e, length-append l (x ++ rest), length-append x rest, four, h) in
     grind (arith, nat_tests)
 
 long_enough : (x s : List ℕ) → length x ≡ pair_width → nat_le pair_width (length (x ++ s)) ≡ true
 long_enough x s h =
-    let all : length (x ++ s) ≡ 8 + length s = omega (arith, length-append x s, h) in
+    let all : length (x ++ s) ≡ pair_width + length s = omega (arith, length-append x s, h) in
     grind (arith, nat_tests)
 
 -- what is known of bytes that begin with dimensions
@@ -52,17 +52,13 @@ dimensions_then zero s r p =
           (sym p.0) p.1;
     }
 dimensions_then (suc zero) s r p =
-    let prefix = p.0 in
-    let lower_bound = p.1 in
-    let is = p.2 in
-    let counts = p.3 in
-    let width = p.4 in
-    let number = number_then s prefix (lower_bound ++ r.bytes) (pos r.left) is counts in
+    let number = number_then s p.length_bytes (p.lower_bound_bytes ++ r.bytes) (pos r.left) p.is p.counts in
+    let long = long_whole s p.length_bytes p.lower_bound_bytes r.bytes r.left p.is p.counts p.width in
     record {
-      passes = rw (long_whole s prefix lower_bound r.bytes r.left is counts width, number.number) refl;
+      passes = rw (long, number.number) refl;
       remaining_is = rw (number.number, number.rest)
           (ap (λ (x : List ℕ). let q : ToRead = record { left = r.left; bytes = x } in q)
-          (drop_part number_width lower_bound r.bytes width));
+          (drop_part number_width p.lower_bound_bytes r.bytes p.width));
     }
 dimensions_then (suc (suc d)) s r p = absurd p
 

@@ -11,7 +11,7 @@ use Rattle.pg_types.specs.declared.fault.Fault.TheVariants.{Memory}
 use Rattle.pg_base.specs.Appending.{Appends}
 use Rattle.pg_base.specs.Bits.{FormBits, bits_cell, bytes_for, first_bits, packed}
 use Rattle.pg_base.specs.Cells.{be, fits_prefix, max_length}
-use Rattle.pg_base.specs.Counts.{IsCount}
+use Rattle.pg_base.specs.Counts.{IsCount, number_width}
 use Rattle.pg_base.proofs.BitLemmas.{first_bits_len, packed_len}
 
 -- ---- reading
@@ -47,7 +47,7 @@ packed_as_many n p whole = packed_len (first_bits n p) ∙ ap bytes_for (first_b
 
 -- the cell was appended
 pub appends_cell : (n : ℕ) (p : List ℕ) (old new : Filled) → n ≤ max_length → length p ≡ bytes_for n → new.items
-    ≡ old.items ++ (be w32 (pos n) ++ packed (first_bits n p)) → old.spare ≤ new.spare + (4 + length p)
+    ≡ old.items ++ (be w32 (pos n) ++ packed (first_bits n p)) → old.spare ≤ new.spare + (number_width + length p)
     → Appends (bits_cell (first_bits n p)) old new (Ok tt)
 appends_cell n p old new h whole items spare =
     let many = packed_as_many n p whole in
@@ -56,8 +56,8 @@ appends_cell n p old new h whole items spare =
 -- there was no room for it
 pub appends_nothing : (n : ℕ) (p : List ℕ) (old new : Filled) (r : Result ⊤ Fault) → n ≤ max_length
     → length p ≡ bytes_for n
-    → IsErr r → IsErrAnd r (λ f. f ≡ Memory) → new.items ≡ old.items → old.spare < 4 + length p → old.spare ≤ new.spare
-    → Appends (bits_cell (first_bits n p)) old new r
+    → IsErr r → IsErrAnd r (λ f. f ≡ Memory) → new.items ≡ old.items → old.spare < number_width + length p
+    → old.spare ≤ new.spare → Appends (bits_cell (first_bits n p)) old new r
 appends_nothing n p old new (Ok done) h whole is and items room more = absurd (cc)
 appends_nothing n p old new (Err f) h whole is and items room more =
     let many = packed_as_many n p whole in

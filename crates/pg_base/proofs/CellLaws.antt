@@ -1,5 +1,5 @@
 -- Laws of cells in a row.
-use Rattle.std.specs.Prelude.{◌≡◌, ℕ, zero, suc, ◌+◌, ℤ, pos, negsuc, List, [], ◌∷◌, ◌++◌, length, drop, Some, None}
+use Rattle.std.specs.Prelude.{◌≡◌, ℕ, zero, suc, ◌+◌, ℤ, pos, negsuc, List, [], ◌∷◌, ◌++◌, length, Some, None}
 use Rattle.std.specs.Prelude.{true, nat_le, refl}
 use Rattle.std.proofs.Common.{sym, ◌∙◌, ap, ap₂, subst, arith, append_assoc, append-nil, inl, inr}
 use Rattle.std.proofs.Math.Dec.{leb-zero}
@@ -9,7 +9,7 @@ use Rattle.std.proofs.lemmas.List.{length-append}
 use Rattle.pg_base.specs.Cells.{Cell, Spells, SpellsNone, SpellsAll, CellsInRow, frame, frames, FramesSingle}
 use Rattle.pg_base.specs.Cells.{FramePrefixesSingle}
 use Rattle.pg_base.proofs.CountLaws.{IsNumberThen, number_then}
-use Rattle.pg_base.specs.Counts.{has_number, number_in, has_cell, bytes_in, after_cell, cell_checks}
+use Rattle.pg_base.specs.Counts.{after_number, has_number, number_in, has_cell, bytes_in, after_cell, cell_checks}
 use Rattle.pg_types.specs.Faults.{Refusal, size}
 use Rattle.pg_base.specs.Formats.{first_fault_of}
 use Rattle.pg_base.proofs.FrameLaws.{bytes-frame, frame_spells, parts_of}
@@ -38,7 +38,7 @@ pub record IsCellThen (s : List ℕ) (c : Cell) (u : List ℕ) : Type 0 where
 null_then : (s u : List ℕ) (n : ℕ) → IsNumberThen s (negsuc n) u → IsCellThen s None u
 null_then s u n p = record {
   has = p.has;
-  whole = rw p.number (leb-zero (length (drop 4 s)));
+  whole = rw p.number (leb-zero (length (after_number s)));
   bytes = rw p.number refl;
   cell = rw p.number refl;
   rest = rw p.number p.rest;
@@ -88,39 +88,45 @@ pub cells_single : (s : List ℕ) (n : ℕ) (cs ds : List Cell) (u w : List ℕ)
     → (cs ≡ ds) × (u ≡ w)
 cells_single s n [] [] u w p q = (refl, sym p.0 ∙ q.0)
 cells_single s n [] (d ∷ ds) u w p q =
-    elim p.2 [ inl z ↦ absurd (omega (arith, q.1, z)) | inr z ↦ absurd (z q.0.0 q.0.1 d (sym p.0 ∙ q.0.2) q.0.3) ]
+    elim p.2 [
+      | inl z ↦ absurd (omega (arith, q.1, z))
+      | inr z ↦ absurd (z q.0.front q.0.rest d (sym p.0 ∙ q.0.is) q.0.spells)
+    ]
 cells_single s n (c ∷ cs) [] u w p q =
-    elim q.2 [ inl z ↦ absurd (omega (arith, p.1, z)) | inr z ↦ absurd (z p.0.0 p.0.1 c (sym q.0 ∙ p.0.2) p.0.3) ]
+    elim q.2 [
+      | inl z ↦ absurd (omega (arith, p.1, z))
+      | inr z ↦ absurd (z p.0.front p.0.rest c (sym q.0 ∙ p.0.is) p.0.spells)
+    ]
 cells_single s zero (c ∷ cs) (d ∷ ds) u w p q = absurd (omega (arith, p.1))
 cells_single s (suc n) (c ∷ cs) (d ∷ ds) u w p q =
-    let first = cell_single p.0.0 p.0.1 q.0.0 q.0.1 c d (sym p.0.2 ∙ q.0.2) p.0.3 q.0.3 in
-    let h : CellsInRow p.0.1 n cs u = (
-      p.0.4,
+    let first = cell_single p.0.front p.0.rest q.0.front q.0.rest c d (sym p.0.is ∙ q.0.is) p.0.spells q.0.spells in
+    let h : CellsInRow p.0.rest n cs u = (
+      p.0.rest_spells,
       omega
           (arith, p.1),
       elim p.2 [ inl z ↦ inl (omega (arith, z)) | inr z ↦ inr z ],
     ) in
-    let k : CellsInRow q.0.1 n ds w = (
-      q.0.4,
+    let k : CellsInRow q.0.rest n ds w = (
+      q.0.rest_spells,
       omega
           (arith, q.1),
       elim q.2 [ inl z ↦ inl (omega (arith, z)) | inr z ↦ inr z ],
     ) in
-    let later = cells_single p.0.1 n cs ds u w h (subst (λ x. CellsInRow x n ds w) (sym first.1) k) in
+    let later = cells_single p.0.rest n cs ds u w h (subst (λ x. CellsInRow x n ds w) (sym first.1) k) in
     (ap₂ (λ (x : Cell) (xs : List Cell). x ∷ xs) first.0 later.0, later.1)
 
 -- frames spell their cells, whatever comes after
 pub frames_spell : (cs : List Cell) (b s : List ℕ) → frames cs ≡ Some b → SpellsAll (b ++ s) cs s
 frames_spell [] b s e = let none : b ≡ [] = cc in ap (λ x. x ++ s) none
 frames_spell (c ∷ cs) b s e =
-    let parts = parts_of (frame c) (frames cs) b e in (
-      parts.0,
-      parts.1 ++ s,
-      ap (λ x. x ++ s) parts.4
-          ∙ append_assoc parts.0 parts.1 s,
-      frame_spells c parts.0 parts.2,
-      frames_spell cs parts.1 s parts.3,
-    )
+    let parts = parts_of (frame c) (frames cs) b e in
+    record {
+      front = parts.first;
+      rest = parts.second ++ s;
+      is = ap (λ x. x ++ s) parts.whole ∙ append_assoc parts.first parts.second s;
+      spells = frame_spells c parts.first parts.first_is;
+      rest_spells = frames_spell cs parts.second s parts.second_is;
+    }
 
 -- and alone where nothing does
 pub frames_alone : (cs : List Cell) (b : List ℕ) → frames cs ≡ Some b → SpellsAll b cs []

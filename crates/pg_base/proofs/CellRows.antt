@@ -10,21 +10,21 @@ use Rattle.std.proofs.lemmas.Nat.{be_bytes_4}
 use Rattle.std.proofs.Math.Facts.{of_z-to_z, sfits_to_z}
 use Rattle.pg_base.specs.Arrays.{SpellsDimensions, SpellsHead}
 use Rattle.pg_base.proofs.CellLaws.{no_cell}
-use Rattle.pg_base.specs.Cells.{AreBytes, Cell, IsBe, Spells, SpellsNone, SpellsAll, CellsInRow}
+use Rattle.pg_base.specs.Cells.{AreBytes, Cell, IsBe, SpellsNone, SpellsAll, CellsInRow}
 use Rattle.pg_base.proofs.CountLaws.{number_then}
-use Rattle.pg_base.specs.Counts.{ToRead, has_number}
+use Rattle.pg_base.specs.Counts.{ToRead, after_number, has_number, number_width}
 use Rattle.pg_types.specs.Faults.{size}
 use Rattle.pg_base.proofs.FrameLaws.{cell_after_length}
 
 -- the first cell is whole, or it is truncated
 abbrev Next : List ℕ → Type 0
-Next s = ((t u : List ℕ) × (c : Cell) × (s ≡ t ++ u) × Spells t c) ⊎ SpellsNone s
+Next s = ((c : Cell) × (rest : List ℕ) × SpellsAll s (c ∷ []) rest) ⊎ SpellsNone s
 
 less_or_not : (a b : ℕ) → (a < b) ⊎ (b ≤ a)
 less_or_not a b = grind arith
 
 -- any four bytes are those of a number
-pub four_bytes : (h : List ℕ) → AreBytes h → length h ≡ 4 → (z : ℤ) × IsBe w32 h z
+pub four_bytes : (h : List ℕ) → AreBytes h → length h ≡ number_width → (z : ℤ) × IsBe w32 h z
 four_bytes h b l =
     let fits : Fits w32 (from_be_bytes w32 h) = omega (arith, b 0, b 1, b 2, b 3) in (
       to_z w32 (from_be_bytes w32 h),
@@ -36,7 +36,7 @@ four_bytes h b l =
     )
 
 -- with fewer than four bytes the length is truncated
-truncated_length : (s : List ℕ) → length s < 4 → SpellsNone s
+truncated_length : (s : List ℕ) → length s < number_width → SpellsNone s
 truncated_length s h =
     let too_few : has_number s ≡ false = grind (arith, nat_tests) in
     no_cell s size (rw too_few refl)
@@ -49,13 +49,16 @@ truncated_cell s h m n e p l =
     no_cell s size (rw (number.has, number.number, number.rest, too_few) refl)
 
 next_at : (s h m : List ℕ) (z : ℤ) → s ≡ h ++ m → IsBe w32 h z → Next s
-next_at s h m (negsuc k) e p = inl (h, m, None, e, (k, p))
+next_at s h m (negsuc k) e p =
+    inl (None, m, record { front = h; rest = m; is = e; spells = (k, p); rest_spells = refl })
 next_at s h m (pos n) e p = elim (less_or_not (length m) n) [
   | inl q ↦ inr (truncated_cell s h m n e p q)
   | inr q ↦
       let l : length (take n m) ≡ n = simp length-take (omega arith) in
       let t = cell_after_length s h m (take n m) (drop n m) (pos n) e p (ap pos (sym l)) (sym (take-append-drop n m)) in
-      inl (t.0, drop n m, Some (take n m), t.1, t.2)
+      let cell : SpellsAll s (Some (take n m) ∷ []) (drop n m) =
+      record { front = t.0; rest = drop n m; is = t.1; spells = t.2; rest_spells = refl } in
+      inl (Some (take n m), drop n m, cell)
 ]
 
 pub trailing_bytes : (s h m : List ℕ) → s ≡ h ++ m → AreBytes s → AreBytes m
@@ -69,11 +72,11 @@ bytes_before s n b i = elim (less_or_not i n) [
 ]
 
 next : (s : List ℕ) → AreBytes s → Next s
-next s b = elim (less_or_not (length s) 4) [
+next s b = elim (less_or_not (length s) number_width) [
   | inl q ↦ inr (truncated_length s q)
   | inr q ↦
-      let f = four_bytes (take 4 s) (bytes_before s 4 b) (simp length-take (omega arith)) in
-      next_at s (take 4 s) (drop 4 s) f.0 (sym (take-append-drop 4 s)) f.1
+      let f = four_bytes (take number_width s) (bytes_before s number_width b) (simp length-take (omega arith)) in
+      next_at s (take number_width s) (after_number s) f.0 (sym (take-append-drop number_width s)) f.1
 ]
 
 -- there are n cells, or fewer
@@ -81,11 +84,12 @@ pub cells_exist : (s : List ℕ) (n : ℕ) → AreBytes s → (cs : List Cell) �
 cells_exist s zero b = ([], s, (refl, omega arith, inl refl))
 cells_exist s (suc n) b = elim (next s b) [
   | inl p ↦
-      let r = cells_exist p.1 n (trailing_bytes s p.0 p.1 p.3 b) in (
-        p.2 ∷ r.0,
+      let c = p.2 in
+      let r = cells_exist c.rest n (trailing_bytes s c.front c.rest c.is b) in (
+        p.0 ∷ r.0,
         r.1,
         (
-          (p.0, p.1, p.3, p.4, r.2.0),
+          record { front = c.front; rest = c.rest; is = c.is; spells = c.spells; rest_spells = r.2.0 },
           omega
               (arith, r.2.1),
           elim r.2.2 [ inl e ↦ inl (ap suc e) | inr h ↦ inr h ],
@@ -98,7 +102,8 @@ cells_exist s (suc n) b = elim (next s b) [
 dimension_bytes : (d : ℕ) (s : List ℕ) (r : ToRead) → SpellsDimensions d s r → AreBytes s → AreBytes r.bytes
 dimension_bytes zero s r p b = subst AreBytes p.1 b
 dimension_bytes (suc zero) s r p b =
-    trailing_bytes (p.1 ++ r.bytes) p.1 r.bytes refl (trailing_bytes s p.0 (p.1 ++ r.bytes) p.2 b)
+    let after = p.lower_bound_bytes ++ r.bytes in
+    trailing_bytes after p.lower_bound_bytes r.bytes refl (trailing_bytes s p.length_bytes after p.is b)
 dimension_bytes (suc (suc d)) s r p b = absurd p
 
 pub head_bytes : (b : List ℕ) (r : ToRead) → SpellsHead b r → AreBytes b → AreBytes r.bytes
@@ -110,4 +115,5 @@ head_bytes b r p h =
 -- and so is what stands after cells
 pub row_bytes : (s u : List ℕ) (cs : List Cell) → SpellsAll s cs u → AreBytes s → AreBytes u
 row_bytes s u [] e b = subst AreBytes e b
-row_bytes s u (c ∷ cs) p b = row_bytes p.1 u cs p.4 (trailing_bytes s p.0 p.1 p.2 b)
+row_bytes s u (c ∷ cs) p b =
+    row_bytes p.rest u cs p.rest_spells (trailing_bytes s p.front p.rest p.is b)

@@ -55,14 +55,14 @@ module _ (w : Width) (back : (n : ℕ) → n < 2 ^ bits w → from_be_bytes w (t
       → ((z : ℤ) (v u : A) → names z v → names z u → content_of v ≡ content_of u)
       → IsGrammar (λ v u. content_of v ≡ content_of u) (FormCount w low high names) (first_fault_count w low high)
   count_grammar content_of names one = record {
-    passes = λ b v h. within_passes b h.0 h.1 h.2;
-    single = λ b v u h k. one h.0 v u h.3 (rw (be-single w back b h.0 k.0 h.1 k.1) k.3);
+    passes = λ b v h. within_passes b h.count h.is h.within;
+    single = λ b v u h k. one h.count v u h.named (rw (be-single w back b h.count k.count h.is k.is) k.named);
   }
 
   -- what a count gives is what its bytes give
   count_decodes : {A : Type 0} (names : ℤ → A → Type 0) (b : List ℕ) (z : ℤ) → IsBe w b z → (o : Outcome A)
       → CountGives low high names z o → Decodes (FormCount w low high names) (first_fault_count w low high) b o
-  count_decodes names b z h (Ok v) k = (z, h, k.0, k.1)
+  count_decodes names b z h (Ok v) k = record { count = z; is = h; within = k.0; named = k.1 }
   count_decodes names b z h (Err r) k = outside_is_decode b z h k.0 ∙ ap Some (sym k.1)
 
   -- the same of what a call answered
@@ -75,7 +75,7 @@ module _ (w : Width) (back : (n : ℕ) → n < 2 ^ bits w → from_be_bytes w (t
   -- the bytes of a count within the bounds are read as what it names
   count_back : {A : Type 0} (names : ℤ → A → Type 0) (b : List ℕ) (z : ℤ) → IsBe w b z → IsBetween low high z
       → (o : Outcome A) → Decodes (FormCount w low high names) (first_fault_count w low high) b o → IsOkAnd o (names z)
-  count_back names b z h k (Ok v) d = rw (be-single w back b z d.0 h d.1) d.3
+  count_back names b z h k (Ok v) d = rw (be-single w back b z d.count h d.is) d.named
   count_back names b z h k (Err r) d = let bad : None ≡ Some r = sym (within_passes b z h k) ∙ d in cc
 
 -- DATE, TIME, TIMESTAMP and TIMESTAMPTZ are grammars: a count names one value

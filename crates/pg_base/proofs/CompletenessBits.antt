@@ -1,5 +1,5 @@
 -- The checks of BIT and VARBIT, of JSON and of JSONB are complete.
-use Rattle.std.specs.Prelude.{◌≡◌, ◌++◌, [], ◌∷◌, ℕ, ℤ, pos, negsuc, ◌==◌, List, length, drop, take, IsUtf8}
+use Rattle.std.specs.Prelude.{◌≡◌, ◌++◌, [], ◌∷◌, ℕ, ℤ, pos, negsuc, ◌==◌, List, length, take, IsUtf8}
 use Rattle.std.specs.Prelude.{Option, Some, None, Bool, true, false, not, is_some, refl}
 use Rattle.std.specs.Prelude.{option_map, unwrap_or}
 use Rattle.std.proofs.Common.{sym, ◌∙◌, ap, subst, arith, cond, length-take, take-append-drop}
@@ -17,22 +17,23 @@ use Rattle.pg_base.proofs.CountLaws.{number_then}
 use Rattle.pg_base.specs.Bits.{FormBits, bytes_for, first_bits, first_fault_bits}
 use Rattle.pg_base.specs.Cells.{AreBytes, IsBe}
 use Rattle.pg_base.specs.Counts.{IsCount, count_checks, count_or_zero, has_number, not_negative, number_in}
+use Rattle.pg_base.specs.Counts.{after_number, number_width}
 use Rattle.pg_base.specs.Formats.{IsComplete, first_fault_of}
 use Rattle.pg_base.specs.Json.{FormJson, document_checks, document_of, first_fault_json}
 use Rattle.pg_types.specs.Faults.{size, count, json_text, json_number, json_version}
 
 -- what is known of bytes that begin with four of them
 pub record IsNumberAtFront (s : List ℕ) : Type 0 where
-  pub number : IsBe w32 (take 4 s) (number_in s)
-  pub whole : s ≡ take 4 s ++ drop 4 s
+  pub number : IsBe w32 (take number_width s) (number_in s)
+  pub whole : s ≡ take number_width s ++ after_number s
 
 pub number_at_front : (s : List ℕ) → AreBytes s → has_number s ≡ true → IsNumberAtFront s
 number_at_front s h e =
-    let four = four_bytes (take 4 s) (bytes_before s 4 h)
-    (let long = leb-true 4 (length s) e in simp length-take (omega (arith, long))) in
-    let whole : s ≡ take 4 s ++ drop 4 s = sym (take-append-drop 4 s) in
-    let number = number_then s (take 4 s) (drop 4 s) four.0 whole four.1 in
-    record { number = subst (IsBe w32 (take 4 s)) (sym number.number) four.1; whole = whole }
+    let four = four_bytes (take number_width s) (bytes_before s number_width h)
+    (let long = leb-true number_width (length s) e in simp length-take (omega (arith, long))) in
+    let whole : s ≡ take number_width s ++ after_number s = sym (take-append-drop number_width s) in
+    let number = number_then s (take number_width s) (after_number s) four.0 whole four.1 in
+    record { number = subst (IsBe w32 (take number_width s)) (sym number.number) four.1; whole = whole }
 
 -- a number that is not negative is the count
 pub count_from : (z : ℤ) (s : List ℕ) → IsBe w32 s z → not_negative z ≡ true → IsCount s (count_or_zero z)
@@ -41,28 +42,28 @@ count_from (negsuc n) s h e = let no : ⊥ = cc in absurd no
 
 -- bytes that pass the checks of a count begin with one
 pub count_at_front : (b : List ℕ) → AreBytes b → first_fault_of (count_checks b) ≡ None
-    → IsCount (take 4 b) (count_or_zero (number_in b)) × (b ≡ take 4 b ++ drop 4 b)
+    → IsCount (take number_width b) (count_or_zero (number_in b)) × (b ≡ take number_width b ++ after_number b)
 count_at_front b h e =
     let has = first_passes (has_number b) size _ e in
     let number = number_at_front b h has.0 in
     let sign = first_passes (not_negative (number_in b)) count None has.1 in
-    (count_from (number_in b) (take 4 b) number.number sign.0, number.whole)
+    (count_from (number_in b) (take number_width b) number.number sign.0, number.whole)
 
 pub bits_complete : IsComplete (FormBits (λ v. v)) first_fault_bits
 bits_complete b h e =
     let n = count_or_zero (number_in b) in
-    let parts = both_pass (count_checks b) ((length (drop 4 b) == bytes_for n, size) ∷ []) e in
+    let parts = both_pass (count_checks b) ((length (after_number b) == bytes_for n, size) ∷ []) e in
     let number = count_at_front b h parts.0 in
-    let many = eqb-true (length (drop 4 b)) (bytes_for n) (first_passes _ size None parts.1).0 in
-    let len : n ≡ length (first_bits n (drop 4 b)) = sym (first_bits_len n (drop 4 b)) in (
-      first_bits n (drop 4 b),
+    let many = eqb-true (length (after_number b)) (bytes_for n) (first_passes _ size None parts.1).0 in
+    let len : n ≡ length (first_bits n (after_number b)) = sym (first_bits_len n (after_number b)) in (
+      first_bits n (after_number b),
       record {
-        count_prefix = take 4 b;
-        bits_bytes = drop 4 b;
+        count_prefix = take number_width b;
+        bits_bytes = after_number b;
         is = number.1;
-        counts = subst (IsCount (take 4 b)) len number.0;
+        counts = subst (IsCount (take number_width b)) len number.0;
         width = many ∙ ap bytes_for len;
-        first = ap (λ m. first_bits m (drop 4 b)) len;
+        first = ap (λ m. first_bits m (after_number b)) len;
       },
     )
 

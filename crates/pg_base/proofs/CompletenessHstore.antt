@@ -13,7 +13,7 @@ use Rattle.pg_base.proofs.CompletenessBits.{count_at_front, number_at_front}
 use Rattle.pg_base.proofs.FrameLaws.{cell_after_length}
 use Rattle.pg_base.specs.Cells.{AreBytes, Cell, IsBe, Spells}
 use Rattle.pg_base.specs.Counts.{IsCount, after_cell, bytes_in, count_checks, count_or_zero, has_cell, has_number}
-use Rattle.pg_base.specs.Counts.{not_negative, number_in}
+use Rattle.pg_base.specs.Counts.{after_number, not_negative, number_in, number_width}
 use Rattle.pg_base.specs.Formats.{IsComplete, first_fault_of}
 use Rattle.pg_base.specs.Hstore.{Entry, FormHstore, SpellsEntries, SpellsEntry, SpellsText, entries_checks}
 use Rattle.pg_base.specs.Hstore.{entry_checks, first_fault_hstore, key_checks, last_value, value_checks}
@@ -40,7 +40,7 @@ text_at_front : (s : List ℕ) → AreBytes s → has_number s ≡ true → has_
     → BeginsWith s (cell_in s) (after_cell s)
 text_at_front s h has whole text =
     let number = number_at_front s h has in
-    let p = cell_from (number_in s) (take 4 s) (drop 4 s) s number.whole number.number whole in
+    let p = cell_from (number_in s) (take number_width s) (after_number s) s number.whole number.number whole in
     (p.0, p.1, (p.2, text_from (number_in s) (bytes_in s) text))
 
 value_at_front : (s : List ℕ) → AreBytes s → first_fault_of (value_checks s) ≡ None
@@ -83,7 +83,13 @@ entry_at_front s h e =
       front = key.0 ++ value.0;
       parts = key.1 ∙ ap (λ x. key.0 ++ x) value.1
           ∙ sym (append_assoc key.0 value.0 (after_cell (after_cell s)));
-      spells = (key.0, value.0, refl, key.2, value.2);
+      spells = record {
+        front = key.0;
+        rest = value.0;
+        is = refl;
+        spells = key.2;
+        rest_spells = value.2;
+      };
     }
 
 -- so many entries that spell all of the bytes
@@ -103,20 +109,28 @@ entries_at_front (suc n) s h e =
     let passes = both_pass (entry_checks s) (entries_checks n rest) e in
     let one = entry_at_front s h passes.0 in
     let more = entries_at_front n rest (trailing_bytes s one.front rest one.parts h) passes.1 in
-    (one.entry ∷ more.0, (ap suc more.1.0, (one.front, rest, one.parts, one.spells, more.1.1)))
+    let spells : SpellsEntries s (one.entry ∷ more.0) [] = record {
+      front = one.front;
+      rest = rest;
+      is = one.parts;
+      spells = one.spells;
+      rest_spells = more.1.1;
+    } in
+    (one.entry ∷ more.0, (ap suc more.1.0, spells))
 
 -- a map is told by what it has at each key
 pub hstore_complete : IsComplete (FormHstore (λ (m : List ℕ → Option Cell). m)) first_fault_hstore
 hstore_complete b h e =
     let n = count_or_zero (number_in b) in
-    let passes = both_pass (count_checks b) (entries_checks n (drop 4 b)) e in
+    let rest = after_number b in
+    let passes = both_pass (count_checks b) (entries_checks n rest) e in
     let number = count_at_front b h passes.0 in
-    let p = entries_at_front n (drop 4 b) (trailing_bytes b (take 4 b) (drop 4 b) number.1 h) passes.1 in (
+    let p = entries_at_front n rest (trailing_bytes b (take number_width b) rest number.1 h) passes.1 in (
       λ q. last_value q p.0,
       record {
         entries = p.0;
-        remaining = drop 4 b;
-        counts = (take 4 b, number.1, subst (IsCount (take 4 b)) (sym p.1.0) number.0);
+        remaining = rest;
+        counts = (take number_width b, number.1, subst (IsCount (take number_width b)) (sym p.1.0) number.0);
         spells = p.1.1;
         values = λ q. refl;
       },

@@ -11,7 +11,7 @@ use Rattle.pg_base.proofs.Octets.{octets_back}
 use Rattle.pg_base.specs.Cells.{AreBytes}
 use Rattle.pg_base.specs.Formats.{IsComplete, first_fault_of}
 use Rattle.pg_base.specs.Network.{FormAddress, FormCidr, FormInet, Network, first_fault_cidr, first_fault_inet}
-use Rattle.pg_base.specs.Network.{family_len, host_part, inet_checks, with_netmask}
+use Rattle.pg_base.specs.Network.{family_len, head_len, host_check, host_part, inet_checks, with_netmask}
 use Rattle.pg_types.specs.Faults.{Refusal, address_length, family, host_bits, netmask, size}
 
 -- bytes that pass the checks of the netmask, of the number of octets and of their length
@@ -48,7 +48,7 @@ ipv4_complete : (f m flag l : ℕ) (octets : List ℕ) → f ≡ 2 → later_che
 ipv4_complete f m flag l octets two e =
     let p = is_address 4 m l octets (ap (λ g. later_checks g m l octets) (sym two) ∙ e) in (
       with_netmask (V4 (record { octets = octets })) m,
-      (flag, rw (two, p.number) refl, p.whole, p.fits),
+      record { flag = flag; is = rw (two, p.number) refl; len = p.whole; fits = p.fits },
     )
 
 ipv6_complete : (f m flag l : ℕ) (octets : List ℕ) → AreBytes octets → f ≡ 3 → later_checks f m l octets ≡ None
@@ -57,12 +57,12 @@ ipv6_complete f m flag l octets h three e =
     let p = is_address 16 m l octets (ap (λ g. later_checks g m l octets) (sym three) ∙ e) in
     let back = octets_back octets p.whole h in (
       with_netmask (V6 (record { segments = segments_of octets })) m,
-      (
-        flag,
-        rw (three, p.number) (ap (λ o. 3 ∷ m ∷ flag ∷ 16 ∷ o) (sym back)),
-        ap length back ∙ p.whole,
-        p.fits,
-      ),
+      record {
+        flag = flag;
+        is = rw (three, p.number) (ap (λ o. 3 ∷ m ∷ flag ∷ 16 ∷ o) (sym back));
+        len = ap length back ∙ p.whole;
+        fits = p.fits;
+      },
     )
 
 pub inet_complete : IsComplete FormInet first_fault_inet
@@ -71,7 +71,7 @@ inet_complete (f ∷ []) h e = let no : ⊥ = cc in absurd no
 inet_complete (f ∷ m ∷ []) h e = let no : ⊥ = cc in absurd no
 inet_complete (f ∷ m ∷ flag ∷ []) h e = let no : ⊥ = cc in absurd no
 inet_complete (f ∷ m ∷ flag ∷ l ∷ octets) h e =
-    let four = first_passes (nat_le 4 (length (f ∷ m ∷ flag ∷ l ∷ octets))) size _ e in
+    let four = first_passes (nat_le head_len (length (f ∷ m ∷ flag ∷ l ∷ octets))) size _ e in
     let one = first_passes (f == 2 || f == 3) family _ four.1 in
     elim (two_families f one.0) [
       | inl two ↦ ipv4_complete f m flag l octets two one.1
@@ -80,11 +80,11 @@ inet_complete (f ∷ m ∷ flag ∷ l ∷ octets) h e =
 
 pub cidr_complete : IsComplete FormCidr first_fault_cidr
 cidr_complete b h e =
-    let clear = (host_part (drop 4 b) (slice_index b 1) == 0, host_bits) ∷ [] in
-    let parts = both_pass (inet_checks b) clear e in
+    let octets = drop head_len b in
+    let parts = both_pass (inet_checks b) (host_check octets (slice_index b 1) ∷ []) e in
     let p = inet_complete b h parts.0 in
-    let none : host_part (drop 4 b) (slice_index b 1) ≡ 0 = eqb-true _ 0 (first_passes _ host_bits None parts.1).0 in
-    (p.0, (p.1, ap (λ s. host_part (drop 4 s) (slice_index s 1)) (sym p.1.1) ∙ none))
+    let none : host_part octets (slice_index b 1) ≡ 0 = eqb-true _ 0 (first_passes _ host_bits None parts.1).0 in
+    (p.0, (p.1, ap (λ s. host_part (drop head_len s) (slice_index s 1)) (sym p.1.is) ∙ none))
 
 pub address_complete : IsComplete FormAddress first_fault_inet
 address_complete b h e = let p = inet_complete b h e in (p.0.address, (p.0.masklen, p.1))

@@ -10,7 +10,7 @@ use Rattle.bytes.specs.Filled.{Filled}
 use Rattle.pg_types.specs.declared.fault.Fault.{Fault}
 use Rattle.pg_base.specs.Appending.{Appends, Extends, HasRoomFor}
 use Rattle.pg_base.specs.Cells.{be, frame, concat, fits_prefix, max_length}
-use Rattle.pg_base.specs.Counts.{count_bytes}
+use Rattle.pg_base.specs.Counts.{count_bytes, number_width}
 
 abbrev pub Bytes : Type 0
 Bytes = Option (List ℕ)
@@ -53,7 +53,7 @@ cond_passes false b e = let no : ⊥ = cc in absurd no
 
 -- a short text has a frame
 pub short_frame : (x : List ℕ) → length x ≤ max_length → (b : List ℕ) × (frame (Some x) ≡ Some b)
-    × (length b ≡ 4 + length x)
+    × (length b ≡ number_width + length x)
 short_frame x h =
     let fits : fits_prefix (length x) ≡ true = grind (arith, nat_tests) in
     let b : List ℕ = be w32 (pos (length x)) ++ x in

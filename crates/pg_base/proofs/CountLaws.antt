@@ -1,12 +1,12 @@
 -- Laws of counts and lengths, the 4-byte prefixes.
-use Rattle.std.specs.Prelude.{◌≡◌, ℕ, ℤ, pos, List, Some, ◌++◌, ◌≤◌, length, drop, true, refl}
+use Rattle.std.specs.Prelude.{◌≡◌, ℕ, ℤ, pos, List, Some, ◌++◌, ◌≤◌, length, true, refl}
 use Rattle.std.proofs.Common.{sym, ◌∙◌, ap, subst, arith}
 use Rattle.std.proofs.lemmas.Bool.Decides.{nat_tests}
 use Rattle.std.proofs.lemmas.List.{length-append}
 use Rattle.std.proofs.lemmas.Nat.{from_be_bytes-to_be_bytes_4}
 use Rattle.std.specs.Int.{w32}
 use Rattle.pg_base.specs.Cells.{be, IsBe, signed_in, fits_prefix}
-use Rattle.pg_base.specs.Counts.{IsCount, count_bytes, has_number, number_in}
+use Rattle.pg_base.specs.Counts.{IsCount, after_number, count_bytes, has_number, number_in, number_width}
 use Rattle.pg_base.proofs.FormatLaws.{be-back}
 use Rattle.pg_base.proofs.FrameLaws.{fits_length, some_of}
 
@@ -14,9 +14,9 @@ use Rattle.pg_base.proofs.FrameLaws.{fits_length, some_of}
 pub record IsNumberThen (s : List ℕ) (n : ℤ) (u : List ℕ) : Type 0 where
   pub has : has_number s ≡ true
   pub number : number_in s ≡ n
-  pub rest : drop 4 s ≡ u
+  pub rest : after_number s ≡ u
 
-has_four : (s : List ℕ) → 4 ≤ length s → has_number s ≡ true
+has_four : (s : List ℕ) → number_width ≤ length s → has_number s ≡ true
 has_four s h = grind (arith, nat_tests)
 
 be_then : (n : ℤ) (u : List ℕ) → signed_in w32 (be w32 n) ≡ n → IsNumberThen (be w32 n ++ u) n u

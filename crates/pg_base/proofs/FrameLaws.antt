@@ -54,9 +54,17 @@ frame_spells None s e =
     (0, (fits, is))
 frame_spells (Some b) s e = e
 
+-- the parts of a concatenation
+pub record ConcatParts (a b : Option (List ℕ)) (t : List ℕ) : Type 0 where
+  pub first : List ℕ
+  pub second : List ℕ
+  pub first_is : a ≡ Some first
+  pub second_is : b ≡ Some second
+  pub whole : t ≡ first ++ second
+
 -- where a concatenation is there, both its parts are
-pub parts_of : (a b : Option (List ℕ)) (t : List ℕ) → concat a b ≡ Some t → (x y : List ℕ) × (a ≡ Some x)
-    × (b ≡ Some y) × (t ≡ x ++ y)
+pub parts_of : (a b : Option (List ℕ)) (t : List ℕ) → concat a b ≡ Some t → ConcatParts a b t
 parts_of None b t e = let no : ⊥ = cc in absurd no
 parts_of (Some x) None t e = let no : ⊥ = cc in absurd no
-parts_of (Some x) (Some y) t e = (x, y, refl, refl, cc)
+parts_of (Some x) (Some y) t e =
+    record { first = x; second = y; first_is = refl; second_is = refl; whole = cc }

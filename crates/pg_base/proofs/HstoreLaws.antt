@@ -1,5 +1,5 @@
 -- Hstore is a grammar: its bytes spell one map, and pass every check.
-use Rattle.std.specs.Prelude.{◌≡◌, ℕ, zero, suc, ℤ, pos, negsuc, List, [], ◌∷◌, ◌++◌, ◌+◌, length, take, drop}
+use Rattle.std.specs.Prelude.{◌≡◌, ℕ, zero, suc, ℤ, pos, negsuc, List, [], ◌∷◌, ◌++◌, ◌+◌, length, take}
 use Rattle.std.specs.Prelude.{Option, Some, None, Bool, true, false, nat_le, IsUtf8, refl}
 use Rattle.std.proofs.Common.{sym, ◌∙◌, ap, ap₂, arith, append_assoc}
 use Rattle.std.proofs.Math.Dec.{leb-zero}
@@ -11,7 +11,7 @@ use Rattle.pg_types.specs.Faults.{Refusal, size, utf8, key_length}
 use Rattle.pg_base.proofs.CellLaws.{IsCellThen, bytes_or_none, cell_by, cell_in, cell_then}
 use Rattle.pg_base.proofs.CountLaws.{number_then}
 use Rattle.pg_base.specs.Counts.{checks_of_next, next_checks, ToRead, after_cell, bytes_in, has_number}
-use Rattle.pg_base.specs.Counts.{not_negative, number_in, count_or_zero}
+use Rattle.pg_base.specs.Counts.{after_number, not_negative, number_in, count_or_zero}
 use Rattle.pg_base.proofs.FormatLaws.{check_failed, checks_passed}
 use Rattle.pg_base.specs.Formats.{IsGrammar, first_fault_of}
 use Rattle.pg_base.specs.Hstore.{Entry, SpellsText, SpellsEntry, SpellsEntries, SpellsCount, FormHstore, key_checks}
@@ -59,7 +59,7 @@ key_fault_by true (negsuc n) d r e = let none : None ≡ Some r =
 pub key_fault : (s : List ℕ) (r : Refusal) → first_fault_of (value_checks s) ≡ Some r → first_fault_of (entry_checks s)
     ≡ Some r
 key_fault s r e = check_failed (key_checks s) (value_checks (after_cell s)) r
-    (key_fault_by (has_number s) (number_in s) (drop 4 s) r e)
+    (key_fault_by (has_number s) (number_in s) (after_number s) r e)
 
 -- after a sound key the first fault is the value's
 pub value_fault : (t u x : List ℕ) (r : Refusal) → SpellsText t (Some x) → first_fault_of (value_checks u) ≡ Some r
@@ -77,13 +77,14 @@ record IsEntryThen (s : List ℕ) (e : Entry) (u : List ℕ) : Type 0 where
 
 entry_then : (t u : List ℕ) (e : Entry) → SpellsEntry t e → IsEntryThen (t ++ u) e u
 entry_then t u e p =
-    let s : List ℕ = p.0 ++ (p.1 ++ u) in
-    let parts : t ++ u ≡ s = ap (λ x. x ++ u) p.2 ∙ append_assoc p.0 p.1 u in
-    let key = cell_then p.0 (p.1 ++ u) (Some e.0) p.3.0 in
-    let value = cell_then p.1 u e.1 p.4.0 in
+    let s : List ℕ = p.front ++ (p.rest ++ u) in
+    let parts : t ++ u ≡ s = ap (λ x. x ++ u) p.is ∙ append_assoc p.front p.rest u in
+    let key = cell_then p.front (p.rest ++ u) (Some e.0) p.spells.0 in
+    let value = cell_then p.rest u e.1 p.rest_spells.0 in
     rw parts (record {
-      passes = checks_passed (key_checks s) (value_checks (after_cell s)) (key_passes s e.0 (p.1 ++ u) key p.3.1)
-          ∙ ap (λ x. first_fault_of (value_checks x)) key.rest ∙ value_passes (p.1 ++ u) u e.1 value p.4.1;
+      passes = checks_passed (key_checks s) (value_checks (after_cell s))
+          (key_passes s e.0 (p.rest ++ u) key p.spells.1)
+          ∙ ap (λ x. first_fault_of (value_checks x)) key.rest ∙ value_passes (p.rest ++ u) u e.1 value p.rest_spells.1;
       entry = ap₂ (λ (x : List ℕ) (c : Cell). let e : Entry = (x, c) in e) key.bytes (ap cell_in key.rest ∙ value.cell);
       rest = ap after_cell key.rest ∙ value.rest;
     })
@@ -103,10 +104,11 @@ fault_after_entries : (s rest : List ℕ) (es : List Entry) (n : ℕ) → Spells
 unfolding and_more
 fault_after_entries s rest [] n p = ap (λ x. first_fault_of (entries_checks n x)) p
 fault_after_entries s rest (e ∷ es) n p =
-    let first = entry_then p.0 p.1 e p.3 in
-    rw p.2 (checks_passed (entry_checks (p.0 ++ p.1))
-    (entries_checks (and_more es n) (after_cell (after_cell (p.0 ++ p.1)))) first.passes
-    ∙ ap (λ x. first_fault_of (entries_checks (and_more es n) x)) first.rest ∙ fault_after_entries p.1 rest es n p.4)
+    let first = entry_then p.front p.rest e p.spells in
+    rw p.is (checks_passed (entry_checks (p.front ++ p.rest))
+    (entries_checks (and_more es n) (after_cell (after_cell (p.front ++ p.rest)))) first.passes
+    ∙ ap (λ x. first_fault_of (entries_checks (and_more es n) x)) first.rest
+    ∙ fault_after_entries p.rest rest es n p.rest_spells)
 
 -- what is checked after sound entries is what is checked of the rest
 entries_pass : (s rest : List ℕ) (es : List Entry) (n m : ℕ) → SpellsEntries s es rest → length es + n ≡ m
@@ -123,9 +125,9 @@ entries_are : (s rest : List ℕ) (es : List Entry) → SpellsEntries s es rest 
 unfolding entries_in
 entries_are s rest [] p = refl
 entries_are s rest (e ∷ es) p =
-    let first = entry_then p.0 p.1 e p.3 in
-    rw p.2 (ap₂ (λ (x : Entry) (xs : List Entry). x ∷ xs) first.entry
-    (ap (entries_in (length es)) first.rest ∙ entries_are p.1 rest es p.4))
+    let first = entry_then p.front p.rest e p.spells in
+    rw p.is (ap₂ (λ (x : Entry) (xs : List Entry). x ∷ xs) first.entry
+    (ap (entries_in (length es)) first.rest ∙ entries_are p.rest rest es p.rest_spells))
 
 -- bytes spell one list of entries
 entries_single : (b s u : List ℕ) (es fs : List Entry) → SpellsCount b (record { left = length es; bytes = s })
@@ -178,8 +180,15 @@ entry_fault b start now es r c h e =
 
 one_more : (s t u : List ℕ) (es : List Entry) (e : Entry) (rest : List ℕ) → SpellsEntries s es rest → rest ≡ t ++ u
     → SpellsEntry t e → SpellsEntries s (es ++ e ∷ []) u
-one_more s t u [] e rest p is h = (t, u, p ∙ is, h, refl)
-one_more s t u (x ∷ xs) e rest p is h = (p.0, p.1, p.2, p.3, one_more p.1 t u xs e rest p.4 is h)
+one_more s t u [] e rest p is h =
+    record { front = t; rest = u; is = p ∙ is; spells = h; rest_spells = refl }
+one_more s t u (x ∷ xs) e rest p is h = record {
+  front = p.front;
+  rest = p.rest;
+  is = p.is;
+  spells = p.spells;
+  rest_spells = one_more p.rest t u xs e rest p.rest_spells is h;
+}
 
 -- the next entry is one more
 pub read_next : (start now next : ToRead) (es : List Entry) (e : Entry) (t : List ℕ) → HaveBeenRead start es now

@@ -6,7 +6,7 @@ use Rattle.std.specs.Borrow.{Bor}
 use Rattle.std.proofs.lemmas.List.{take_more, map-append, take-append-drop}
 use Rattle.std.specs.Int.{w32}
 use Rattle.pg_base.specs.Cells.{be, cell_of, frame, concat, fits_prefix, max_length}
-use Rattle.pg_base.specs.Counts.{count_bytes}
+use Rattle.pg_base.specs.Counts.{count_bytes, number_width}
 use Rattle.pg_base.proofs.FrameLaws.{parts_of}
 use Rattle.pg_base.specs.Hstore.{Entry, entries_bytes, hstore_bytes, borrowed_entry}
 use Rattle.pg_base.proofs.Concat.{Bytes, concat-assoc, concat-nil, nil-concat, none_of, short_count, sum_len}
@@ -65,33 +65,23 @@ has_entry es i d bs total h so_far all =
     let later : List Entry = map borrowed_entry (drop (i + 1) es) in
     let parts = parts_of (entries_bytes before) (entries_bytes (e ∷ later)) total
     (sym (entries-append before (e ∷ later)) ∙ ap entries_bytes (sym (entry_at es i d h)) ∙ all) in
-    let first = parts.0 in
-    let rest = parts.1 in
-    let rest_is = parts.3 in
-    let whole = parts.4 in
-    let here = parts_of (concat (frame (Some e.0)) (frame e.1)) (entries_bytes later) rest rest_is in
-    let entry = here.0 in
-    let others = here.1 in
-    let rest_whole = here.4 in
-    let texts = parts_of (frame (Some e.0)) (frame e.1) entry here.2 in
-    let key = texts.0 in
-    let value = texts.1 in
-    let value_is = texts.3 in
-    let entry_whole = texts.4 in
-    let same : Some bs ≡ Some first = sym so_far ∙ parts.2 in
-    let bs_is : bs ≡ first = cc in
-    let bs_len : length bs ≡ length first = subst (λ (s : List ℕ). length bs ≡ length s) bs_is refl in
+    let here =
+    parts_of (concat (frame (Some e.0)) (frame e.1)) (entries_bytes later) parts.second parts.second_is in
+    let texts = parts_of (frame (Some e.0)) (frame e.1) here.first here.first_is in
+    let same : Some bs ≡ Some parts.first = sym so_far ∙ parts.first_is in
+    let bs_is : bs ≡ parts.first = cc in
+    let bs_len : length bs ≡ length parts.first = subst (λ (s : List ℕ). length bs ≡ length s) bs_is refl in
     record {
-      key = key;
-      value = value;
-      key_is = texts.2;
-      value_is = value_is;
+      key = texts.first;
+      value = texts.second;
+      key_is = texts.first_is;
+      value_is = texts.second_is;
       fits = omega (
         arith,
         bs_len,
-        sum_len total first rest whole,
-        sum_len rest entry others rest_whole,
-        sum_len entry key value entry_whole,
+        sum_len total parts.first parts.second parts.whole,
+        sum_len parts.second here.first here.second here.whole,
+        sum_len here.first texts.first texts.second texts.whole,
       );
     }
 
@@ -101,17 +91,13 @@ count_of false b x e = let no : ⊥ = cc in absurd no
 
 -- all bytes are the count's four and the entries'
 whole_parts : (es : List Entry) (b : List ℕ) → hstore_bytes es ≡ Some b → (t : List ℕ) × (entries_bytes es ≡ Some t)
-    × (length b ≡ 4 + length t)
+    × (length b ≡ number_width + length t)
 whole_parts es b e =
     let n : ℕ = length es in
     let parts = parts_of (count_bytes n) (entries_bytes es) b e in
-    let four : parts.0 ≡ be w32 (pos n) = count_of (fits_prefix n) (be w32 (pos n)) parts.0 parts.2 in
-    let prefix = parts.0 in
-    let entries = parts.1 in
-    let entries_are = parts.3 in
-    let whole = parts.4 in
-    let sum : length b ≡ length prefix + length entries = sum_len b prefix entries whole in
-    (entries, entries_are, sum ∙ ap (λ (s : List ℕ). length s + length entries) four)
+    let four : parts.first ≡ be w32 (pos n) = count_of (fits_prefix n) (be w32 (pos n)) parts.first parts.first_is in
+    let sum : length b ≡ length parts.first + length parts.second = sum_len b parts.first parts.second parts.whole in
+    (parts.second, parts.second_is, sum ∙ ap (λ (s : List ℕ). length s + length parts.second) four)
 
 -- what is left of room for all entries has room for the next
 pub record HasRoom (e : Entry) (room : ℕ) : Type 0 where
@@ -123,7 +109,7 @@ pub record HasRoom (e : Entry) (room : ℕ) : Type 0 where
 
 pub has_room : (es : List BorrowedEntry) (i : ℕ) (d : BorrowedEntry) (bs b : List ℕ) (start now : ℕ) → i < length es
     → entries_bytes (map borrowed_entry (take i es)) ≡ Some bs
-    → hstore_bytes (map borrowed_entry es) ≡ Some b → start ≤ now + length bs → length b ≤ start + 4
+    → hstore_bytes (map borrowed_entry es) ≡ Some b → start ≤ now + length bs → length b ≤ start + number_width
     → HasRoom (borrowed_entry (get_or es i d)) now
 has_room es i d bs b start now h so_far all room enough =
     let whole = whole_parts (map borrowed_entry es) b all in
@@ -143,9 +129,7 @@ pub key_none : (es : List BorrowedEntry) (i : ℕ) (d : BorrowedEntry) (bs : Lis
     → frame (Some (get_or es i d).0.now) ≡ None → hstore_bytes (map borrowed_entry es) ≡ None
 key_none es i d bs h so_far none = none_of (hstore_bytes (map borrowed_entry es)) (λ t e.
     let parts = parts_of (count_bytes (length (map borrowed_entry es))) (entries_bytes (map borrowed_entry es)) t e in
-    let bytes = parts.1 in
-    let are = parts.3 in
-    let has = has_entry es i d bs bytes h so_far are in
+    let has = has_entry es i d bs parts.second h so_far parts.second_is in
     let no : None ≡ Some has.key = sym none ∙ has.key_is in cc)
 
 pub value_none : (es : List BorrowedEntry) (i : ℕ) (d : BorrowedEntry) (bs : List ℕ) → i < length es
@@ -153,9 +137,7 @@ pub value_none : (es : List BorrowedEntry) (i : ℕ) (d : BorrowedEntry) (bs : L
     → frame (cell_of (get_or es i d).1) ≡ None → hstore_bytes (map borrowed_entry es) ≡ None
 value_none es i d bs h so_far none = none_of (hstore_bytes (map borrowed_entry es)) (λ t e.
     let parts = parts_of (count_bytes (length (map borrowed_entry es))) (entries_bytes (map borrowed_entry es)) t e in
-    let bytes = parts.1 in
-    let are = parts.3 in
-    let has = has_entry es i d bs bytes h so_far are in
+    let has = has_entry es i d bs parts.second h so_far parts.second_is in
     let no : None ≡ Some has.value = sym none ∙ has.value_is in cc)
 
 -- the bytes of a short list of entries that have bytes

@@ -9,7 +9,7 @@ use Rattle.pg_types.specs.Faults.{host_bits}
 use Rattle.pg_base.specs.Formats.{Checks, IsGrammar, first_fault_of}
 use Rattle.pg_base.specs.Network.{FormAddress, FormCidr, FormInet, Network, address_len, address_octets, family_of}
 use Rattle.pg_base.specs.Network.{first_fault_cidr, first_fault_inet, host_part, inet_checks, network_bytes}
-use Rattle.pg_base.specs.Network.{with_netmask}
+use Rattle.pg_base.specs.Network.{head_len, host_check, with_netmask}
 
 -- segments of the same octets are the same
 same_segments : (s t : List ℕ) → octets_of s ≡ octets_of t → s ≡ t
@@ -37,15 +37,15 @@ checks_hold : (more : Checks) (flag : ℕ) (a : IpAddr) (masklen : ℕ) → leng
     → masklen ≤ 8 * address_len a
     → first_fault_of (inet_checks (network_bytes flag (with_netmask a masklen)) ++ more) ≡ first_fault_of more
 checks_hold more flag (V4 a) masklen len fits =
-    let four : 4 ≤ length (network_bytes flag (with_netmask (V4 a) masklen)) = omega arith in
-    rw (le-leb 4 _ four, le-leb masklen 32 fits, eq-eqb (length (ipv4_octets a)) 4 len) refl
+    let whole : head_len ≤ length (network_bytes flag (with_netmask (V4 a) masklen)) = omega arith in
+    rw (le-leb head_len _ whole, le-leb masklen 32 fits, eq-eqb (length (ipv4_octets a)) 4 len) refl
 checks_hold more flag (V6 a) masklen len fits =
-    let four : 4 ≤ length (network_bytes flag (with_netmask (V6 a) masklen)) = omega arith in
-    rw (le-leb 4 _ four, le-leb masklen 128 fits, eq-eqb (length (octets_of (ipv6_segments a))) 16 len) refl
+    let whole : head_len ≤ length (network_bytes flag (with_netmask (V6 a) masklen)) = omega arith in
+    rw (le-leb head_len _ whole, le-leb masklen 128 fits, eq-eqb (length (octets_of (ipv6_segments a))) 16 len) refl
 
 inet_single : (b : List ℕ) (n m : Network) → FormInet b n → FormInet b m → n ≡ m
 inet_single b n m h k =
-    let bytes : network_bytes h.0 n ≡ network_bytes k.0 m = sym h.1 ∙ k.1 in
+    let bytes : network_bytes h.flag n ≡ network_bytes k.flag m = sym h.is ∙ k.is in
     let family : family_of n.address ≡ family_of m.address = cc in
     let octets : address_octets n.address ≡ address_octets m.address = cc in
     let masklen : n.masklen ≡ m.masklen = cc in
@@ -54,19 +54,21 @@ inet_single b n m h k =
     same
 
 inet_passes : (b : List ℕ) (n : Network) → FormInet b n → first_fault_inet b ≡ None
-inet_passes b n h = ap first_fault_inet h.1 ∙ checks_hold [] h.0 n.address n.masklen h.2 h.3
+inet_passes b n h = ap first_fault_inet h.is ∙ checks_hold [] h.flag n.address n.masklen h.len h.fits
 
 pub inet_grammar : IsGrammar (λ n m. n ≡ m) FormInet first_fault_inet
 inet_grammar = record { passes = inet_passes; single = inet_single }
 
 cidr_passes : (b : List ℕ) (n : Network) → FormCidr b n → first_fault_cidr b ≡ None
 cidr_passes b n h =
-    let at_mask : slice_index b 1 ≡ n.masklen = ap (λ s. slice_index s 1) h.0.1 in
-    let octets_are : drop 4 b ≡ address_octets n.address = ap (drop 4) h.0.1 in
-    let clear : (host_part (drop 4 b) (slice_index b 1) == 0) ≡ true = rw (octets_are, at_mask) (eq-eqb _ 0 h.1) in
-    let last = (host_part (drop 4 b) (slice_index b 1) == 0, host_bits) ∷ [] in
+    let at_mask : slice_index b 1 ≡ n.masklen = ap (λ s. slice_index s 1) h.0.is in
+    let octets = drop head_len b in
+    let octets_are : octets ≡ address_octets n.address = ap (drop head_len) h.0.is in
+    let clear : (host_part octets (slice_index b 1) == 0) ≡ true = rw (octets_are, at_mask) (eq-eqb _ 0 h.1) in
+    let last = host_check octets (slice_index b 1) ∷ [] in
     let others : first_fault_cidr b ≡ first_fault_of last =
-    ap (λ s. first_fault_of (inet_checks s ++ last)) h.0.1 ∙ checks_hold last h.0.0 n.address n.masklen h.0.2 h.0.3 in
+    ap (λ s. first_fault_of (inet_checks s ++ last)) h.0.is
+    ∙ checks_hold last h.0.flag n.address n.masklen h.0.len h.0.fits in
     others ∙ ap (λ t. first_fault_of ((t, host_bits) ∷ [])) clear
 
 pub cidr_grammar : IsGrammar (λ n m. n ≡ m) FormCidr first_fault_cidr

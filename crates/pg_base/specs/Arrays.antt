@@ -16,12 +16,23 @@ use Rattle.std.specs.Int.{w32, to_be_bytes}
 abbrev pub pair_width : ℕ
 pair_width = 8
 
--- s is so many dimensions, and then what is to be read: without a dimension there are no elements, and one states how
--- many there are, with any lower bound
+-- s is a dimension and then what is to be read: it states how many elements there are, with any lower bound
+pub record SpellsDimension (s : List ℕ) (r : ToRead) : Type 0 where
+  -- the bytes of its length
+  pub length_bytes : List ℕ
+  -- those of its lower bound
+  pub lower_bound_bytes : List ℕ
+  -- they follow one another, and the elements them
+  pub is : s ≡ length_bytes ++ (lower_bound_bytes ++ r.bytes)
+  -- the length is how many elements there are
+  pub counts : IsCount length_bytes r.left
+  -- the lower bound has the width of a number
+  pub width : length lower_bound_bytes ≡ number_width
+
+-- s is so many dimensions, and then what is to be read: without a dimension there are no elements
 abbrev pub SpellsDimensions : ℕ → List ℕ → ToRead → Type 0
 SpellsDimensions zero s r = (r.left ≡ 0) × (s ≡ r.bytes)
-SpellsDimensions (suc zero) s r =
-    (l x : List ℕ) × (s ≡ l ++ (x ++ r.bytes)) × IsCount l r.left × (length x ≡ number_width)
+SpellsDimensions (suc zero) s r = SpellsDimension s r
 SpellsDimensions (suc (suc d)) s r = ⊥
 
 -- b is a head, with any flags and any OID, and then what is to be read

@@ -70,10 +70,23 @@ Spells s (Some b) = frame (Some b) ≡ Some s
 abbrev pub SpellsNone : List ℕ → Type 0
 SpellsNone s = (t rest : List ℕ) (c : Cell) → s ≡ t ++ rest → Spells t c → ⊥
 
+-- s is some first bytes and then the rest, of which each is as it says
+pub record FrontAndRest (Front Rest : List ℕ → Type 0) (s : List ℕ) : Type 0 where
+  -- the first bytes
+  pub front : List ℕ
+  -- the bytes after them
+  pub rest : List ℕ
+  -- they follow one another
+  pub is : s ≡ front ++ rest
+  -- the first are so
+  pub spells : Front front
+  -- and the rest so
+  pub rest_spells : Rest rest
+
 -- s is spellings of the cells, one after another, and then rest
 abbrev pub SpellsAll : List ℕ → List Cell → List ℕ → Type 0
 SpellsAll s [] rest = s ≡ rest
-SpellsAll s (c ∷ cs) rest = (t u : List ℕ) × (s ≡ t ++ u) × Spells t c × SpellsAll u cs rest
+SpellsAll s (c ∷ cs) rest = FrontAndRest (λ t. Spells t c) (λ u. SpellsAll u cs rest) s
 
 -- s begins with the cells cs and then comes rest: there are n cells, or fewer where no further cell is whole
 abbrev pub CellsInRow : List ℕ → ℕ → List Cell → List ℕ → Type 0

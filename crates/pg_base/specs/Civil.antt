@@ -23,8 +23,16 @@ first_fault_count w low high b =
     first_fault_of (length_check (byte_len w) b ∷ (is_between low high (signed_in w b), decode) ∷ [])
 
 -- the bytes spell in the width a count within the bounds, and that count names v
-abbrev pub FormCount : {A : Type 0} → Width → ℤ → ℤ → (ℤ → A → Type 0) → List ℕ → A → Type 0
-FormCount w low high names b v = (z : ℤ) × IsBe w b z × IsBetween low high z × names z v
+pub record FormCount {A : Type 0} (w : Width) (low high : ℤ) (names : ℤ → A → Type 0) (b : List ℕ)
+    (v : A) : Type 0 where
+  -- the count
+  pub count : ℤ
+  -- the bytes are the count
+  pub is : IsBe w b count
+  -- it lies within the bounds
+  pub within : IsBetween low high count
+  -- and names the value
+  pub named : names count v
 
 -- what a cell of a count reads as
 abbrev pub ReadsCount : {A : Type 0} → Width → ℤ → ℤ → (ℤ → A → Type 0) → Cell → Outcome A → Type 0

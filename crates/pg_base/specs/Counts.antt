@@ -73,12 +73,22 @@ checks_of_next item (suc n) s = item s
 abbrev pub next_checks : (List ℕ → Checks) → ToRead → Checks
 next_checks item r = checks_of_next item r.left r.bytes
 
+-- the item was taken that is spelled at the front
+pub record TakesItem {A : Type 0} (form : List ℕ → A → Type 0) (old : ToRead) (v : A) (new : ToRead) : Type 0 where
+  -- one item fewer is still to come
+  pub fewer : new.left + 1 ≡ old.left
+  -- the item's bytes
+  pub front : List ℕ
+  -- the remaining bytes follow them
+  pub is : old.bytes ≡ front ++ new.bytes
+  -- they spell the item
+  pub spells : form front v
+
 -- a step of reading: the next item was taken from the front; or its first check that fails was answered, or that of
 -- the end, and then nothing is to be read; or nothing was to be read
 abbrev pub TakesNext : {A : Type 0} → (List ℕ → A → Type 0) → (List ℕ → Checks) → ToRead → Option (Result A Fault)
     → ToRead → Type 0
-TakesNext spells item old (Some (Ok v)) new =
-    (new.left + 1 ≡ old.left) × (t : List ℕ) × (old.bytes ≡ t ++ new.bytes) × spells t v
+TakesNext spells item old (Some (Ok v)) new = TakesItem spells old v new
 TakesNext spells item old (Some (Err f)) new =
     IfSome (refusal_of f) (λ r. first_fault_of (next_checks item old) ≡ Some r) × IsSome (refusal_of f)
     × (new ≡ nothing)

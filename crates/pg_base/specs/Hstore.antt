@@ -11,7 +11,7 @@ use Rattle.std.specs.declared.cmp.Ordering.TheVariants.{Less, Equal, Greater}
 use Rattle.std.specs.Str.{bytes_eq, is_utf8}
 use Rattle.pg_types.specs.declared.fault.Fault.{Fault}
 use Rattle.pg_base.specs.Appending.{Wire, wire_of}
-use Rattle.pg_base.specs.Cells.{Cell, cell_of, frame, Spells, concat}
+use Rattle.pg_base.specs.Cells.{Cell, FrontAndRest, cell_of, frame, Spells, concat}
 use Rattle.pg_base.specs.Counts.{IsCount, TakesNext, ToRead, after_cell, after_number, bytes_in, count_checks, has_cell}
 use Rattle.pg_base.specs.Counts.{has_number, no_trailing, not_negative, number_in, count_or_zero, count_bytes}
 use Rattle.pg_types.specs.Faults.{Refusal, Outcome, size, utf8, key_length}
@@ -28,12 +28,12 @@ SpellsText s c = Spells s c × NoneOr IsUtf8 c
 
 -- s spells an entry: the frame of its key, and then its value
 abbrev pub SpellsEntry : List ℕ → Entry → Type 0
-SpellsEntry s e = (k v : List ℕ) × (s ≡ k ++ v) × SpellsText k (Some e.0) × SpellsText v e.1
+SpellsEntry s e = FrontAndRest (λ k. SpellsText k (Some e.0)) (λ v. SpellsText v e.1) s
 
 -- s is spellings of the entries, one after another, and then rest
 abbrev pub SpellsEntries : List ℕ → List Entry → List ℕ → Type 0
 SpellsEntries s [] rest = s ≡ rest
-SpellsEntries s (e ∷ es) rest = (t u : List ℕ) × (s ≡ t ++ u) × SpellsEntry t e × SpellsEntries u es rest
+SpellsEntries s (e ∷ es) rest = FrontAndRest (λ t. SpellsEntry t e) (λ u. SpellsEntries u es rest) s
 
 -- b is the bytes of a count, and then what is to be read
 abbrev pub SpellsCount : List ℕ → ToRead → Type 0

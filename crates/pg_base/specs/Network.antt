@@ -80,9 +80,15 @@ abbrev pub network_bytes : ℕ → Network → List ℕ
 network_bytes flag n = family_of n.address ∷ n.masklen ∷ flag ∷ address_len n.address ∷ address_octets n.address
 
 -- INET: the bytes of an address of its family's length, with a netmask that fits and any flag
-abbrev pub FormInet : List ℕ → Network → Type 0
-FormInet b n = (flag : ℕ) × (b ≡ network_bytes flag n) × (length (address_octets n.address) ≡ address_len n.address)
-    × NetmaskFits n
+pub record FormInet (b : List ℕ) (n : Network) : Type 0 where
+  -- the flag
+  pub flag : ℕ
+  -- the bytes are those of the address
+  pub is : b ≡ network_bytes flag n
+  -- it has its family's length
+  pub len : length (address_octets n.address) ≡ address_len n.address
+  -- and its netmask fits
+  pub fits : NetmaskFits n
 
 -- CIDR: the same, without host bits
 abbrev pub FormCidr : List ℕ → Network → Type 0

@@ -15,15 +15,14 @@ use std::borrow::Cow;
 /// Whether texts are read from cells of that type and written to them: VARCHAR, TEXT, BPCHAR, NAME,
 /// UNKNOWN, and any type that is named citext, ltree, lquery or ltxtquery, whatever its schema and
 /// its kind.
-#[tactic(auto, using(pg_types::proofs::DerivedTypes::eq_content))]
 pub fn is_text(ty: &PgType) -> bool
     ensures { result ≡ accepted_text (content ty.now) }
 {
-    *ty == PgType::VARCHAR
-        || *ty == PgType::TEXT
-        || *ty == PgType::BPCHAR
-        || *ty == PgType::NAME
-        || *ty == PgType::UNKNOWN
+    ty.is(&PgType::VARCHAR)
+        || ty.is(&PgType::TEXT)
+        || ty.is(&PgType::BPCHAR)
+        || ty.is(&PgType::NAME)
+        || ty.is(&PgType::UNKNOWN)
         || ty.name() == "citext"
         || has_version(ty)
 }
@@ -45,44 +44,39 @@ pub fn is_hstore(ty: &PgType) -> bool
 }
 
 /// Whether lists of bits are read from cells of that type and written to them: BIT and VARBIT.
-#[tactic(auto, using(pg_types::proofs::DerivedTypes::eq_content))]
 pub fn is_bits(ty: &PgType) -> bool
     ensures { result ≡ accepted_bits (content ty.now) }
 {
-    *ty == PgType::BIT || *ty == PgType::VARBIT
+    ty.is(&PgType::BIT) || ty.is(&PgType::VARBIT)
 }
 
 /// Whether timestamps are read from cells of that type and written to them: TIMESTAMP and
 /// TIMESTAMPTZ.
-#[tactic(auto, using(pg_types::proofs::DerivedTypes::eq_content))]
 pub fn is_timestamp(ty: &PgType) -> bool
     ensures { result ≡ accepts_timestamps (content ty.now) }
 {
-    *ty == PgType::TIMESTAMP || *ty == PgType::TIMESTAMPTZ
+    ty.is(&PgType::TIMESTAMP) || ty.is(&PgType::TIMESTAMPTZ)
 }
 
 /// Whether dates are read from cells of that type and written to them: DATE.
-#[tactic(auto, using(pg_types::proofs::DerivedTypes::eq_content))]
 pub fn is_date(ty: &PgType) -> bool
     ensures { result ≡ is_row Date (content ty.now) }
 {
-    *ty == PgType::DATE
+    ty.is(&PgType::DATE)
 }
 
 /// Whether documents are read from cells of that type and written to them: JSON and JSONB.
-#[tactic(auto, using(pg_types::proofs::DerivedTypes::eq_content))]
 pub fn is_json(ty: &PgType) -> bool
     ensures { result ≡ accepted_json (content ty.now) }
 {
-    *ty == PgType::JSON || is_jsonb(ty)
+    ty.is(&PgType::JSON) || is_jsonb(ty)
 }
 
 /// Whether a document's cell begins with a version: the type is JSONB.
-#[tactic(auto, using(pg_types::proofs::DerivedTypes::eq_content))]
 pub fn is_jsonb(ty: &PgType) -> bool
     ensures { result ≡ is_row Jsonb (content ty.now) }
 {
-    *ty == PgType::JSONB
+    ty.is(&PgType::JSONB)
 }
 
 /// The type of the elements, where that type is an array.

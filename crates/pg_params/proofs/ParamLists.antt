@@ -45,27 +45,30 @@ module _ {A B : Type 0} (f : A × B → Wire) (xs : List A) (ys : List B) (same 
     -- one more parameter was appended
     pub next_param : {u : ⊤} (old mid new : List ℕ) → Binds f (take i (zip xs ys)) old mid (Ok u)
         → AppendsFrameOrPart (f here) mid new (Ok u) → Binds f (take (i + 1) (zip xs ys)) old new (Ok u)
-    next_param old mid new (cs, bs, cells, all, was) (c, b, cell, one, is) =
-        let has : element_frame_cell (f here) ≡ Ok c = ap element_frame_cell cell ∙ ap (with_frame c) one in (
-          cs ++ c ∷ [],
-          bs ++ b,
-          next_cell f (zip xs ys) i here within stands cs c cells has,
-          next_frame cs c bs b all one,
-          is ∙ ap (λ s. s ++ b) was ∙ append_assoc old bs b,
-        )
+    next_param old mid new so_far next =
+        let has : element_frame_cell (f here) ≡ Ok next.cell = ap element_frame_cell next.cell_is
+        ∙ ap (with_frame next.cell) next.frame_is in
+        record {
+          cells = so_far.cells ++ next.cell ∷ [];
+          bytes = so_far.bytes ++ next.bytes;
+          cells_are = next_cell f (zip xs ys) i here within stands so_far.cells next.cell so_far.cells_are has;
+          frames_are = next_frame so_far.cells next.cell so_far.bytes next.bytes so_far.frames_are next.frame_is;
+          is = next.is ∙ ap (λ s. s ++ next.bytes) so_far.is ∙ append_assoc old so_far.bytes next.bytes;
+        }
 
     -- the parameter here is refused, and what was appended is taken back
     pub refused_param : {u : ⊤} (fault : Fault) (old mid low new : List ℕ)
         → Binds f (take i (zip xs ys)) old mid (Ok u) → AppendsFrameOrPart (f here) mid low (Err fault) → new
         ≡ take (length old) low
         → Binds f (zip xs ys) old new (Err (i, fault))
-    refused_param fault old mid low new (cs, bs, cells, all, was) (front, why) truncation =
+    refused_param fault old mid low new so_far (front, why) truncation =
         let rest = drop (length mid) low in
-        let is : low ≡ old ++ (bs ++ rest) = sym (take-append-drop (length mid) low)
-        ∙ ap (λ s. s ++ rest) (front ∙ was) ∙ append_assoc old bs rest in
-        let back : new ≡ old = truncation ∙ ap (take (length old)) is ∙ take-append_seam old (bs ++ rest) in (
+        let is : low ≡ old ++ (so_far.bytes ++ rest) = sym (take-append-drop (length mid) low)
+        ∙ ap (λ s. s ++ rest) (front ∙ so_far.is) ∙ append_assoc old so_far.bytes rest in
+        let back : new ≡ old =
+        truncation ∙ ap (take (length old)) is ∙ take-append_seam old (so_far.bytes ++ rest) in (
           back,
-          is_ok (element_cells f (take i (zip xs ys))) cs cells,
+          is_ok (element_cells f (take i (zip xs ys))) so_far.cells so_far.cells_are,
           (here, slice_get_read (zip xs ys) (length (zip xs ys)) i here refl within stands, why),
         )
 

@@ -9,10 +9,23 @@ use Rattle.pg_types.specs.declared.fault.Fault.{Fault}
 use Rattle.pg_types.specs.declared.fault.Fault.TheVariants.{Transmit}
 use Rattle.pg_write.specs.ArrayWriting.{element_cells, element_frame_cell}
 
+-- a frame of a cell that was written so follows the old bytes
+pub record FrameFollows (w : Wire) (old new : List ℕ) : Type 0 where
+  -- the cell
+  pub cell : Cell
+  -- the bytes of its frame
+  pub bytes : List ℕ
+  -- it is what was written
+  pub cell_is : w ≡ Ok cell
+  -- they are its frame
+  pub frame_is : frame cell ≡ Some bytes
+  -- and follow the old bytes
+  pub is : new ≡ old ++ bytes
+
 -- the frame of the cell was appended; or it is refused with this fault or has no frame, or memory ran out, and the
 -- bytes are as they were
 abbrev pub AppendsFrame : Wire → List ℕ → List ℕ → Result ⊤ Fault → Type 0
-AppendsFrame w old new (Ok done) = (c : Cell) × (b : List ℕ) × (w ≡ Ok c) × (frame c ≡ Some b) × (new ≡ old ++ b)
+AppendsFrame w old new (Ok done) = FrameFollows w old new
 AppendsFrame w old new (Err f) = (new ≡ old) × IfSome (refusal_of f) (λ r. element_frame_cell w ≡ Err r)
 
 -- the same, but after a refusal what was written of the frame follows the old bytes
@@ -27,11 +40,23 @@ FramesFrom n old new (Ok done) = (b : List ℕ) × (frame (Some (drop (n + numbe
     × (new ≡ take n old ++ b)
 FramesFrom n old new (Err f) = (new ≡ old) × (f ≡ Transmit) × (frame (Some (drop (n + number_width) old)) ≡ None)
 
+-- the frames of the parameters' cells follow the old bytes
+pub record FramesFollow {A : Type 0} (wire : A → Wire) (vs : List A) (old new : List ℕ) : Type 0 where
+  -- the cells
+  pub cells : List Cell
+  -- the bytes of their frames
+  pub bytes : List ℕ
+  -- they are the parameters' cells
+  pub cells_are : element_cells wire vs ≡ Ok cells
+  -- the bytes are their frames
+  pub frames_are : frames cells ≡ Some bytes
+  -- and follow the old bytes
+  pub is : new ≡ old ++ bytes
+
 -- the frames of the parameters' cells were appended. Or, at the place p of one of them: those before it have cells with
 -- frames, its own is refused with this fault or has no frame, or memory ran out, and the bytes are as they were
 abbrev pub Binds : {A : Type 0} → (A → Wire) → List A → List ℕ → List ℕ → Result ⊤ (ℕ × Fault) → Type 0
-Binds wire vs old new (Ok done) = (cs : List Cell) × (b : List ℕ) × (element_cells wire vs ≡ Ok cs)
-    × (frames cs ≡ Some b) × (new ≡ old ++ b)
+Binds wire vs old new (Ok done) = FramesFollow wire vs old new
 Binds {A} wire vs old new (Err (p, f)) =
     (new ≡ old) × IsOk (element_cells wire (take p vs))
     × ((v : A) × (slice_get vs p ≡ Some v) × IfSome (refusal_of f) (λ r. element_frame_cell (wire v) ≡ Err r))

@@ -23,7 +23,13 @@ pub record HaveBeenTaken (start : ToRead) (cs : List Cell) (now : ToRead) : Type
 pub spelled_more : (s u rest : List ℕ) (cs ds : List Cell) → SpellsAll s cs u → SpellsAll u ds rest
     → SpellsAll s (cs ++ ds) rest
 spelled_more s u rest [] ds e r = subst (λ x. SpellsAll x ds rest) (sym e) r
-spelled_more s u rest (c ∷ cs) ds p r = (p.0, p.1, p.2, p.3, spelled_more p.1 u rest cs ds p.4 r)
+spelled_more s u rest (c ∷ cs) ds p r = record {
+  front = p.front;
+  rest = p.rest;
+  is = p.is;
+  spells = p.spells;
+  rest_spells = spelled_more p.rest u rest cs ds p.rest_spells r;
+}
 
 -- the next cell is one more
 pub taken_next : (start now next : ToRead) (cs : List Cell) (c : Cell) (t : List ℕ) → HaveBeenTaken start cs now
@@ -31,7 +37,8 @@ pub taken_next : (start now next : ToRead) (cs : List Cell) (c : Cell) (t : List
     → HaveBeenTaken start (cs ++ c ∷ []) next
 taken_next start now next cs c t h n is p = record {
   so_many = omega (arith, h.so_many, length-append cs (c ∷ []));
-  spelled = spelled_more start.bytes now.bytes next.bytes cs (c ∷ []) h.spelled (t, next.bytes, is, p, refl);
+  spelled = spelled_more start.bytes now.bytes next.bytes cs (c ∷ []) h.spelled
+      (record { front = t; rest = next.bytes; is = is; spells = p; rest_spells = refl });
 }
 
 module _ {A : Type 0} (reads : Cell → Outcome A → Type 0) where

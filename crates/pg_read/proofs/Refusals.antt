@@ -1,11 +1,11 @@
 -- Refusals of a format with more checks.
 use Rattle.std.proofs.Common.{◌≡◌, ℕ, List, [], ◌∷◌, ◌++◌, Bool, true, false, Option, Some, None, Result, Ok, Err}
-use Rattle.std.proofs.Common.{◌==◌, drop}
+use Rattle.std.proofs.Common.{drop}
 use Rattle.std.specs.Prelude.{IfSome, IsErrAnd, slice_index}
-use Rattle.pg_types.specs.Faults.{Refusal, Answers, refusal_of, host_bits}
+use Rattle.pg_types.specs.Faults.{Refusal, Answers, refusal_of}
 use Rattle.pg_base.specs.Formats.{Decodes, first_fault_of}
-use Rattle.pg_base.specs.Network.{FormCidr, FormInet, Network, first_fault_inet, first_fault_cidr, host_part}
-use Rattle.pg_base.specs.Network.{inet_checks}
+use Rattle.pg_base.specs.Network.{FormCidr, FormInet, Network, first_fault_inet, first_fault_cidr}
+use Rattle.pg_base.specs.Network.{head_len, host_check, inet_checks}
 use Rattle.pg_types.specs.declared.fault.Fault.{Fault}
 
 -- the first check that fails is the first with more checks after it too
@@ -26,5 +26,5 @@ pub cidr_refused : (b : List ℕ) (f : Fault) (r : Result Network Fault) → IsE
     → Answers (Decodes FormInet first_fault_inet b) (Err f) → Answers (Decodes FormCidr first_fault_cidr b) r
 cidr_refused b f (Ok n) is h = absurd is
 cidr_refused b f (Err g) is h =
-    refused-more (inet_checks b) ((host_part (drop 4 b) (slice_index b 1) == 0, host_bits) ∷ []) (refusal_of g)
+    refused-more (inet_checks b) (host_check (drop head_len b) (slice_index b 1) ∷ []) (refusal_of g)
     (rw is h)

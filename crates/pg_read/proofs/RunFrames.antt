@@ -19,12 +19,12 @@ module _ {A X : Type 0} (items : X → List A) (same : A → A → Type 0) (read
     never_stops rest None h = refl
     never_stops rest (Some r) h = elim h [
       | inl z ↦
-          let refused : ReadsAll reads (z.0 ++ z.1 ∷ []) (Err r) =
-          fault_more reads z.0 (z.1 ∷ []) z.2 r z.3 (inl z.4) in
-          let all : ReadsAll reads cs (Err r) =
-          subst (λ x. ReadsAll reads x (Err r)) (sym z.5.1) (fault_stays reads (z.0 ++ z.1 ∷ []) z.5.0 r refused) in
+          let refused : ReadsAll reads (z.before ++ z.cell ∷ []) (Err r) =
+          fault_more reads z.before (z.cell ∷ []) z.values r z.reads_before (inl z.refuses) in
+          let all : ReadsAll reads cs (Err r) = subst (λ x. ReadsAll reads x (Err r)) (sym z.stands.1)
+          (fault_stays reads (z.before ++ z.cell ∷ []) z.stands.0 r refused) in
           absurd (all_single same reads single cs (Err r) (Ok vs) all values)
-      | inr z ↦ absurd (omega (arith, many, z.2))
+      | inr z ↦ absurd (omega (arith, many, z.fewer))
     ]
 
     answers_values : (s : List ℕ) (result : Result X Fault) → RunEnds items reads old n cs s result new
@@ -38,7 +38,7 @@ module _ {A X : Type 0} (items : X → List A) (same : A → A → Type 0) (read
   run_frames result run cs b s vs are is many values =
       let row : CellsInRow old n cs s = subst (λ x. CellsInRow x n cs s) (sym is)
       (subst (λ m. CellsInRow (b ++ s) m cs s) many (frames_in_row cs b s are)) in
-      let e = cells_single old n run.0 cs run.1 s run.2 row in
+      let e = cells_single old n run.cells cs run.rest s run.in_row row in
       answers_values cs vs many values s result
       (subst (λ x. RunEnds items reads old n cs x result new) e.1
-      (subst (λ x. RunEnds items reads old n x run.1 result new) e.0 run.3))
+      (subst (λ x. RunEnds items reads old n x run.rest result new) e.0 run.holds))

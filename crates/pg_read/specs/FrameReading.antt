@@ -36,8 +36,19 @@ ReadsFirst reads memory_free old [] rest result new = AnswersSize result × (new
 ReadsFirst reads memory_free old (c ∷ cs) rest result new =
     Answers (reads c) result × (memory_free c → NeverMemory result) × (new ≡ rest)
 
+-- s begins with cells, n or fewer where no further one is whole, of which and of the rest this holds
+pub record BeginsWithCells (Holds : List Cell → List ℕ → Type 0) (s : List ℕ) (n : ℕ) : Type 0 where
+  -- the cells
+  pub cells : List Cell
+  -- the bytes after them
+  pub rest : List ℕ
+  -- they are these cells in a row
+  pub in_row : CellsInRow s n cells rest
+  -- and of them this holds
+  pub holds : Holds cells rest
+
 -- the first framed cell of the slice was read
 abbrev pub ReadsFrame : {A : Type 0} → (Cell → Outcome A → Type 0) → (Cell → Type 0) → List ℕ → Result A Fault → List ℕ
     → Type 0
 ReadsFrame reads memory_free old result new =
-    (cs : List Cell) × (rest : List ℕ) × CellsInRow old 1 cs rest × ReadsFirst reads memory_free old cs rest result new
+    BeginsWithCells (λ cs rest. ReadsFirst reads memory_free old cs rest result new) old 1

@@ -1,10 +1,10 @@
 -- Reading a run of framed cells from the front of a slice: what is answered, and where the slice stands then.
 use Rattle.std.specs.Prelude.{◌≡◌, ◌⊎◌, ◌<◌, ℕ, List, [], ◌∷◌, ◌++◌, length, Option, Some, None, Result, Ok, Err}
-use Rattle.pg_base.specs.Cells.{Cell, SpellsAll, CellsInRow, frames}
+use Rattle.pg_base.specs.Cells.{Cell, SpellsAll, frames}
 use Rattle.pg_types.specs.Faults.{Refusal, Outcome, refusal_of, size}
 use Rattle.pg_base.specs.Sameness.{SameList}
 use Rattle.pg_types.specs.declared.fault.Fault.{Fault}
-use Rattle.pg_read.specs.FrameReading.{after_truncated}
+use Rattle.pg_read.specs.FrameReading.{BeginsWithCells, after_truncated}
 use Rattle.pg_read.specs.ArrayReading.{ReadsAll}
 
 -- the slice stands after the first cells of the row, which are ds
@@ -12,23 +12,50 @@ abbrev pub StandsAfter : List ℕ → List Cell → List Cell → List ℕ → T
 StandsAfter old cs ds new = (es : List Cell) × (cs ≡ ds ++ es) × SpellsAll old ds new
 
 -- the first cell that is refused is so with r, and the slice stands after it
-abbrev pub StopsRefused : {A : Type 0} → (Cell → Outcome A → Type 0) → List ℕ → List Cell → Refusal → List ℕ → Type 0
-StopsRefused {A} reads old cs r new =
-    (ds : List Cell) × (c : Cell) × (vs : List A) × ReadsAll reads ds (Ok vs) × reads c (Err r)
-    × StandsAfter old cs (ds ++ c ∷ []) new
+pub record StopsRefused {A : Type 0} (reads : Cell → Outcome A → Type 0) (old : List ℕ) (cs : List Cell) (r : Refusal)
+    (new : List ℕ) : Type 0 where
+  -- the cells before it
+  pub before : List Cell
+  -- the cell
+  pub cell : Cell
+  -- the values of those before it
+  pub values : List A
+  -- they are read as these
+  pub reads_before : ReadsAll reads before (Ok values)
+  -- the cell is refused
+  pub refuses : reads cell (Err r)
+  -- the slice stands after it
+  pub stands : StandsAfter old cs (before ++ cell ∷ []) new
 
 -- every cell that is there gives a value, and they are fewer than n: it is Size, and the slice stands where the
 -- truncated cell after them leaves it
-abbrev pub StopsTruncated : {A : Type 0} → (Cell → Outcome A → Type 0) → ℕ → List Cell → List ℕ → Refusal → List ℕ
-    → Type 0
-StopsTruncated {A} reads n cs rest r new = (vs : List A) × ReadsAll reads cs (Ok vs) × (length cs < n) × (r ≡ size)
-    × (new ≡ after_truncated rest)
+pub record StopsTruncated {A : Type 0} (reads : Cell → Outcome A → Type 0) (n : ℕ) (cs : List Cell) (rest : List ℕ)
+    (r : Refusal) (new : List ℕ) : Type 0 where
+  -- the values
+  pub values : List A
+  -- the cells are read as these
+  pub reads_all : ReadsAll reads cs (Ok values)
+  -- they are fewer than n
+  pub fewer : length cs < n
+  -- it is Size
+  pub refusal_is : r ≡ size
+  -- the slice stands where the truncated cell leaves it
+  pub stands : new ≡ after_truncated rest
 
 -- memory runs out: the slice stands after first cells that each give a value and one more, whose value was not read or
 -- not kept
-abbrev pub StopsOutOfMemory : {A : Type 0} → (Cell → Outcome A → Type 0) → List ℕ → List Cell → List ℕ → Type 0
-StopsOutOfMemory {A} reads old cs new =
-    (ds : List Cell) × (c : Cell) × (vs : List A) × ReadsAll reads ds (Ok vs) × StandsAfter old cs (ds ++ c ∷ []) new
+pub record StopsOutOfMemory {A : Type 0} (reads : Cell → Outcome A → Type 0) (old : List ℕ) (cs : List Cell)
+    (new : List ℕ) : Type 0 where
+  -- the first cells
+  pub before : List Cell
+  -- the one more
+  pub cell : Cell
+  -- the values of the first
+  pub values : List A
+  -- they are read as these
+  pub reads_before : ReadsAll reads before (Ok values)
+  -- the slice stands after the one more
+  pub stands : StandsAfter old cs (before ++ cell ∷ []) new
 
 -- with which fault n cells are not read, and where the slice stands
 abbrev pub RunStops : {A : Type 0} → (Cell → Outcome A → Type 0) → List ℕ → ℕ → List Cell → List ℕ → Option Refusal
@@ -46,7 +73,7 @@ RunEnds items reads old n cs rest (Err f) new = RunStops reads old n cs rest (re
 abbrev pub ReadsRun : {A X : Type 0} → (X → List A) → (Cell → Outcome A → Type 0) → List ℕ → ℕ → Result X Fault
     → List ℕ → Type 0
 ReadsRun items reads old n result new =
-    (cs : List Cell) × (rest : List ℕ) × CellsInRow old n cs rest × RunEnds items reads old n cs rest result new
+    BeginsWithCells (λ cs rest. RunEnds items reads old n cs rest result new) old n
 
 -- these values were answered, with s left, unless memory ran out
 abbrev pub AnswersValues : {A X : Type 0} → (X → List A) → (A → A → Type 0) → List A → List ℕ → Result X Fault → List ℕ

@@ -37,11 +37,10 @@ impl<'a> FromSql<'a> for &'a [u8] {
         Err(Fault::WasNull)
     }
 
-    #[tactic(auto, using(pg_types::proofs::DerivedTypes::eq_content))]
     fn accepts(ty: &PgType) -> bool
         ensures { result ≡ is_row Bytea (content ty.now) }
     {
-        *ty == PgType::BYTEA
+        ty.is(&PgType::BYTEA)
     }
 }
 
@@ -68,8 +67,7 @@ impl<'a> FromSql<'a> for Vec<u8> {
         Err(Fault::WasNull)
     }
 
-    #[tactic(auto, using(pg_types::proofs::DerivedTypes::eq_content))]
     fn accepts(ty: &PgType) -> bool {
-        *ty == PgType::BYTEA
+        ty.is(&PgType::BYTEA)
     }
 }

@@ -103,9 +103,8 @@ impl<'a> FromSql<'a> for Date {
         Err(Fault::WasNull)
     }
 
-    #[tactic(auto, using(pg_types::proofs::DerivedTypes::eq_content))]
     fn accepts(ty: &PgType) -> bool {
-        *ty == PgType::DATE
+        ty.is(&PgType::DATE)
     }
 }
 
@@ -135,9 +134,8 @@ impl<'a> FromSql<'a> for Time {
         Err(Fault::WasNull)
     }
 
-    #[tactic(auto, using(pg_types::proofs::DerivedTypes::eq_content))]
     fn accepts(ty: &PgType) -> bool {
-        *ty == PgType::TIME
+        ty.is(&PgType::TIME)
     }
 }
 
@@ -169,9 +167,8 @@ impl<'a> FromSql<'a> for DateTime {
         Err(Fault::WasNull)
     }
 
-    #[tactic(auto, using(pg_types::proofs::DerivedTypes::eq_content))]
     fn accepts(ty: &PgType) -> bool {
-        *ty == PgType::TIMESTAMP
+        ty.is(&PgType::TIMESTAMP)
     }
 }
 
@@ -203,8 +200,7 @@ impl<'a> FromSql<'a> for Timestamp {
         Err(Fault::WasNull)
     }
 
-    #[tactic(auto, using(pg_types::proofs::DerivedTypes::eq_content))]
     fn accepts(ty: &PgType) -> bool {
-        *ty == PgType::TIMESTAMPTZ
+        ty.is(&PgType::TIMESTAMPTZ)
     }
 }

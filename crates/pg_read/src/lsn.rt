@@ -39,8 +39,7 @@ impl<'a> FromSql<'a> for PgLsn {
         Err(Fault::WasNull)
     }
 
-    #[tactic(auto, using(pg_types::proofs::DerivedTypes::eq_content))]
     fn accepts(ty: &PgType) -> bool {
-        *ty == PgType::PG_LSN
+        ty.is(&PgType::PG_LSN)
     }
 }

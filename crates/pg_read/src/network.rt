@@ -46,9 +46,8 @@ impl<'a> FromSql<'a> for IpAddr {
         Err(Fault::WasNull)
     }
 
-    #[tactic(auto, using(pg_types::proofs::DerivedTypes::eq_content))]
     fn accepts(ty: &PgType) -> bool {
-        *ty == PgType::INET
+        ty.is(&PgType::INET)
     }
 }
 
@@ -75,9 +74,8 @@ impl<'a> FromSql<'a> for IpInet {
         Err(Fault::WasNull)
     }
 
-    #[tactic(auto, using(pg_types::proofs::DerivedTypes::eq_content))]
     fn accepts(ty: &PgType) -> bool {
-        *ty == PgType::INET
+        ty.is(&PgType::INET)
     }
 }
 
@@ -105,9 +103,8 @@ impl<'a> FromSql<'a> for IpCidr {
         Err(Fault::WasNull)
     }
 
-    #[tactic(auto, using(pg_types::proofs::DerivedTypes::eq_content))]
     fn accepts(ty: &PgType) -> bool {
-        *ty == PgType::CIDR
+        ty.is(&PgType::CIDR)
     }
 }
 
@@ -135,8 +132,7 @@ impl<'a> FromSql<'a> for MacAddress {
         Err(Fault::WasNull)
     }
 
-    #[tactic(auto, using(pg_types::proofs::DerivedTypes::eq_content))]
     fn accepts(ty: &PgType) -> bool {
-        *ty == PgType::MACADDR
+        ty.is(&PgType::MACADDR)
     }
 }

@@ -42,9 +42,8 @@ impl<'a> FromSql<'a> for bool {
         Err(Fault::WasNull)
     }
 
-    #[tactic(auto, using(pg_types::proofs::DerivedTypes::eq_content))]
     fn accepts(ty: &PgType) -> bool {
-        *ty == PgType::BOOL
+        ty.is(&PgType::BOOL)
     }
 }
 
@@ -71,9 +70,8 @@ impl<'a> FromSql<'a> for i8 {
         Err(Fault::WasNull)
     }
 
-    #[tactic(auto, using(pg_types::proofs::DerivedTypes::eq_content))]
     fn accepts(ty: &PgType) -> bool {
-        *ty == PgType::CHAR
+        ty.is(&PgType::CHAR)
     }
 }
 
@@ -100,9 +98,8 @@ impl<'a> FromSql<'a> for i16 {
         Err(Fault::WasNull)
     }
 
-    #[tactic(auto, using(pg_types::proofs::DerivedTypes::eq_content))]
     fn accepts(ty: &PgType) -> bool {
-        *ty == PgType::INT2
+        ty.is(&PgType::INT2)
     }
 }
 
@@ -129,9 +126,8 @@ impl<'a> FromSql<'a> for i32 {
         Err(Fault::WasNull)
     }
 
-    #[tactic(auto, using(pg_types::proofs::DerivedTypes::eq_content))]
     fn accepts(ty: &PgType) -> bool {
-        *ty == PgType::INT4
+        ty.is(&PgType::INT4)
     }
 }
 
@@ -158,9 +154,8 @@ impl<'a> FromSql<'a> for i64 {
         Err(Fault::WasNull)
     }
 
-    #[tactic(auto, using(pg_types::proofs::DerivedTypes::eq_content))]
     fn accepts(ty: &PgType) -> bool {
-        *ty == PgType::INT8
+        ty.is(&PgType::INT8)
     }
 }
 
@@ -187,8 +182,7 @@ impl<'a> FromSql<'a> for u32 {
         Err(Fault::WasNull)
     }
 
-    #[tactic(auto, using(pg_types::proofs::DerivedTypes::eq_content))]
     fn accepts(ty: &PgType) -> bool {
-        *ty == PgType::OID
+        ty.is(&PgType::OID)
     }
 }

@@ -40,8 +40,7 @@ impl<'a> FromSql<'a> for Uuid {
         Err(Fault::WasNull)
     }
 
-    #[tactic(auto, using(pg_types::proofs::DerivedTypes::eq_content))]
     fn accepts(ty: &PgType) -> bool {
-        *ty == PgType::UUID
+        ty.is(&PgType::UUID)
     }
 }

@@ -31,11 +31,10 @@ impl<'b> ToSql for &'b [u8] {
         Ok(IsNull::No)
     }
 
-    #[tactic(auto, using(pg_types::proofs::DerivedTypes::eq_content))]
     fn accepts(ty: &PgType) -> bool
         ensures { result ≡ is_row Bytea (content ty.now) }
     {
-        *ty == PgType::BYTEA
+        ty.is(&PgType::BYTEA)
     }
 
     fn to_sql_checked(
@@ -73,9 +72,8 @@ impl ToSql for Vec<u8> {
         Ok(IsNull::No)
     }
 
-    #[tactic(auto, using(pg_types::proofs::DerivedTypes::eq_content))]
     fn accepts(ty: &PgType) -> bool {
-        *ty == PgType::BYTEA
+        ty.is(&PgType::BYTEA)
     }
 
     fn to_sql_checked(
@@ -113,9 +111,8 @@ impl<const N: usize> ToSql for [u8; N] {
         Ok(IsNull::No)
     }
 
-    #[tactic(auto, using(pg_types::proofs::DerivedTypes::eq_content))]
     fn accepts(ty: &PgType) -> bool {
-        *ty == PgType::BYTEA
+        ty.is(&PgType::BYTEA)
     }
 
     fn to_sql_checked(
@@ -153,11 +150,10 @@ impl<'b> ToSql for CowSlice<'b, u8> {
         Ok(IsNull::No)
     }
 
-    #[tactic(auto, using(pg_types::proofs::DerivedTypes::eq_content))]
     fn accepts(ty: &PgType) -> bool
         ensures { result ≡ is_row Bytea (content ty.now) }
     {
-        *ty == PgType::BYTEA
+        ty.is(&PgType::BYTEA)
     }
 
     fn to_sql_checked(

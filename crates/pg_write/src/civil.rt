@@ -67,9 +67,8 @@ impl ToSql for Date {
         Ok(IsNull::No)
     }
 
-    #[tactic(auto, using(pg_types::proofs::DerivedTypes::eq_content))]
     fn accepts(ty: &PgType) -> bool {
-        *ty == PgType::DATE
+        ty.is(&PgType::DATE)
     }
 
     fn to_sql_checked(
@@ -108,9 +107,8 @@ impl ToSql for Time {
         Ok(IsNull::No)
     }
 
-    #[tactic(auto, using(pg_types::proofs::DerivedTypes::eq_content))]
     fn accepts(ty: &PgType) -> bool {
-        *ty == PgType::TIME
+        ty.is(&PgType::TIME)
     }
 
     fn to_sql_checked(
@@ -150,9 +148,8 @@ impl ToSql for DateTime {
         Ok(IsNull::No)
     }
 
-    #[tactic(auto, using(pg_types::proofs::DerivedTypes::eq_content))]
     fn accepts(ty: &PgType) -> bool {
-        *ty == PgType::TIMESTAMP
+        ty.is(&PgType::TIMESTAMP)
     }
 
     fn to_sql_checked(
@@ -192,9 +189,8 @@ impl ToSql for Timestamp {
         Ok(IsNull::No)
     }
 
-    #[tactic(auto, using(pg_types::proofs::DerivedTypes::eq_content))]
     fn accepts(ty: &PgType) -> bool {
-        *ty == PgType::TIMESTAMPTZ
+        ty.is(&PgType::TIMESTAMPTZ)
     }
 
     fn to_sql_checked(

@@ -31,9 +31,8 @@ impl ToSql for PgLsn {
         Ok(IsNull::No)
     }
 
-    #[tactic(auto, using(pg_types::proofs::DerivedTypes::eq_content))]
     fn accepts(ty: &PgType) -> bool {
-        *ty == PgType::PG_LSN
+        ty.is(&PgType::PG_LSN)
     }
 
     fn to_sql_checked(

@@ -33,9 +33,8 @@ impl ToSql for IpAddr {
         Ok(IsNull::No)
     }
 
-    #[tactic(auto, using(pg_types::proofs::DerivedTypes::eq_content))]
     fn accepts(ty: &PgType) -> bool {
-        *ty == PgType::INET
+        ty.is(&PgType::INET)
     }
 
     fn to_sql_checked(
@@ -73,9 +72,8 @@ impl ToSql for IpInet {
         Ok(IsNull::No)
     }
 
-    #[tactic(auto, using(pg_types::proofs::DerivedTypes::eq_content))]
     fn accepts(ty: &PgType) -> bool {
-        *ty == PgType::INET
+        ty.is(&PgType::INET)
     }
 
     fn to_sql_checked(
@@ -113,9 +111,8 @@ impl ToSql for IpCidr {
         Ok(IsNull::No)
     }
 
-    #[tactic(auto, using(pg_types::proofs::DerivedTypes::eq_content))]
     fn accepts(ty: &PgType) -> bool {
-        *ty == PgType::CIDR
+        ty.is(&PgType::CIDR)
     }
 
     fn to_sql_checked(
@@ -153,9 +150,8 @@ impl ToSql for MacAddress {
         Ok(IsNull::No)
     }
 
-    #[tactic(auto, using(pg_types::proofs::DerivedTypes::eq_content))]
     fn accepts(ty: &PgType) -> bool {
-        *ty == PgType::MACADDR
+        ty.is(&PgType::MACADDR)
     }
 
     fn to_sql_checked(

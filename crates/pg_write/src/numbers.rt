@@ -32,9 +32,8 @@ impl ToSql for bool {
         Ok(IsNull::No)
     }
 
-    #[tactic(auto, using(pg_types::proofs::DerivedTypes::eq_content))]
     fn accepts(ty: &PgType) -> bool {
-        *ty == PgType::BOOL
+        ty.is(&PgType::BOOL)
     }
 
     fn to_sql_checked(
@@ -72,9 +71,8 @@ impl ToSql for i8 {
         Ok(IsNull::No)
     }
 
-    #[tactic(auto, using(pg_types::proofs::DerivedTypes::eq_content))]
     fn accepts(ty: &PgType) -> bool {
-        *ty == PgType::CHAR
+        ty.is(&PgType::CHAR)
     }
 
     fn to_sql_checked(
@@ -112,9 +110,8 @@ impl ToSql for i16 {
         Ok(IsNull::No)
     }
 
-    #[tactic(auto, using(pg_types::proofs::DerivedTypes::eq_content))]
     fn accepts(ty: &PgType) -> bool {
-        *ty == PgType::INT2
+        ty.is(&PgType::INT2)
     }
 
     fn to_sql_checked(
@@ -152,9 +149,8 @@ impl ToSql for i32 {
         Ok(IsNull::No)
     }
 
-    #[tactic(auto, using(pg_types::proofs::DerivedTypes::eq_content))]
     fn accepts(ty: &PgType) -> bool {
-        *ty == PgType::INT4
+        ty.is(&PgType::INT4)
     }
 
     fn to_sql_checked(
@@ -192,9 +188,8 @@ impl ToSql for i64 {
         Ok(IsNull::No)
     }
 
-    #[tactic(auto, using(pg_types::proofs::DerivedTypes::eq_content))]
     fn accepts(ty: &PgType) -> bool {
-        *ty == PgType::INT8
+        ty.is(&PgType::INT8)
     }
 
     fn to_sql_checked(
@@ -232,9 +227,8 @@ impl ToSql for u32 {
         Ok(IsNull::No)
     }
 
-    #[tactic(auto, using(pg_types::proofs::DerivedTypes::eq_content))]
     fn accepts(ty: &PgType) -> bool {
-        *ty == PgType::OID
+        ty.is(&PgType::OID)
     }
 
     fn to_sql_checked(

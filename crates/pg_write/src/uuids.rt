@@ -30,9 +30,8 @@ impl ToSql for Uuid {
         Ok(IsNull::No)
     }
 
-    #[tactic(auto, using(pg_types::proofs::DerivedTypes::eq_content))]
     fn accepts(ty: &PgType) -> bool {
-        *ty == PgType::UUID
+        ty.is(&PgType::UUID)
     }
 
     fn to_sql_checked(

@@ -8,21 +8,20 @@ use Rattle.pgcell.specs.Run.{Answered, GainsAnswers, WritesAnswers, WritesPart}
 
 pub answered-append : (a b : List (List ℕ)) (x y : List ℕ) → Answered a x → Answered b y → Answered (a ++ b) (x ++ y)
 answered-append [] b x y p q = subst (Answered b) (sym (ap (λ (l : List ℕ). l ++ y) p)) q
-answered-append (line ∷ a) b x y p q = (
-  p.0,
-  p.1 ++ y,
-  p.2,
-  ap (λ (l : List ℕ). l ++ y) p.3
-      ∙ append_assoc p.0 (10 ∷ p.1) y,
-  answered-append a b p.1 y p.4 q,
-)
+answered-append (line ∷ a) b x y p q = record {
+  answer = p.answer;
+  rest = p.rest ++ y;
+  answers = p.answers;
+  is = ap (λ (l : List ℕ). l ++ y) p.is ∙ append_assoc p.answer (10 ∷ p.rest) y;
+  rest_answers = answered-append a b p.rest y p.rest_answers q;
+}
 
 -- an answer and byte 10 were put after what was there
 pub gains_one : (line answer old mid new : List ℕ) → Answer line answer → mid ≡ old ++ answer → new ≡ mid ++ 10 ∷ []
     → GainsAnswers (line ∷ []) old new
 gains_one line answer old mid new p e f = (
   answer ++ 10 ∷ [],
-  (answer, [], p, refl, refl),
+  record { answer = answer; rest = []; answers = p; is = refl; rest_answers = refl },
   f ∙ ap (λ (l : List ℕ). l ++ 10 ∷ []) e
       ∙ append_assoc old answer (10 ∷ []),
 )
@@ -50,9 +49,10 @@ writes_more a b o n m p q = (p.0 ++ q.0, answered-append a b p.0 q.0 p.1 q.1, Ap
 -- a beginning after whole answers
 pub writes_part : (a b : List (List ℕ)) (o n m : Option (List ℕ)) → WritesAnswers a o n → WritesPart b n m
     → WritesPart (a ++ b) o m
-writes_part a b o n m p q = (
-  p.0 ++ q.0,
-  length p.0 + q.1,
-  answered-append a b p.0 q.0 p.1 q.2,
-  subst (Appends o m) (sym (take-append-add p.0 q.0 q.1)) (Appends-trans o n m _ _ p.2 q.3),
-)
+writes_part a b o n m p q = record {
+  text = p.0 ++ q.text;
+  written = length p.0 + q.written;
+  answers = answered-append a b p.0 q.text p.1 q.answers;
+  appends =
+      subst (Appends o m) (sym (take-append-add p.0 q.text q.written)) (Appends-trans o n m _ _ p.2 q.appends);
+}

@@ -100,7 +100,8 @@ under_way-partial (Some x) (Some y) None o n m line block old new j u k t none w
 under_way-partial (Some x) (Some y) (Some z) o n m line block old new j u k t none w =
     answers_part x (u.0 ++ t.0) (t.1 z).0 o m
     (lines_begun x line y block z u.0 t.0 _ (whole x (line ++ y) u.0 u.1) k (t.1 z).1)
-    (writes_part u.0 t.0 o n m u.2 (new, j, gained t.0 old new t.2 none, w))
+    (writes_part u.0 t.0 o n m u.2
+    (record { text = new; written = j; answers = gained t.0 old new t.2 none; appends = w }))
 
 -- either way, some lines were taken
 pub takes_either : {A E : Type 0} (r : Result A E) (xs next old new : List ℕ) → OnOk r (TakesLines xs next old new)

@@ -4,11 +4,23 @@ use Rattle.std.specs.Io.KnownBytes.{Appends}
 use Rattle.pgcell.specs.Answer.{Answer}
 use Rattle.pgcell.specs.Lines.{lines_of, IsOneLine}
 
+-- the text is an answer to the line, byte 10, and then the rest, which is as it says
+pub record AnswerAndRest (line : List ℕ) (Rest : List ℕ → Type 0) (text : List ℕ) : Type 0 where
+  -- the answer
+  pub answer : List ℕ
+  -- what comes after it and byte 10
+  pub rest : List ℕ
+  -- it answers the line
+  pub answers : Answer line answer
+  -- they follow one another
+  pub is : text ≡ answer ++ 10 ∷ rest
+  -- and the rest is so
+  pub rest_answers : Rest rest
+
 -- the text is an answer to each of these lines, in their order, each with byte 10 after it, and nothing else
 abbrev pub Answered : List (List ℕ) → List ℕ → Type 0
 Answered [] text = text ≡ []
-Answered (line ∷ lines) text =
-    (answer rest : List ℕ) × Answer line answer × (text ≡ answer ++ 10 ∷ rest) × Answered lines rest
+Answered (line ∷ lines) text = AnswerAndRest line (λ rest. Answered lines rest) text
 
 -- an answer to each of these lines was put after what was there
 abbrev pub GainsAnswers : List (List ℕ) → List ℕ → List ℕ → Type 0
@@ -19,8 +31,15 @@ abbrev pub WritesAnswers : List (List ℕ) → Option (List ℕ) → Option (Lis
 WritesAnswers lines old new = (text : List ℕ) × Answered lines text × Appends old new text
 
 -- a beginning of such a text was written
-abbrev pub WritesPart : List (List ℕ) → Option (List ℕ) → Option (List ℕ) → Type 0
-WritesPart lines old new = (text : List ℕ) × (j : ℕ) × Answered lines text × Appends old new (take j text)
+pub record WritesPart (lines : List (List ℕ)) (old new : Option (List ℕ)) : Type 0 where
+  -- the text
+  pub text : List ℕ
+  -- how many of its bytes were written
+  pub written : ℕ
+  -- it answers the lines
+  pub answers : Answered lines text
+  -- and so many of its bytes were put after what was there
+  pub appends : Appends old new (take written text)
 
 -- each line of the input is answered, and nothing else is written
 abbrev pub AnswersAll : Option (List ℕ) → Option (List ℕ) → Option (List ℕ) → Type 0

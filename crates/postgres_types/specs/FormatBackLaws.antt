@@ -96,7 +96,7 @@ bytes_lawful bytes_of = plain_lawful bytes_of (FormBytes (λ s. s)) first_fault_
 is_spelt : (n : Network) → is_network n ≡ true → FormInet (network_bytes 0 n) n
 is_spelt n h =
     let k = and_parts _ _ h in
-    (0, refl, eqb-true _ _ k.0, leb-true _ _ k.1)
+    record { flag = 0; is = refl; len = eqb-true _ _ k.0; fits = leb-true _ _ k.1 }
 
 inet_written : (n : Network) → WrittenAsBytes ReadsInet n (wire_inet n)
 inet_written n = written_if ReadsInet n (is_network n) _ _ (is_spelt n)

@@ -95,21 +95,20 @@ entries_spelled : (es : List Entry) (s : List ℕ) → AreTexts es → entries_b
 entries_spelled [] s h e = cc
 entries_spelled (x ∷ xs) s h e =
     let p = parts_of (concat (frame (Some x.0)) (frame x.1)) (entries_bytes xs) s e in
-    let entry = p.0 in
-    let others = p.1 in
-    let others_are = p.3 in
-    let all = p.4 in
-    let q = parts_of (frame (Some x.0)) (frame x.1) entry p.2 in
-    let key = q.0 in
-    let value = q.1 in
-    let value_is = q.3 in
-    let both = q.4 in (
-      entry,
-      others,
-      all,
-      (key, value, both, (frame_spells (Some x.0) key q.2, h.0.0), (frame_spells x.1 value value_is, h.0.1)),
-      entries_spelled xs others h.1 others_are,
-    )
+    let q = parts_of (frame (Some x.0)) (frame x.1) p.first p.first_is in
+    record {
+      front = p.first;
+      rest = p.second;
+      is = p.whole;
+      spells = record {
+        front = q.first;
+        rest = q.second;
+        is = q.whole;
+        spells = (frame_spells (Some x.0) q.first q.first_is, h.0.0);
+        rest_spells = (frame_spells x.1 q.second q.second_is, h.0.1);
+      };
+      rest_spells = entries_spelled xs p.second h.1 p.second_is;
+    }
 
 -- and a count prefix and them, and what has their values, the whole
 spelled : {A : Type 0} (value_at : A → List ℕ → Option Cell) (m : A) (es : List Entry) (b : List ℕ) → AreTexts es
@@ -117,15 +116,11 @@ spelled : {A : Type 0} (value_at : A → List ℕ → Option Cell) (m : A) (es :
     → hstore_bytes es ≡ Some b → FormHstore value_at b m
 spelled value_at m es b h has e =
     let p = parts_of (count_bytes (length es)) (entries_bytes es) b e in
-    let prefix = p.0 in
-    let remaining = p.1 in
-    let spelt = p.3 in
-    let all = p.4 in
     record {
       entries = es;
-      remaining = remaining;
-      counts = (prefix, all, count_is (length es) prefix p.2);
-      spells = entries_spelled es remaining h spelt;
+      remaining = p.second;
+      counts = (p.first, p.whole, count_is (length es) p.first p.first_is);
+      spells = entries_spelled es p.second h p.second_is;
       values = has;
     }
 

@@ -34,10 +34,7 @@ again_by : {A : Type 0} (w : Width) (low high : ℤ) (names : ℤ → A → Type
     → ((v : A) → IsWrittenCount w low high (count_of v) (wire v)) → ((z : ℤ) (v : A) → names z v → count_of v ≡ z)
     → (b : List ℕ) (v : A) → ReadsCount w low high names (Some b) (Ok v) → wire v ≡ Ok (Some b)
 again_by w low high names count_of wire written one b v h =
-    let count = h.0 in
-    let spells = h.1 in
-    let named = h.3 in
-    (written v).0 ∙ ap (λ z. Ok (Some (be w z))) (one count v named) ∙ ap (λ c. Ok (Some c)) (sym spells.1)
+    (written v).0 ∙ ap (λ z. Ok (Some (be w z))) (one h.count v h.named) ∙ ap (λ c. Ok (Some c)) (sym h.is.1)
 
 no_fault_by : (o : Option Refusal) → ((r : Refusal) → o ≡ Some r → ⊥) → o ≡ None
 no_fault_by None h = refl
@@ -59,7 +56,7 @@ module _ {A : Type 0} (w : Width) (low high : ℤ) (names : ℤ → A → Type 0
       let is = written v in
       subst (WrittenAsKept (FormCount w low high names) (first_fault_count w low high) kept v) (sym is.0) (
         no_fault_by (first_fault_count w low high b) (λ r e. back v b is.0 (Err r) e),
-        λ u k. (count_of v, (is.1, refl), is.2, named v u k),
+        λ u k. record { count = count_of v; is = (is.1, refl); within = is.2; named = named v u k },
         λ u h. back v b is.0 (Ok u) h,
       )
 

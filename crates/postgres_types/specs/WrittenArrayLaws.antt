@@ -46,15 +46,13 @@ pub array_body : (lower_bound : ℤ) (oid : ℕ) (cs : List Cell) (b : List ℕ)
     → ArrayBody b (length cs) cs []
 array_body lower_bound oid cs b e =
     let p = parts_of (array_head lower_bound oid cs) (frames cs) b e in
-    let elements = p.1 in
-    let elements_are = p.3 in
-    let all = p.4 in
+    let elements = p.second in
     let one : List ℕ = be w32 (pos 1) in
     let skipped : List ℕ = be w32 (flags_of cs) ++ to_be_bytes w32 oid in
     let first : List ℕ = be w32 lower_bound in
     let h = mapped (λ n. one ++ (be w32 (flags_of cs) ++ (to_be_bytes w32 oid ++ (n ++ first))))
-    (count_bytes (length cs)) p.0 p.2 in
-    let is : b ≡ one ++ (skipped ++ (h.0 ++ (first ++ elements))) = all ∙ ap (λ x. x ++ elements) h.2
+    (count_bytes (length cs)) p.first p.first_is in
+    let is : b ≡ one ++ (skipped ++ (h.0 ++ (first ++ elements))) = p.whole ∙ ap (λ x. x ++ elements) h.2
     ∙ ap (λ x. one ++ (skipped ++ x)) (append_assoc h.0 first elements) in
     let dimension : IsCount one 1 = (record { sfits = omega arith }, refl) in (
       elements,
@@ -66,9 +64,15 @@ array_body lower_bound oid cs b e =
         is = is;
         counts = dimension;
         width = refl;
-        spells = (h.0, first, refl, count_is (length cs) h.0 h.1, refl);
+        spells = record {
+          length_bytes = h.0;
+          lower_bound_bytes = first;
+          is = refl;
+          counts = count_is (length cs) h.0 h.1;
+          width = refl;
+        };
       },
-      (frames_alone cs elements elements_are, omega arith, inl refl),
+      (frames_alone cs elements p.second_is, omega arith, inl refl),
     )
 
 wire_of_bytes : (o : Option (List ℕ)) (c : Cell) → wire_of o ≡ Ok c → (b : List ℕ) × (o ≡ Some b) × (c ≡ Some b)

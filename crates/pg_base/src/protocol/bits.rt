@@ -1,7 +1,8 @@
 //! Lists of bits. They lie packed, the first on top of the first byte.
-ghost use Rattle.std.specs.Prelude.{◌≡◌, ◌≤◌, ◌+◌, ◌++◌, IfOk, drop, length};
+ghost use Rattle.std.specs.Prelude.{◌≡◌, ◌≤◌, ◌+◌, ◌++◌, IfOk, length};
 ghost use Rattle.pg_base.specs.Bits.{FormBits, bits_cell, bytes_for, first_bits, first_fault_bits, packed};
 ghost use Rattle.pg_base.specs.Bits.{pad_of, without_low};
+ghost use Rattle.pg_base.specs.Counts.{after_number};
 ghost use Rattle.pg_types.specs.Faults.{Answers, NeverMemory};
 ghost use Rattle.pg_base.specs.Formats.{Decodes};
 ghost use Rattle.pg_base.specs.Appending.{Appends};
@@ -44,7 +45,7 @@ impl<'a> Varbit<'a> {
 /// is ignored.
 pub fn varbit_from_sql(raw: &[u8]) -> Result<Varbit<'_>, Fault>
     ensures outcome { Answers (Decodes (FormBits (λ v. first_bits v.len v.bytes.now)) first_fault_bits raw.now) result }
-    ensures in_place { IfOk result (λ v. v.bytes.now ≡ drop 4 raw.now) }
+    ensures in_place { IfOk result (λ v. v.bytes.now ≡ after_number raw.now) }
     ensures never_memory { NeverMemory result }
 {
     let (len, bytes) = split_count(raw)?;

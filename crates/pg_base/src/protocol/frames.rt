@@ -1,6 +1,7 @@
 //! Frames.
-ghost use Rattle.std.specs.Prelude.{◌≤◌, IfOk};
-ghost use Rattle.pg_base.specs.Cells.{cell_of, frame};
+ghost use Rattle.std.specs.Prelude.{◌≤◌, ◌+◌, IfOk};
+ghost use Rattle.pg_base.specs.Cells.{cell_of, frame, max_length};
+ghost use Rattle.pg_base.specs.Counts.{number_width};
 ghost use Rattle.pg_base.specs.Appending.{Appends, Extends, HasRoomFor, Measures};
 
 use crate::fault::Fault;
@@ -23,7 +24,7 @@ pub fn frame_to_sql(_alloc: Global, cell: Option<&[u8]>, out: &mut BytesMut) -> 
 /// How many bytes the frame of the cell takes.
 pub(super) fn frame_len(cell: Option<&[u8]>) -> Result<usize, Fault>
     ensures len { Measures (frame (cell_of cell.entry)) result }
-    ensures short { IfOk result (λ n. n ≤ 2147483651) }
+    ensures short { IfOk result (λ n. n ≤ number_width + max_length) }
 {
     let Some(bytes) = cell else {
         return Ok(4);

@@ -1,8 +1,8 @@
 //! Maps of texts.
-ghost use Rattle.std.specs.Prelude.{◌≤◌, map, IfOk};
+ghost use Rattle.std.specs.Prelude.{◌≤◌, ◌+◌, map, IfOk};
 ghost use Rattle.pg_base.specs.Appending.{Appends, Measures};
-ghost use Rattle.pg_base.specs.Cells.{cell_of, frame};
-ghost use Rattle.pg_base.specs.Counts.{StartsWith, ToRead, count_checks};
+ghost use Rattle.pg_base.specs.Cells.{cell_of, frame, max_length};
+ghost use Rattle.pg_base.specs.Counts.{StartsWith, ToRead, count_checks, number_width};
 ghost use Rattle.pg_types.specs.Faults.{Answers, NeverMemory};
 ghost use Rattle.pg_base.specs.Formats.{Decodes, first_fault_of};
 ghost use Rattle.pg_base.specs.Hstore.{SpellsCount, SpellsEntry, SpellsText, TakesEntry, entry_checks};
@@ -142,7 +142,7 @@ fn hstore_len(entries: &[(&str, Option<&str>)]) -> Result<usize, Fault>
 /// How many bytes the frame of the text takes.
 fn text_frame_len(text: Option<&str>) -> Result<usize, Fault>
     ensures len { Measures (frame (cell_of text.entry)) result }
-    ensures short { IfOk result (λ n. n ≤ 2147483651) }
+    ensures short { IfOk result (λ n. n ≤ number_width + max_length) }
 {
     frame_len(text.map(|text| text.as_bytes()))
 }

@@ -6,7 +6,13 @@ use Rattle.pg_write.specs.Writing.{checked}
 use Rattle.pg_params.proofs.params_to_sql.Goals as goal
 
 pub loop-place-init : goal.loop-place-init
-loop-place-init g c = ([], [], refl, refl, sym (append-nil c.args.out.now.items))
+loop-place-init g c = record {
+  cells = [];
+  bytes = [];
+  cells_are = refl;
+  frames_are = refl;
+  is = sym (append-nil c.args.out.now.items);
+}
 
 pub loop-place-preserved : goal.loop-place-preserved
 loop-place-preserved g c =

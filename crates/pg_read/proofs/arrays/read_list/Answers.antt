@@ -25,8 +25,8 @@ returns-in_err-value g c =
     let taken = rw c.in_ok-cell.was at c.in-Some.ensures in
     rw (p.1, p.2) (list_refused (λ (v : Vec g.row.T.Denot Global). v.items) reads c.args.raw.now c.in_ok-cells.cells
     c.loop-cell.cells so_far.0 c.loop-cell.values.items
-    c.in_ok-cells.ensures.outcome so_far.1 so_far.2 c.next.new.self taken.1 (cell_of c.in_ok-cell.cell)
-    (λ i. (c.type_inv.raw i).fits) taken.0 taken.2 taken.3
+    c.in_ok-cells.ensures.outcome so_far.1 so_far.2 c.next.new.self taken.front (cell_of c.in_ok-cell.cell)
+    (λ i. (c.type_inv.raw i).fits) taken.fewer taken.is taken.spells
     (refusal_of c.in_err-value.field-0.0) c.in_err-value.ensures.outcome)
 
 pub loop-cell-preserved : goal.loop-cell-preserved
@@ -39,7 +39,7 @@ loop-cell-preserved g c =
     let pushed = value_next reads so_far.0 cell c.loop-cell.values.items c.in_ok-value.value so_far.2
     c.in_ok-value.ensures.outcome in (
       cells,
-      taken_next c.in_ok-cells.cells c.loop-cell.cells c.next.new.self so_far.0 cell taken.1 so_far.1 taken.0 taken.2
-          taken.3,
+      taken_next c.in_ok-cells.cells c.loop-cell.cells c.next.new.self so_far.0 cell taken.front so_far.1 taken.fewer
+          taken.is taken.spells,
       rw c.in_ok-push.ensures.items pushed,
     )

@@ -6,9 +6,14 @@ use Rattle.pg_read.proofs.private.read_value.Goals as goal
 pub returns : goal.returns
 returns g c =
     let cell = c.in_ok-raw.ensures in
-    let rest = c.read_cell.new.buf.now in (
-      cell_of c.in_ok-raw.raw ∷ [],
-      rest,
-      ((cell.0, rest, cell.1, cell.2, refl), omega arith, inl refl),
-      (c.from_sql_nullable.ensures.outcome, c.from_sql_nullable.ensures.never_memory, refl),
-    )
+    let rest = c.read_cell.new.buf.now in
+    record {
+      cells = cell_of c.in_ok-raw.raw ∷ [];
+      rest = rest;
+      in_row = (
+        record { front = cell.0; rest = rest; is = cell.1; spells = cell.2; rest_spells = refl },
+        omega arith,
+        inl refl,
+      );
+      holds = (c.from_sql_nullable.ensures.outcome, c.from_sql_nullable.ensures.never_memory, refl);
+    }

@@ -29,4 +29,6 @@ returns-clause-partial g c =
     let text : Answered (c.args.line.now ∷ []) c.as_slice.result.now =
     rw c.as_slice.ensures.value (gained (c.args.line.now ∷ []) _ _ put c.requires.empty) in
     rw (last_line c.args.line.now c.requires.one_line some)
-    (err_weaker c.write_whole.result (λ e p is. (c.as_slice.result.now, p.0, text, p.2)) c.write_whole.ensures.err)
+    (err_weaker c.write_whole.result
+    (λ e p is. record { text = c.as_slice.result.now; written = p.0; answers = text; appends = p.2 })
+    c.write_whole.ensures.err)

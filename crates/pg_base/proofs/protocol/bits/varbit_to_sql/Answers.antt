@@ -3,6 +3,7 @@ use Rattle.std.proofs.Common.{◌≡◌, ◌∙◌, ◌++◌, length, ap, refl, 
 use Rattle.std.specs.Int.{w32, to_be_bytes}
 use Rattle.std.proofs.lemmas.Int.{of_z-to_z}
 use Rattle.pg_base.specs.Bits.{first_bits, packed}
+use Rattle.pg_base.specs.Counts.{number_width}
 use Rattle.pg_base.proofs.BitCells.{appends_cell, cell_past, appends_nothing}
 use Rattle.pg_base.proofs.protocol.bits.varbit_to_sql.Goals as goal
 
@@ -26,7 +27,7 @@ returns c =
     ∙ ap (λ x. old.items ++ x) number in
     let items = c.extend_by_bits.ensures.items ∙ ap (λ x. x ++ packed (first_bits n p)) head
     ∙ append_assoc old.items (to_be_bytes w32 n) (packed (first_bits n p)) in
-    let count : length c.to_be_bytes.result ≡ 4 = ap length c.to_be_bytes.ensures in
+    let count : length c.to_be_bytes.result ≡ number_width = ap length c.to_be_bytes.ensures in
     appends_cell n p old c.extend_by_bits.new.out c.if-len-gt-MAX_LEN.false c.requires items
     (omega (
       arith,

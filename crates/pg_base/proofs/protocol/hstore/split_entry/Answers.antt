@@ -24,5 +24,8 @@ returns-clause-outcome c =
     let key = rw c.in-Some.is at c.in_ok-key.ensures.outcome in
     let value = c.in_ok-value.ensures.outcome in
     let parts : c.args.bytes.now ≡ (key.0 ++ value.0) ++ c.in_ok-value.bytes.now
-    = key.1 ∙ ap (λ s. key.0 ++ s) value.1 ∙ sym (append_assoc key.0 value.0 c.in_ok-value.bytes.now) in
-    (key.0 ++ value.0, parts, (key.0, value.0, refl, key.2, value.2))
+    = key.1 ∙ ap (λ s. key.0 ++ s) value.1 ∙ sym (append_assoc key.0 value.0 c.in_ok-value.bytes.now) in (
+      key.0 ++ value.0,
+      parts,
+      record { front = key.0; rest = value.0; is = refl; spells = key.2; rest_spells = value.2 },
+    )

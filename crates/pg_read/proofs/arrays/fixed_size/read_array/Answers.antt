@@ -28,7 +28,8 @@ returns-then-len g c =
     let full : length c.loop-cell.values.items ≡ g.row.N = omega arith in
     array_long reads g.row.N c.args.raw.now c.in_ok-cells.cells c.loop-cell.cells so_far.0 c.loop-cell.values.items
     c.in_ok-cells.ensures.outcome so_far.1 so_far.2 so_far.3
-    c.next.new.self taken.1 (cell_of c.in_ok-cell.cell) (λ i. (c.type_inv.raw i).fits) taken.0 taken.2 taken.3 full
+    c.next.new.self taken.front (cell_of c.in_ok-cell.cell) (λ i. (c.type_inv.raw i).fits) taken.fewer taken.is
+    taken.spells full
 
 pub returns-in_err-value : goal.returns-in_err-value
 returns-in_err-value g c =
@@ -39,7 +40,8 @@ returns-in_err-value g c =
     let wanted : length c.loop-cell.values.items < g.row.N = omega (arith, so_far.3) in
     rw (p.1, p.2) (array_refused reads g.row.N c.args.raw.now c.in_ok-cells.cells c.loop-cell.cells so_far.0
     c.loop-cell.values.items c.in_ok-cells.ensures.outcome so_far.1 so_far.2 so_far.3
-    c.next.new.self taken.1 (cell_of c.in_ok-cell.cell) (λ i. (c.type_inv.raw i).fits) taken.0 taken.2 taken.3 wanted
+    c.next.new.self taken.front (cell_of c.in_ok-cell.cell) (λ i. (c.type_inv.raw i).fits) taken.fewer taken.is
+    taken.spells wanted
     (refusal_of c.in_err-value.field-0.0) c.in_err-value.ensures.outcome)
 
 pub loop-cell-preserved : goal.loop-cell-preserved
@@ -53,8 +55,8 @@ loop-cell-preserved g c =
     c.in_ok-value.ensures.outcome in
     let wanted : length c.loop-cell.values.items < g.row.N = omega (arith, so_far.3) in (
       cells,
-      taken_next c.in_ok-cells.cells c.loop-cell.cells c.next.new.self so_far.0 cell taken.1 so_far.1 taken.0 taken.2
-          taken.3,
+      taken_next c.in_ok-cells.cells c.loop-cell.cells c.next.new.self so_far.0 cell taken.front so_far.1 taken.fewer
+          taken.is taken.spells,
       rw c.in_ok-push.ensures.items pushed,
       rw c.in_ok-push.ensures.items (omega
           (arith, wanted, length-append c.loop-cell.values.items (c.in_ok-value.value ∷ []))),

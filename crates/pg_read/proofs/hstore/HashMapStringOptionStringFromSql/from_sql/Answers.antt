@@ -26,8 +26,8 @@ loop-entry-preserved g c =
     let puts = hash_map_updates_text (string_bytes c.in_ok-key-2.key) c.loop-entry.map c.insert.new.self _
     c.in_ok-insert.ensures.updates in (
       so_far.0 ++ entry ∷ [],
-      read_next c.in_ok-entries.entries c.loop-entry.entries c.next.new.self so_far.0 entry taken.1 so_far.1 taken.0
-          taken.2 taken.3,
+      read_next c.in_ok-entries.entries c.loop-entry.entries c.next.new.self so_far.0 entry taken.front so_far.1
+          taken.fewer taken.is taken.spells,
       put_in c.loop-entry.map c.insert.new.self so_far.0 entry _ c.in_ok-value.value so_far.2 puts
           c.in_ok-key-2.ensures.ok c.in_ok-value.ensures.copy,
     )
