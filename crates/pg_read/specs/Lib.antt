@@ -2,6 +2,7 @@
 pub mod ArrayReading
 pub mod ArrayReadingLaws
 pub mod BoxReading
+pub mod ElementReading
 pub mod FrameReading
 pub mod OptionReading
 pub mod Reading

@@ -84,6 +84,13 @@ impl<'a> Item<'a> for Option<&'a [u8]> {
 }
 
 impl<'a> ArrayCells<'a> {
+    /// How many cells are still to come, as the head states it. It takes no memory.
+    pub fn len(&self) -> usize
+        ensures { result ≡ self.now.left }
+    {
+        self.items.len()
+    }
+
     /// The next cell: its length in 4 bytes, big-endian, every negative one NULL, and that many
     /// bytes. Where the length or a part of the bytes is truncated it answers `Size`, and so it
     /// does where bytes are left after the last cell. After a fault, and after the last cell, it
