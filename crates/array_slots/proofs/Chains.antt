@@ -32,15 +32,15 @@ pub in_words : {A E : Type 0} (r : Result A E) {P P' : A → Type 0} {Q Q' : E �
 in_words (Ok a) f g h = f a h
 in_words (Err e) f g h = g e h
 
--- what is answered of what was read
-pub answered : {S A E : Type 0} (gives : S → A → S → Type 0) (stops : S → S → Type 0) (stopped_at : S → E → Type 0)
+-- what follows of the answer from what was read
+pub answers_array : {S A E : Type 0} (gives : S → A → S → Type 0) (stops : S → S → Type 0) (stopped_at : S → E → Type 0)
     (finishes : S → Result (Unit {0}) E → Type 0) (s : S) (n : ℕ) (r : Result (List A × S) S) (out : Result (List A) E)
     → MatchResult r (λ p. (length p.0 ≡ n) × GivesAll gives s p.0 p.1) (λ t. StopsBefore gives stops s n t)
     → MatchResult r (λ p. MatchResult out (λ a. (a ≡ p.0) × finishes p.1 (Ok tt)) (λ e. finishes p.1 (Err e)))
     (λ t. MatchResult out (λ _. ⊥) (λ e. stopped_at t e))
     → AnswersArray gives stops stopped_at finishes s n out
-answered gives stops stopped_at finishes s n (Ok (ys, t)) (Ok xs) (long, more) (same, ends) =
+answers_array gives stops stopped_at finishes s n (Ok (ys, t)) (Ok xs) (long, more) (same, ends) =
     (ap length same ∙ long, (t, subst (λ zs. GivesAll gives s zs t) (sym same) more, ends))
-answered gives stops stopped_at finishes s n (Ok (ys, t)) (Err e) (long, more) ends = inr (ys, t, long, more, ends)
-answered gives stops stopped_at finishes s n (Err t) (Ok xs) stopped bad = absurd bad
-answered gives stops stopped_at finishes s n (Err t) (Err e) stopped at = inl (t, stopped, at)
+answers_array gives stops stopped_at finishes s n (Ok (ys, t)) (Err e) (long, more) ends = inr (ys, t, long, more, ends)
+answers_array gives stops stopped_at finishes s n (Err t) (Ok xs) stopped bad = absurd bad
+answers_array gives stops stopped_at finishes s n (Err t) (Err e) stopped at = inl (t, stopped, at)

@@ -51,8 +51,8 @@ parts_typed v b o n e fits =
 
 module _ (E : El) where
   -- the places at an offset of a block, of which some hold a value
-  abbrev pub held : ℕ → ℕ → List (el_x E) → List Bool → Fml
-  held b o xs fs = slots (R E) (block_ptr b o) xs fs
+  abbrev pub slots_at : ℕ → ℕ → List (el_x E) → List Bool → Fml
+  slots_at b o xs fs = slots (R E) (block_ptr b o) xs fs
 
   abbrev pub from_key : Callee
   from_key = from_parts.name (args E)
@@ -86,11 +86,11 @@ module _ (E : El) {M : Type 1} {𝓤 : Ura M} (𝓛 : Logic 𝓤) (at_mem : Memo
     MadeOf r = (slots_ptr r ≡ block_ptr b o) × (slots_len r ≡ n) × (slots_items r ≡ xs) × (slots_filled r ≡ fs)
 
     pub from_asks : κ ⊑ E.row.lives → n ≡ length xs → n ≡ length fs → n < 2 ^ 64 → n * sz E < 2 ^ 63
-        → ent 𝓤 (sep 𝓤 (sem 𝓛 (held E b o xs fs)) (A.lft κ q)) (From.pre from_at)
+        → ent 𝓤 (sep 𝓤 (sem 𝓛 (slots_at E b o xs fs)) (A.lft κ q)) (From.pre from_at)
     from_asks outlives items flags fits small =
         let Counts : Type 0 = (n ≡ length xs) × (n ≡ length fs) in
         let Outlives : Type 0 = κ ⊑ E.row.lives in
-        qed 𝓛 (‵ (held E b o xs fs) ∷ ‵ (flft κ q) ∷ []) ∵
+        qed 𝓛 (‵ (slots_at E b o xs fs) ∷ ‵ (flft κ q) ∷ []) ∵
         -- what it requires
         flt_i ! (n * sz E) (2 ^ 63) small $ fjoin ! $
         use0 𝓛 (raw (fact 𝓤 Counts)) (fact_i 𝓤 Counts (emp 𝓤) (items, flags)) $ join ! $
@@ -110,12 +110,12 @@ module _ (E : El) {M : Type 1} {𝓤 : Ura M} (𝓛 : Logic 𝓤) (at_mem : Memo
         ⊛ some (λ (ws : Unit {0} × (Unit {0} × Unit {0})).
         ‵ (fsep ftrue (fsep ftrue ftrue)) ⊛ raw (fact 𝓤 (MadeOf r))))))
         (id⊢ 𝓤 _) $ await ! tt $ pick ! (λ r. split ! $ move ! (1 ∷ []) $ pick ! (λ ws. split ! $ drop ! $
-        heard ! (MadeOf r) (λ made. split ! $ split ! $ move ! (2 ∷ []) $ words_of E ! r (v ∷ []) (λ b' o' at e fits.
-        let same : row_val b' o' (slots_len r) ≡ row_val b o n = λ i. words_val ((sym at ∙ made.0) i) (made.1 i) in
+        heard ! (MadeOf r) (λ parts. split ! $ split ! $ move ! (2 ∷ []) $ words_of E ! r (v ∷ []) (λ b' o' at e fits.
+        let same : row_val b' o' (slots_len r) ≡ row_val b o n = λ i. words_val ((sym at ∙ parts.0) i) (parts.1 i) in
         rewrite ! 0 (λ (u : Val). ‵ ((Sr E).own_val r (u ∷ []))) same refl $ now ! $
         show ! (λ (d : (Sr E).Denot). guard 𝓤 ((v ≡ row_val b o n) × MadeOf d)
         (sep 𝓤 (sem 𝓛 ((Sr E).own_val d (row_val b o n ∷ []))) (A.lft κ q))) r $
-        check ! (ap only e ∙ same, made) $ keep ! (0 ∷ 1 ∷ []) $ done !))))
+        check ! (ap only e ∙ same, parts) $ keep ! (0 ∷ 1 ∷ []) $ done !))))
 
   module _ (κ : Lft) (q : Share) (r : (Sr E).Denot) (b o : ℕ) where
     abbrev pub into_at : Into.Ghost
@@ -131,7 +131,7 @@ module _ (E : El) {M : Type 1} {𝓤 : Ura M} (𝓛 : Logic 𝓤) (at_mem : Memo
 
     pub into_gives : (v : Val) → slots_ptr r ≡ block_ptr b o → ent 𝓤 (Into.post into_at v)
         (H.⇛ (guard 𝓤 (v ≡ row_val b o (slots_len r))
-        (sep 𝓤 (sem 𝓛 (held E b o (slots_items r) (slots_filled r))) (A.lft κ q))))
+        (sep 𝓤 (sem 𝓛 (slots_at E b o (slots_items r) (slots_filled r))) (A.lft κ q))))
     into_gives v at =
         let Same : Parts.Denot → Type 0 = λ p. (p.0 ≡ slots_ptr r) × (p.1 ≡ slots_len r) in
         qed 𝓛 (raw (Into.post into_at v) ∷ []) ∵ updating ! $

@@ -57,7 +57,7 @@ pub fn try_from_source<T: Drop, S: ElementSource<T> + Finish, const N: usize>(
     requires { S.ready source }
     ensures { AnswersArray S.gives S.stops S.stopped_at S.finishes source N result }
 {
-    finished(read_elements(source))
+    check_end(read_elements(source))
 }
 
 /// The next `N` elements, and the source after them; or the source where it stopped before.
@@ -85,7 +85,7 @@ fn both<A, S>(array: A, source: S) -> Result<(A, S), S>
 }
 
 /// What was read, where the source has no fault after it.
-fn finished<A: Drop, S: Finish>(read: Result<(A, S), S>) -> Result<A, S::Fault>
+fn check_end<A: Drop, S: Finish>(read: Result<(A, S), S>) -> Result<A, S::Fault>
     ensures { MatchResult read (λ p. MatchResult result (λ a. (a ≡ p.0) × S.finishes p.1 (Ok tt))
         (λ e. S.finishes p.1 (Err e))) (λ s. MatchResult result (λ _. ⊥) (λ e. S.stopped_at s e)) }
 {

@@ -13,7 +13,7 @@ use Rattle.pg_types.specs.Faults.{Answers, NeverMemory, Outcome, Refusal, excess
 use Rattle.pg_types.specs.declared.fault.Fault.{Fault}
 use Rattle.pg_types.specs.declared.fault.Fault.TheVariants.{TooFew}
 use Rattle.pg_read.specs.ArrayReading.{ElementsAll, ReadsAll, ReadsArray, ReadsFixed}
-use Rattle.pg_read.specs.ElementReading.{Fails, Finishes, GivesElement, IsAlike, IsLeft, Stops}
+use Rattle.pg_read.specs.ElementReading.{Fails, Finishes, GivesElement, IsAlike, RestFails, Stops}
 use Rattle.pg_read.specs.declared.arrays.fixed_size.ElementReader.{ElementReader}
 use Rattle.pg_read.proofs.ArrayCellSteps.{HaveBeenTaken}
 use Rattle.pg_read.proofs.FixedSizeSteps.{array_ends, array_free, array_long, array_refused, array_short}
@@ -86,32 +86,32 @@ module _ {A : Type 0} (reads : Content → Cell → Outcome A → Type 0) (free 
     abbrev Reads : Outcome (List A) → Type 0
     Reads = ReadsArray (λ vs. vs) (ReadsFixed expected R) (Some b)
 
-    -- it stopped, or what is left has a fault
+    -- what the array reads as where an element is not read, or more follows them
     module _ (xs : List A) (u : ElementReader A) (so_far : HasRead r xs u) where
-      failed : length xs < expected → (o : Option Refusal) → Fails reads free u o → IfSome o (λ q. Reads (Err q))
-      failed fewer None h = tt
-      failed fewer (Some q) (inl e) =
+      element_fault : length xs < expected → (o : Option Refusal) → Fails reads free u o → IfSome o (λ q. Reads (Err q))
+      element_fault fewer None h = tt
+      element_fault fewer (Some q) (inl e) =
           array_truncated R expected b r.cells u.cells so_far.cells xs head so_far.taken
           so_far.values (le_of_lt fewer) q e
-      failed fewer (Some q) (inr (next, (raw, taken, refuses))) =
+      element_fault fewer (Some q) (inr (next, (raw, taken, refuses))) =
           array_refused R expected b r.cells u.cells so_far.cells xs head so_far.taken
           so_far.values (le_of_lt fewer) next taken.front (cell_of raw) bytes taken.fewer taken.is taken.spells fewer q
           (subst (λ e. reads (content e.now) (cell_of raw) (Err q)) so_far.alike.element refuses)
 
-      stopped : length xs < expected → (t : ElementReader A) → Stops reads free u t
+      stop_fault : length xs < expected → (t : ElementReader A) → Stops reads free u t
           → IfSome (refusal_of t.fault) (λ q. Reads (Err q))
-      stopped fewer t (inl (ends, stays)) =
+      stop_fault fewer t (inl (ends, stays)) =
           subst (λ e. IfSome (refusal_of e) (λ q. Reads (Err q))) (sym (stays ∙ so_far.alike.fault ∙ counts))
           (array_short R expected b r.cells u.cells so_far.cells xs head so_far.taken
           so_far.values (le_of_lt fewer) ends fewer)
-      stopped fewer t (inr fails) = failed fewer (refusal_of t.fault) fails
+      stop_fault fewer t (inr fails) = element_fault fewer (refusal_of t.fault) fails
 
-      left : length xs ≡ expected → (o : Option Refusal) → IsLeft u o → IfSome o (λ q. Reads (Err q))
-      left full None bad = absurd bad
-      left full (Some q) (inl e) =
+      rest_fault : length xs ≡ expected → (o : Option Refusal) → RestFails u o → IfSome o (λ q. Reads (Err q))
+      rest_fault full None bad = absurd bad
+      rest_fault full (Some q) (inl e) =
           array_truncated R expected b r.cells u.cells so_far.cells xs head so_far.taken
           so_far.values (le_of_eq full) q e
-      left full (Some q) (inr (next, (raw, taken, is))) =
+      rest_fault full (Some q) (inr (next, (raw, taken, is))) =
           subst (λ p. Reads (Err p)) (sym (is ∙ ap excess (so_far.alike.expected ∙ wants)))
           (array_long R expected b r.cells u.cells so_far.cells xs head so_far.taken
           so_far.values (le_of_eq full) next taken.front (cell_of raw) bytes taken.fewer taken.is taken.spells full)
@@ -130,9 +130,9 @@ module _ {A : Type 0} (reads : Content → Cell → Outcome A → Type 0) (free 
           subst (λ e. IsSome (refusal_of e)) (sym (stays ∙ so_far.alike.fault ∙ counts)) refl
       stops_free fewer all_free t (inr fails) = fails_free fewer all_free (refusal_of t.fault) fails
 
-    left_free : (u : ElementReader A) (o : Option Refusal) → IsLeft u o → IsSome o
-    left_free u None bad = absurd bad
-    left_free u (Some q) is = refl
+    rest_free : (u : ElementReader A) (o : Option Refusal) → RestFails u o → IsSome o
+    rest_free u None bad = absurd bad
+    rest_free u (Some q) is = refl
 
     -- what is answered is what the array reads as
     pub reads_fixed : (out : Result (List A) Fault)
@@ -144,9 +144,9 @@ module _ {A : Type 0} (reads : Content → Cell → Outcome A → Type 0) (free 
         full
     reads_fixed (Err f) (inl (t, (xs, u, more, fewer, stops), at)) =
         subst (λ e. IfSome (refusal_of e) (λ q. Reads (Err q))) (sym at)
-        (stopped xs u (has_read r xs u more) fewer t stops)
-    reads_fixed (Err f) (inr (xs, t, full, more, is_left)) =
-        left xs t (has_read r xs t more) full (refusal_of f) is_left
+        (stop_fault xs u (has_read r xs u more) fewer t stops)
+    reads_fixed (Err f) (inr (xs, t, full, more, rest)) =
+        rest_fault xs t (has_read r xs t more) full (refusal_of f) rest
 
     -- and it is never Memory where the elements are read without
     pub never_memory : (out : Result (List A) Fault)
@@ -156,4 +156,4 @@ module _ {A : Type 0} (reads : Content → Cell → Outcome A → Type 0) (free 
     never_memory (Err f) (inl (t, (xs, u, more, fewer, stops), at)) all_free =
         subst (λ e. IsSome (refusal_of e)) (sym at)
         (stops_free xs u (has_read r xs u more) fewer all_free t stops)
-    never_memory (Err f) (inr (xs, t, full, more, is_left)) all_free = left_free t (refusal_of f) is_left
+    never_memory (Err f) (inr (xs, t, full, more, rest)) all_free = rest_free t (refusal_of f) rest

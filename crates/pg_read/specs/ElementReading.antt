@@ -48,11 +48,11 @@ abbrev pub Stops : {A : Type 0} → (Content → Cell → Outcome A → Type 0) 
 Stops reads free r t = ((r.cells ≡ nothing) × (t.fault ≡ r.fault)) ⊎ Fails reads free r (refusal_of t.fault)
 
 -- what comes next is damaged, or is a cell too many; and memory is not asked for
-abbrev pub IsLeft : {A : Type 0} → ElementReader A → Option Refusal → Type 0
-IsLeft r None = ⊥
-IsLeft r (Some q) = IsDamaged r.cells q ⊎ HasCellWith (λ c. q ≡ excess r.expected) r.cells
+abbrev pub RestFails : {A : Type 0} → ElementReader A → Option Refusal → Type 0
+RestFails r None = ⊥
+RestFails r (Some q) = IsDamaged r.cells q ⊎ HasCellWith (λ c. q ≡ excess r.expected) r.cells
 
 -- nothing is left, or that is the fault
 abbrev pub Finishes : {A : Type 0} → ElementReader A → Result (Unit {0}) Fault → Type 0
 Finishes r (Ok u) = r.cells ≡ nothing
-Finishes r (Err f) = IsLeft r (refusal_of f)
+Finishes r (Err f) = RestFails r (refusal_of f)

@@ -42,7 +42,7 @@ fn elements_may_own_memory(rt: HostRuntime) -> Result<(), Fail> {
 }
 
 #[test]
-fn elements_before_a_fault_are_dropped(rt: HostRuntime) -> Result<(), Fail> {
+fn faults_come_after_owned_elements_too(rt: HostRuntime) -> Result<(), Fail> {
     let alloc = rt.alloc();
     let not_text: [(Option<&[u8]>, u32); 1] = [(Some(&TEXT_THEN_NONE), code::UTF8)];
     refuses::<[String; 2]>(alloc, &Type::TEXT_ARRAY, &not_text)?;
@@ -84,4 +84,40 @@ fn arrays_are_read_where_every_growth_is_refused(rt: HostRuntime) -> Result<(), 
     let hoarded = reads_in_place(alloc, code::MEMORY);
     drop(blocks);
     hoarded
+}
+
+/// How many bytes the long text has: room for one such text is let go below, and not for two.
+const LONG: usize = 2_500_000;
+
+/// The array of a long text and of a byte that is no text.
+fn long_text_then_none(alloc: Global) -> Result<Vec<u8>, Fail> {
+    let len = LONG as u32;
+    let mut cell = Vec::from_slice(alloc, &TEXT_THEN_NONE[..20])?;
+    cell.extend_from_slice(&len.to_be_bytes())?;
+    let text = Vec::from_elem(alloc, b'a', LONG)?;
+    cell.extend_from_slice(text.as_slice())?;
+    cell.extend_from_slice(&TEXT_THEN_NONE[26..])?;
+    Ok(cell)
+}
+
+/// Reads the array of texts twice, with room for one of them: the numbers of the faults.
+fn refusals(alloc: Global, cell: &[u8]) -> [u32; 2] {
+    let first = refusal::<[String; 2]>(alloc, &Type::TEXT_ARRAY, Some(cell));
+    let second = refusal::<[String; 2]>(alloc, &Type::TEXT_ARRAY, Some(cell));
+    [first, second]
+}
+
+#[test]
+fn elements_before_a_fault_are_dropped(rt: HostRuntime) -> Result<(), Fail> {
+    let alloc = rt.alloc();
+    let cell = long_text_then_none(alloc)?;
+    same(refusals(alloc, cell.as_slice()), [code::UTF8, code::UTF8])?;
+    let room: Vec<u8> = Vec::with_capacity(alloc, 4_000_000)?;
+    let blocks = hoard(alloc)?;
+    let full = refusals(alloc, cell.as_slice());
+    drop(room);
+    let hoarded = refusals(alloc, cell.as_slice());
+    drop(blocks);
+    same(full, [code::MEMORY, code::MEMORY])?;
+    same(hoarded, [code::UTF8, code::UTF8])
 }
