@@ -8,3 +8,4 @@ pub mod OptionReading
 pub mod Reading
 pub mod ReadingLaws
 pub mod RunReading
+pub mod Views
