@@ -5,6 +5,7 @@
 //! PostgreSQL's send and receive functions.
 #![tactic(auto)]
 
+pub mod odd;
 mod paired;
 mod rewriting;
 

@@ -1,0 +1,5 @@
+//! The tests, by what a conversion has of its own.
+
+mod nulls;
+mod refusals;
+mod timestamps;
