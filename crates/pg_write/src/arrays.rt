@@ -228,8 +228,10 @@ fn elements_to_sql<T: ToSql>(
         scratch.new.items lens.new.items result }
 {
     for value in values {
-        let len = element_to_sql(alloc, element, value, scratch)?;
-        lens.push_reserved(len);
+        match element_to_sql(alloc, element, value, scratch) {
+            Ok(len) => lens.push_reserved(len),
+            Err(fault) => return Err(fault),
+        }
     }
     Ok(())
 }
@@ -247,14 +249,12 @@ fn element_to_sql<T: ToSql>(
         scratch.old.items scratch.new.items result }
 {
     let start = scratch.len();
-    if let IsNull::Yes = value.to_sql(alloc, element, scratch)? {
-        return Ok(None);
+    match value.to_sql(alloc, element, scratch) {
+        Ok(IsNull::Yes) => Ok(None),
+        Ok(IsNull::No) if scratch.len() - start > MAX_LEN => Err(Fault::Transmit),
+        Ok(IsNull::No) => Ok(Some(scratch.len() - start)),
+        Err(fault) => Err(fault),
     }
-    let len = scratch.len() - start;
-    if len > MAX_LEN {
-        return Err(Fault::Transmit);
-    }
-    Ok(Some(len))
 }
 
 /// The number of the first element of an array of that type.

@@ -1,26 +1,27 @@
 -- What the proof of `elements_to_sql` answers by hand.
-use Rattle.std.proofs.Common.{Ok, sym, ap, ◌∙◌, arith}
-use Rattle.std.proofs.lemmas.Result.{err_from_is_err_and}
+use Rattle.std.proofs.Common.{Ok, sym, ap, ◌∙◌, arith, subst}
 use Rattle.pg_base.specs.Arrays.{cells_of, total_len}
 use Rattle.pg_types.specs.Content.{content}
 use Rattle.pg_types.specs.Faults.{refusal_of}
+use Rattle.pg_write.specs.ArrayWriting.{NotesCell}
 use Rattle.pg_write.proofs.CellNotes.{noted}
 use Rattle.pg_write.proofs.ElementCells.{next_cell, next_refusal}
 use Rattle.pg_write.proofs.arrays.elements_to_sql.Goals as goal
 
-pub returns-in_err-len : goal.returns-in_err-len
-returns-in_err-len g c =
-    let p = err_from_is_err_and c.from_residual.result c.from_residual.ensures.1 in
-    rw (p.1, p.2) (next_refusal (g.T.ToSql.wire (content c.args.element.now)) c.args.values.now
+pub returns-in-Err : goal.returns-in-Err
+returns-in-Err g c =
+    next_refusal (g.T.ToSql.wire (content c.args.element.now)) c.args.values.now
     c.loop-value.value-index _ c.loop-value-test.true c.value-item.is _
-    (refusal_of c.in_err-len.field-0.0) c.loop-value.invariant.0 c.in_err-len.ensures)
+    (refusal_of c.in-Err.fault) c.loop-value.invariant.0
+    (subst (NotesCell _ c.loop-value.scratch.items c.element_to_sql.new.scratch.items) c.in-Err.is c.element_to_sql.ensures)
 
 pub loop-value-preserved : goal.loop-value-preserved
 loop-value-preserved g c =
     let bytes = c.loop-value.scratch.items in
     let lens = c.loop-value.lens.items in
     let so_far = c.loop-value.invariant in
-    let one_more = noted _ bytes c.element_to_sql.new.scratch.items lens c.in_ok-len.len so_far.1 c.in_ok-len.ensures in
+    let one_more = noted _ bytes c.element_to_sql.new.scratch.items lens c.in-Ok.len so_far.1
+    (subst (NotesCell _ bytes c.element_to_sql.new.scratch.items) c.in-Ok.is c.element_to_sql.ensures) in
     let next = next_cell (g.T.ToSql.wire (content c.args.element.now)) c.args.values.now c.loop-value.value-index _
     c.loop-value-test.true c.value-item.is (cells_of bytes lens) one_more.0 so_far.0 one_more.1 in
     let pushed = c.push_reserved.ensures.items in (
