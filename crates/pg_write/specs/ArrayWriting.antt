@@ -1,8 +1,10 @@
 -- Writing arrays.
 use Rattle.std.specs.Prelude.{◌≡◌, ℕ, ℤ, pos, List, [], ◌∷◌, length, Option, Some, None, ◌||◌, ◌==◌}
-use Rattle.std.specs.Prelude.{if◌then◌else◌, ◌++◌, Result, Ok, Err, IfSome, ⊤}
+use Rattle.std.specs.Prelude.{if◌then◌else◌, Result, Ok, Err, IfSome, ⊤}
 use Rattle.pg_types.specs.declared.types.built_in.BuiltIn.TheVariants.{Int2Vector, OidVector}
 use Rattle.pg_types.specs.declared.fault.Fault.{Fault}
+use Rattle.pg_types.specs.declared.format.IsNull.{IsNull}
+use Rattle.pg_types.specs.declared.format.IsNull.TheVariants.{Yes, No}
 use Rattle.pg_base.specs.Appending.{Wire, wire_of}
 use Rattle.pg_base.specs.Arrays.{array_bytes, cells_of, total_len}
 use Rattle.pg_base.specs.Cells.{Cell, frame, fits_prefix}
@@ -56,12 +58,10 @@ wire_list wire ty vs = wire_by_element wire ty (element_of ty) vs
 abbrev pub wire_fixed : {A : Type 0} → ℕ → (Content → A → Wire) → Content → List A → Wire
 wire_fixed expected wire ty vs = if length vs == expected then wire_list wire ty vs else Err transmit
 
--- the bytes of an element's cell follow the old ones, and their number was noted; None for NULL, which has none. Or the
--- element is refused with this fault or has no frame, or memory ran out
-abbrev pub NotesCell : Wire → List ℕ → List ℕ → Result (Option ℕ) Fault → Type 0
-NotesCell w old new (Ok None) = (w ≡ Ok None) × (new ≡ old)
-NotesCell w old new (Ok (Some n)) = (b : List ℕ) × (w ≡ Ok (Some b)) × (new ≡ old ++ b) × (length b ≡ n)
-NotesCell w old new (Err f) = IfSome (refusal_of f) (λ r. w ≡ Err r)
+-- the length that is noted of an element's cell; None for NULL, and no length for a cell without a frame
+abbrev pub frame_len : IsNull → ℕ → Option (Option ℕ)
+frame_len Yes n = Some None
+frame_len No n = if fits_prefix n then Some (Some n) else None
 
 -- these bytes and lengths are those of the elements' cells; or an element is refused with this fault or has no frame,
 -- or memory ran out

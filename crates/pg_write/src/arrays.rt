@@ -4,7 +4,7 @@ ghost use Rattle.std.specs.Box.{boxed_slice_items};
 ghost use Rattle.std.specs.Vec.{vec_capacity};
 ghost use Rattle.pg_types.specs.Content.{content};
 ghost use Rattle.pg_base.specs.ArrayTypes.{accepted_list};
-ghost use Rattle.pg_write.specs.ArrayWriting.{NotesCell, NotesCells, element_cells, element_frame_cell};
+ghost use Rattle.pg_write.specs.ArrayWriting.{NotesCells, element_cells, frame_len};
 ghost use Rattle.pg_write.specs.ArrayWriting.{lower_bound_of, wire_fixed, wire_list};
 ghost use Rattle.pg_write.specs.Writing.{Writes};
 
@@ -228,32 +228,25 @@ fn elements_to_sql<T: ToSql>(
         scratch.new.items lens.new.items result }
 {
     for value in values {
-        match element_to_sql(alloc, element, value, scratch) {
-            Ok(len) => lens.push_reserved(len),
-            Err(fault) => return Err(fault),
-        }
+        let start = scratch.len();
+        let is_null = value.to_sql(alloc, element, scratch)?;
+        let Some(len) = frame_len(is_null, scratch.len() - start) else {
+            return Err(Fault::Transmit);
+        };
+        lens.push_reserved(len);
     }
     Ok(())
 }
 
-/// Appends the cell of the value, which is to have a frame, and answers its length; for NULL it
-/// appends nothing and answers `None`.
-fn element_to_sql<T: ToSql>(
-    alloc: Global,
-    element: &PgType,
-    value: &T,
-    scratch: &mut BytesMut,
-) -> Result<Option<usize>, Fault>
-    requires { IsTrue (T.accepted (content element.now)) }
-    ensures { NotesCell (element_frame_cell (T.wire (content element.now) value.now))
-        scratch.old.items scratch.new.items result }
+/// What is noted of a cell of that length, of which NULL has none. A cell that is to have a frame and passes
+/// 2,147,483,647 bytes has none.
+fn frame_len(is_null: IsNull, len: usize) -> Option<Option<usize>>
+    ensures { result ≡ frame_len is_null len }
 {
-    let start = scratch.len();
-    match value.to_sql(alloc, element, scratch) {
-        Ok(IsNull::Yes) => Ok(None),
-        Ok(IsNull::No) if scratch.len() - start > MAX_LEN => Err(Fault::Transmit),
-        Ok(IsNull::No) => Ok(Some(scratch.len() - start)),
-        Err(fault) => Err(fault),
+    match is_null {
+        IsNull::Yes => Some(None),
+        IsNull::No if len > MAX_LEN => None,
+        IsNull::No => Some(Some(len)),
     }
 }
 
