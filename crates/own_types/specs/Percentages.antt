@@ -1,5 +1,5 @@
 -- Percentages: the integers from 0 to 100.
-use Rattle.std.specs.Prelude.{◌≡◌, ◌&&◌, ℤ, pos, int_le, Bool, codes}
+use Rattle.std.specs.Prelude.{◌&&◌, ℤ, pos, int_le, Bool, codes}
 use Rattle.postgres_types.specs.Cells.{Cell}
 use Rattle.postgres_types.specs.Conversion.{Equal, ReadsConstrained, ReadsSigned, ap, constrained_lawful, constrained_single}
 use Rattle.postgres_types.specs.Conversion.{int2_lawful, int2_single, user, w16, wire_constrained, wire_signed, BackKept}
