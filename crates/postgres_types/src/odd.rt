@@ -25,6 +25,7 @@ ghost use Rattle.postgres_types.specs.PlainLaws.{plain_lawful};
 ghost use Rattle.postgres_types.specs.ReadingBack.{BackKept, BackOption};
 ghost use Rattle.postgres_types.specs.ViewBackLaws.{refusing_lawful, through_finite, through_lawful};
 
+use crate::acceptance::check_type;
 use crate::paired::{Finite, Paired};
 use bytes::BytesMut;
 use pg_base::fault::Fault;
@@ -32,7 +33,7 @@ use pg_base::format::{Format, IsNull};
 use pg_base::protocol::{int4_from_sql, int4_to_sql, int8_from_sql, int8_to_sql};
 use pg_base::types::PgType;
 use pg_read::from_sql::FromSql;
-use pg_write::to_sql::{ToSql, wrong_type};
+use pg_write::to_sql::ToSql;
 use std::alloc::Global;
 
 /// A TIMESTAMP of 4 bytes, which no server sends: an integer, big-endian, in two's complement. Any other length is
@@ -95,11 +96,8 @@ impl ToSql for Short {
         ty: &PgType,
         out: &mut BytesMut,
     ) -> Result<IsNull, Fault> {
-        if <Short as ToSql>::accepts(ty) {
-            self.to_sql(alloc, ty, out)
-        } else {
-            Err(wrong_type(ty, "Short"))
-        }
+        check_type(<Short as ToSql>::accepts(ty), ty, "Short")?;
+        self.to_sql(alloc, ty, out)
     }
 
     fn encode_format(&self, _ty: &PgType) -> Format {
@@ -194,11 +192,8 @@ impl ToSql for Gap {
         ty: &PgType,
         out: &mut BytesMut,
     ) -> Result<IsNull, Fault> {
-        if <Gap as ToSql>::accepts(ty) {
-            self.to_sql(alloc, ty, out)
-        } else {
-            Err(wrong_type(ty, "Gap"))
-        }
+        check_type(<Gap as ToSql>::accepts(ty), ty, "Gap")?;
+        self.to_sql(alloc, ty, out)
     }
 
     fn encode_format(&self, _ty: &PgType) -> Format {
@@ -275,11 +270,8 @@ impl ToSql for Moment {
         ty: &PgType,
         out: &mut BytesMut,
     ) -> Result<IsNull, Fault> {
-        if <Moment as ToSql>::accepts(ty) {
-            self.to_sql(alloc, ty, out)
-        } else {
-            Err(wrong_type(ty, "Moment"))
-        }
+        check_type(<Moment as ToSql>::accepts(ty), ty, "Moment")?;
+        self.to_sql(alloc, ty, out)
     }
 
     fn encode_format(&self, _ty: &PgType) -> Format {
@@ -365,11 +357,8 @@ impl ToSql for Picky {
         ty: &PgType,
         out: &mut BytesMut,
     ) -> Result<IsNull, Fault> {
-        if <Picky as ToSql>::accepts(ty) {
-            self.to_sql(alloc, ty, out)
-        } else {
-            Err(wrong_type(ty, "Picky"))
-        }
+        check_type(<Picky as ToSql>::accepts(ty), ty, "Picky")?;
+        self.to_sql(alloc, ty, out)
     }
 
     fn encode_format(&self, _ty: &PgType) -> Format {
