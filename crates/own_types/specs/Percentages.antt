@@ -1,13 +1,8 @@
 -- Percentages: the integers from 0 to 100.
-use Rattle.std.specs.Prelude.{◌≡◌, ◌&&◌, ℤ, pos, int_le, Bool, codes}
-use Rattle.postgres_types.specs.Cells.{Cell}
-use Rattle.postgres_types.specs.Conversion.{Equal, ReadsConstrained, ReadsSigned, ap, constrained_lawful, constrained_single}
-use Rattle.postgres_types.specs.Conversion.{int2_lawful, int2_single, user, w16, wire_constrained, wire_signed, BackKept}
-use Rattle.postgres_types.specs.Conversion.{Constrained}
-use Rattle.postgres_types.specs.Appending.{Wire}
-use Rattle.postgres_types.specs.Faults.{Outcome, Refusal}
-use Rattle.postgres_types.specs.Reading.{ReadsSingle}
-use Rattle.postgres_types.specs.ReadingBack.{IsLawful}
+use Rattle.postgres_types.specs.Conversion.{◌&&◌, ℤ, BackKept, Bool, Cell, Constrained, Equal, IsLawful, Outcome}
+use Rattle.postgres_types.specs.Conversion.{ReadsConstrained, ReadsSigned, ReadsSingle, Refusal, Wire, ap, codes}
+use Rattle.postgres_types.specs.Conversion.{constrained_lawful, constrained_single, int2_lawful, int2_single, int_le, pos}
+use Rattle.postgres_types.specs.Conversion.{user, w16, wire_constrained, wire_signed}
 
 -- the constraint
 abbrev pub is_percentage : ℤ → Bool

@@ -1,5 +1,5 @@
 -- Ratings: a number of stars, or none.
-use Rattle.std.specs.Prelude.{ℤ, Option, Some, None}
+use Rattle.postgres_types.specs.Conversion.{ℤ, Option, Some, None}
 use Rattle.own_types.specs.declared.null_value.Rating.{Rating}
 use Rattle.own_types.specs.declared.null_value.Rating.TheVariants.{Unrated, Stars}
 

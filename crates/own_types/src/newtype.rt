@@ -5,7 +5,7 @@ ghost use Rattle.postgres_types.specs.Conversion.{refl, signed_finite, through_l
 
 use postgres_types::private::BytesMut;
 use postgres_types::protocol::{int4_from_sql, int4_to_sql};
-use postgres_types::{Fault, Finite, Format, FromSql, IsNull, Paired, ToSql, Type, wrong_type};
+use postgres_types::{Fault, Finite, Format, FromSql, IsNull, Paired, ToSql, Type, check_type};
 use std::alloc::Global;
 
 /// Days since 2000-01-01.
@@ -62,11 +62,8 @@ impl ToSql for Days {
         ty: &Type,
         out: &mut BytesMut,
     ) -> Result<IsNull, Fault> {
-        if <Days as ToSql>::accepts(ty) {
-            self.to_sql(alloc, ty, out)
-        } else {
-            Err(wrong_type(ty, "Days"))
-        }
+        check_type(<Days as ToSql>::accepts(ty), ty, "Days")?;
+        self.to_sql(alloc, ty, out)
     }
 
     fn encode_format(&self, _ty: &Type) -> Format {

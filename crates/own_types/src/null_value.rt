@@ -8,7 +8,7 @@ ghost use Rattle.postgres_types.specs.Conversion.{wire_option, wire_signed};
 
 use postgres_types::private::BytesMut;
 use postgres_types::protocol::{int2_from_sql, int2_to_sql};
-use postgres_types::{Fault, Format, FromSql, IsNull, Paired, ToSql, Type, wrong_type};
+use postgres_types::{Fault, Format, FromSql, IsNull, Paired, ToSql, Type, check_type};
 use std::alloc::Global;
 
 /// A number of stars, or none yet, which is NULL.
@@ -74,11 +74,8 @@ impl ToSql for Rating {
         ty: &Type,
         out: &mut BytesMut,
     ) -> Result<IsNull, Fault> {
-        if <Rating as ToSql>::accepts(ty) {
-            self.to_sql(alloc, ty, out)
-        } else {
-            Err(wrong_type(ty, "Rating"))
-        }
+        check_type(<Rating as ToSql>::accepts(ty), ty, "Rating")?;
+        self.to_sql(alloc, ty, out)
     }
 
     fn encode_format(&self, _ty: &Type) -> Format {

@@ -7,7 +7,7 @@ ghost use Rattle.postgres_types.specs.Conversion.{through_single};
 
 use postgres_types::private::BytesMut;
 use postgres_types::protocol::{int2_from_sql, int2_to_sql};
-use postgres_types::{Fault, Format, FromSql, IsNull, Paired, ToSql, Type, wrong_type};
+use postgres_types::{Fault, Format, FromSql, IsNull, Paired, ToSql, Type, check_type};
 use std::alloc::Global;
 
 /// An integer from 0 to 100.
@@ -73,11 +73,8 @@ impl ToSql for Percentage {
         ty: &Type,
         out: &mut BytesMut,
     ) -> Result<IsNull, Fault> {
-        if <Percentage as ToSql>::accepts(ty) {
-            self.to_sql(alloc, ty, out)
-        } else {
-            Err(wrong_type(ty, "Percentage"))
-        }
+        check_type(<Percentage as ToSql>::accepts(ty), ty, "Percentage")?;
+        self.to_sql(alloc, ty, out)
     }
 
     fn encode_format(&self, _ty: &Type) -> Format {

@@ -3,7 +3,7 @@ ghost use Rattle.postgres_types.specs.Conversion.{ReadsThrough, Through, codes, 
 ghost use Rattle.postgres_types.specs.Conversion.{through_single};
 
 use postgres_types::private::BytesMut;
-use postgres_types::{Fault, Format, FromSql, IsNull, Paired, ToSql, Type, wrong_type};
+use postgres_types::{Fault, Format, FromSql, IsNull, Paired, ToSql, Type, check_type};
 use std::alloc::Global;
 
 /// A value with a name of its own.
@@ -61,11 +61,8 @@ impl<T: ToSql> ToSql for Tagged<T> {
         ty: &Type,
         out: &mut BytesMut,
     ) -> Result<IsNull, Fault> {
-        if <Self as ToSql>::accepts(ty) {
-            self.to_sql(alloc, ty, out)
-        } else {
-            Err(wrong_type(ty, "Tagged"))
-        }
+        check_type(<Self as ToSql>::accepts(ty), ty, "Tagged")?;
+        self.to_sql(alloc, ty, out)
     }
 
     fn encode_format(&self, ty: &Type) -> Format {

@@ -1,5 +1,5 @@
 -- Boxes are read back as they are written, and their values stay finite, where those inside do.
-use Rattle.std.specs.Prelude.{◌≡◌, ℕ, List, Some, None, Ok, Err}
+use Rattle.std.specs.Prelude.{◌≡◌, Some, None, Ok, Err}
 use Rattle.std.proofs.Common.{sym, subst}
 use Rattle.std.specs.Int.{Width}
 use Rattle.pg_base.specs.Appending.{Wire}

@@ -1,10 +1,9 @@
 -- Types over another are read back as they are written, and their values stay finite, where those of the other do.
-use Rattle.std.specs.Prelude.{◌≡◌, ℕ, List, Bool, true, false, if◌then◌else◌, Some, None, Ok, Err, refl}
-use Rattle.std.proofs.Common.{sym, subst, inl, inr}
+use Rattle.std.specs.Prelude.{◌≡◌, Bool, true, false, if◌then◌else◌, Some, None, Ok, Err, refl}
+use Rattle.std.proofs.Common.{inl, inr}
 use Rattle.std.specs.Int.{Width}
 use Rattle.pg_base.specs.Appending.{Wire}
 use Rattle.pg_base.specs.Cells.{Cell}
-use Rattle.pg_base.specs.Special.{IsFiniteCell}
 use Rattle.pg_types.specs.Faults.{Outcome, Refusal}
 use Rattle.pg_read.specs.Views.{Constrained, ReadsConstrained, ReadsThrough, Through}
 use Rattle.pg_write.specs.Writing.{wire_constrained}

@@ -1,30 +1,17 @@
 //! Conversions with rules of their own, as a user may write them: a width of its own, a value for NULL, a timestamp
 //! as a number, and a refusal in writing.
-ghost use Rattle.std.specs.Prelude.{◌≡◌, codes, refl};
-ghost use Rattle.std.proofs.Common.{ap};
-ghost use Rattle.std.specs.Int.{w32, w64};
-ghost use Rattle.pg_types.specs.Content.{is_row};
-ghost use Rattle.pg_types.specs.Faults.{user};
-ghost use Rattle.pg_types.specs.declared.types.built_in.BuiltIn.TheVariants.{Int4, Timestamp as TimestampRow};
-ghost use Rattle.pg_base.proofs.FormatLaws.{int4_grammar, int8_grammar};
-ghost use Rattle.pg_base.proofs.SamenessLaws.{content_equivalence, equal_equivalence, inside_equivalence};
-ghost use Rattle.pg_base.proofs.SamenessLaws.{option_equivalence};
-ghost use Rattle.pg_base.specs.Formats.{ReadsPlain};
-ghost use Rattle.pg_base.specs.Numbers.{FormSigned, ReadsSigned, first_fault_number, wire_signed};
-ghost use Rattle.pg_base.specs.Sameness.{SameOption};
-ghost use Rattle.pg_read.specs.OptionReading.{ReadsOption};
-ghost use Rattle.pg_read.specs.Reading.{EveryCell};
-ghost use Rattle.pg_read.specs.ReadingLaws.{option_single, plain_single, through_single};
-ghost use Rattle.pg_read.specs.Views.{ReadsThrough, Through};
-ghost use Rattle.pg_write.specs.OptionWriting.{wire_option};
-ghost use Rattle.pg_write.specs.Writing.{wire_constrained};
-ghost use Rattle.postgres_types.specs.FormatBackLaws.{signed_finite, signed_lawful, signed_written};
+ghost use Rattle.postgres_types.specs.Conversion.{◌≡◌, BackKept, BackOption, Equal, EveryCell, FormSigned, Int4};
+ghost use Rattle.postgres_types.specs.Conversion.{ReadsOption, ReadsPlain, ReadsSigned, ReadsThrough, SameOption};
+ghost use Rattle.postgres_types.specs.Conversion.{Through, Timestamp, ap, codes, content_equivalence};
+ghost use Rattle.postgres_types.specs.Conversion.{equal_equivalence, inside_equivalence, int4_lawful, int4_single};
+ghost use Rattle.postgres_types.specs.Conversion.{int8_lawful, int8_single, is_row, option_equivalence, option_lawful};
+ghost use Rattle.postgres_types.specs.Conversion.{option_single, plain_lawful, plain_single, refl, refusing_lawful};
+ghost use Rattle.postgres_types.specs.Conversion.{signed_finite, signed_written, through_finite, through_lawful};
+ghost use Rattle.postgres_types.specs.Conversion.{through_single, user, w32, w64, wire_constrained, wire_option};
+ghost use Rattle.postgres_types.specs.Conversion.{wire_signed};
 ghost use Rattle.postgres_types.specs.Odd.{first_fault_short, gap_view, is_even, short_grammar};
-ghost use Rattle.postgres_types.specs.OptionBackLaws.{option_lawful};
-ghost use Rattle.postgres_types.specs.PlainLaws.{plain_lawful};
-ghost use Rattle.postgres_types.specs.ReadingBack.{BackKept, BackOption};
-ghost use Rattle.postgres_types.specs.ViewBackLaws.{refusing_lawful, through_finite, through_lawful};
 
+use crate::acceptance::check_type;
 use crate::paired::{Finite, Paired};
 use bytes::BytesMut;
 use pg_base::fault::Fault;
@@ -32,7 +19,7 @@ use pg_base::format::{Format, IsNull};
 use pg_base::protocol::{int4_from_sql, int4_to_sql, int8_from_sql, int8_to_sql};
 use pg_base::types::PgType;
 use pg_read::from_sql::FromSql;
-use pg_write::to_sql::{ToSql, wrong_type};
+use pg_write::to_sql::ToSql;
 use std::alloc::Global;
 
 /// A TIMESTAMP of 4 bytes, which no server sends: an integer, big-endian, in two's complement. Any other length is
@@ -43,7 +30,7 @@ pub struct Short(pub i32);
 impl<'a> FromSql<'a> for Short {
     ghost same = { λ v w. v.0 ≡ w.0 };
 
-    ghost accepted = { is_row TimestampRow };
+    ghost accepted = { is_row Timestamp };
 
     ghost reads = { λ _. ReadsThrough (λ v. v.0) (ReadsPlain (FormSigned w32) first_fault_short) };
 
@@ -51,8 +38,8 @@ impl<'a> FromSql<'a> for Short {
 
     ghost equivalence = { content_equivalence (λ v. v.0) };
 
-    ghost single = { λ _ _. through_single (λ v. v.0) (λ v w. v ≡ w) (ReadsPlain (FormSigned w32) first_fault_short)
-        (plain_single (λ v w. v ≡ w) (FormSigned w32) first_fault_short short_grammar) };
+    ghost single = { λ _ _. through_single (λ v. v.0) Equal (ReadsPlain (FormSigned w32) first_fault_short)
+        (plain_single Equal (FormSigned w32) first_fault_short short_grammar) };
 
     fn from_sql(_alloc: Global, _ty: &PgType, raw: &'a [u8]) -> Result<Short, Fault> {
         match int4_from_sql(raw) {
@@ -72,7 +59,7 @@ impl<'a> FromSql<'a> for Short {
 
 /// Appends the 4 bytes.
 impl ToSql for Short {
-    ghost accepted = { is_row TimestampRow };
+    ghost accepted = { is_row Timestamp };
 
     ghost name = { codes "Short" };
 
@@ -95,11 +82,8 @@ impl ToSql for Short {
         ty: &PgType,
         out: &mut BytesMut,
     ) -> Result<IsNull, Fault> {
-        if <Short as ToSql>::accepts(ty) {
-            self.to_sql(alloc, ty, out)
-        } else {
-            Err(wrong_type(ty, "Short"))
-        }
+        check_type(<Short as ToSql>::accepts(ty), ty, "Short")?;
+        self.to_sql(alloc, ty, out)
     }
 
     fn encode_format(&self, _ty: &PgType) -> Format {
@@ -109,12 +93,12 @@ impl ToSql for Short {
 
 /// Read back as itself.
 impl<'a> Paired<'a> for Short {
-    ghost back = { λ _ v. Through (λ w. w.0) (BackKept (λ v w. v ≡ w) v.0) };
+    ghost back = { λ _ v. Through (λ w. w.0) (BackKept Equal v.0) };
 
     ghost types = { λ _. refl };
 
-    ghost lawful = { λ _ _. through_lawful (λ v. v.0) (ReadsPlain (FormSigned w32) first_fault_short) (λ v w. v ≡ w)
-        (wire_signed w32) (BackKept (λ v w. v ≡ w))
+    ghost lawful = { λ _ _. through_lawful (λ v. v.0) (ReadsPlain (FormSigned w32) first_fault_short) Equal
+        (wire_signed w32) (BackKept Equal)
         (plain_lawful (λ z. z) (FormSigned w32) first_fault_short short_grammar (wire_signed w32) (signed_written w32)) };
 }
 
@@ -136,7 +120,7 @@ pub enum Gap {
 
 /// NULL is `Hole`, and 4 bytes are `Full` of the number. Any other length is `Size`, that of an empty cell too.
 impl<'a> FromSql<'a> for Gap {
-    ghost same = { λ v w. SameOption (λ x y. x ≡ y) (gap_view v) (gap_view w) };
+    ghost same = { λ v w. SameOption Equal (gap_view v) (gap_view w) };
 
     ghost accepted = { is_row Int4 };
 
@@ -144,12 +128,10 @@ impl<'a> FromSql<'a> for Gap {
 
     ghost memory_free = { EveryCell };
 
-    ghost equivalence = { inside_equivalence gap_view (SameOption (λ x y. x ≡ y))
-        (option_equivalence (λ x y. x ≡ y) equal_equivalence) };
+    ghost equivalence = { inside_equivalence gap_view (SameOption Equal) (option_equivalence Equal equal_equivalence) };
 
-    ghost single = { λ _ _. through_single gap_view (SameOption (λ x y. x ≡ y)) (ReadsOption (ReadsSigned w32))
-        (option_single (λ x y. x ≡ y) (ReadsSigned w32)
-        (plain_single (λ x y. x ≡ y) (FormSigned w32) (first_fault_number 4) int4_grammar)) };
+    ghost single = { λ _ _. through_single gap_view (SameOption Equal) (ReadsOption (ReadsSigned w32))
+        (option_single Equal (ReadsSigned w32) int4_single) };
 
     fn from_sql(_alloc: Global, _ty: &PgType, raw: &'a [u8]) -> Result<Gap, Fault> {
         Ok(Gap::Full(int4_from_sql(raw)?))
@@ -194,11 +176,8 @@ impl ToSql for Gap {
         ty: &PgType,
         out: &mut BytesMut,
     ) -> Result<IsNull, Fault> {
-        if <Gap as ToSql>::accepts(ty) {
-            self.to_sql(alloc, ty, out)
-        } else {
-            Err(wrong_type(ty, "Gap"))
-        }
+        check_type(<Gap as ToSql>::accepts(ty), ty, "Gap")?;
+        self.to_sql(alloc, ty, out)
     }
 
     fn encode_format(&self, _ty: &PgType) -> Format {
@@ -208,14 +187,13 @@ impl ToSql for Gap {
 
 /// Read back as itself.
 impl<'a> Paired<'a> for Gap {
-    ghost back = { λ _ v. Through gap_view (BackOption (wire_signed w32) (BackKept (λ x y. x ≡ y)) (gap_view v)) };
+    ghost back = { λ _ v. Through gap_view (BackOption (wire_signed w32) (BackKept Equal) (gap_view v)) };
 
     ghost types = { λ _. refl };
 
-    ghost lawful = { λ _ _. through_lawful gap_view (ReadsOption (ReadsSigned w32)) (SameOption (λ x y. x ≡ y))
-        (wire_option (wire_signed w32)) (BackOption (wire_signed w32) (BackKept (λ x y. x ≡ y)))
-        (option_lawful (λ x y. x ≡ y) (ReadsSigned w32) (wire_signed w32) (BackKept (λ x y. x ≡ y))
-        (signed_lawful w32 int4_grammar)) };
+    ghost lawful = { λ _ _. through_lawful gap_view (ReadsOption (ReadsSigned w32)) (SameOption Equal)
+        (wire_option (wire_signed w32)) (BackOption (wire_signed w32) (BackKept Equal))
+        (option_lawful Equal (ReadsSigned w32) (wire_signed w32) (BackKept Equal) int4_lawful) };
 }
 
 /// A TIMESTAMP as its number of microseconds since 2000-01-01, the infinities' numbers among them: 8 bytes,
@@ -226,7 +204,7 @@ pub struct Moment(pub i64);
 impl<'a> FromSql<'a> for Moment {
     ghost same = { λ v w. v.0 ≡ w.0 };
 
-    ghost accepted = { is_row TimestampRow };
+    ghost accepted = { is_row Timestamp };
 
     ghost reads = { λ _. ReadsThrough (λ v. v.0) (ReadsSigned w64) };
 
@@ -234,8 +212,7 @@ impl<'a> FromSql<'a> for Moment {
 
     ghost equivalence = { content_equivalence (λ v. v.0) };
 
-    ghost single = { λ _ _. through_single (λ v. v.0) (λ v w. v ≡ w) (ReadsSigned w64)
-        (plain_single (λ v w. v ≡ w) (FormSigned w64) (first_fault_number 8) int8_grammar) };
+    ghost single = { λ _ _. through_single (λ v. v.0) Equal (ReadsSigned w64) int8_single };
 
     fn from_sql(_alloc: Global, _ty: &PgType, raw: &'a [u8]) -> Result<Moment, Fault> {
         Ok(Moment(int8_from_sql(raw)?))
@@ -252,7 +229,7 @@ impl<'a> FromSql<'a> for Moment {
 
 /// Appends the 8 bytes.
 impl ToSql for Moment {
-    ghost accepted = { is_row TimestampRow };
+    ghost accepted = { is_row Timestamp };
 
     ghost name = { codes "Moment" };
 
@@ -275,11 +252,8 @@ impl ToSql for Moment {
         ty: &PgType,
         out: &mut BytesMut,
     ) -> Result<IsNull, Fault> {
-        if <Moment as ToSql>::accepts(ty) {
-            self.to_sql(alloc, ty, out)
-        } else {
-            Err(wrong_type(ty, "Moment"))
-        }
+        check_type(<Moment as ToSql>::accepts(ty), ty, "Moment")?;
+        self.to_sql(alloc, ty, out)
     }
 
     fn encode_format(&self, _ty: &PgType) -> Format {
@@ -289,12 +263,12 @@ impl ToSql for Moment {
 
 /// Read back as itself.
 impl<'a> Paired<'a> for Moment {
-    ghost back = { λ _ v. Through (λ w. w.0) (BackKept (λ v w. v ≡ w) v.0) };
+    ghost back = { λ _ v. Through (λ w. w.0) (BackKept Equal v.0) };
 
     ghost types = { λ _. refl };
 
-    ghost lawful = { λ _ _. through_lawful (λ v. v.0) (ReadsSigned w64) (λ v w. v ≡ w) (wire_signed w64)
-        (BackKept (λ v w. v ≡ w)) (signed_lawful w64 int8_grammar) };
+    ghost lawful = { λ _ _. through_lawful (λ v. v.0) (ReadsSigned w64) Equal (wire_signed w64)
+        (BackKept Equal) int8_lawful };
 }
 
 /// What is read from a finite cell is written as that cell.
@@ -321,8 +295,7 @@ impl<'a> FromSql<'a> for Picky {
 
     ghost equivalence = { content_equivalence (λ v. v.0) };
 
-    ghost single = { λ _ _. through_single (λ v. v.0) (λ v w. v ≡ w) (ReadsSigned w32)
-        (plain_single (λ v w. v ≡ w) (FormSigned w32) (first_fault_number 4) int4_grammar) };
+    ghost single = { λ _ _. through_single (λ v. v.0) Equal (ReadsSigned w32) int4_single };
 
     fn from_sql(_alloc: Global, _ty: &PgType, raw: &'a [u8]) -> Result<Picky, Fault> {
         Ok(Picky(int4_from_sql(raw)?))
@@ -365,11 +338,8 @@ impl ToSql for Picky {
         ty: &PgType,
         out: &mut BytesMut,
     ) -> Result<IsNull, Fault> {
-        if <Picky as ToSql>::accepts(ty) {
-            self.to_sql(alloc, ty, out)
-        } else {
-            Err(wrong_type(ty, "Picky"))
-        }
+        check_type(<Picky as ToSql>::accepts(ty), ty, "Picky")?;
+        self.to_sql(alloc, ty, out)
     }
 
     fn encode_format(&self, _ty: &PgType) -> Format {
@@ -379,12 +349,12 @@ impl ToSql for Picky {
 
 /// What is written is read back as itself.
 impl<'a> Paired<'a> for Picky {
-    ghost back = { λ _ v. Through (λ w. w.0) (BackKept (λ v w. v ≡ w) v.0) };
+    ghost back = { λ _ v. Through (λ w. w.0) (BackKept Equal v.0) };
 
     ghost types = { λ _. refl };
 
-    ghost lawful = { λ _ _. through_lawful (λ v. v.0) (ReadsSigned w32) (λ v w. v ≡ w)
-        (wire_constrained is_even (user (codes "odd")) (wire_signed w32)) (BackKept (λ v w. v ≡ w))
-        (refusing_lawful is_even (user (codes "odd")) (λ v w. v ≡ w) (ReadsSigned w32) (wire_signed w32)
-        (λ v w h. ap is_even h) (BackKept (λ v w. v ≡ w)) (signed_lawful w32 int4_grammar)) };
+    ghost lawful = { λ _ _. through_lawful (λ v. v.0) (ReadsSigned w32) Equal
+        (wire_constrained is_even (user (codes "odd")) (wire_signed w32)) (BackKept Equal)
+        (refusing_lawful is_even (user (codes "odd")) Equal (ReadsSigned w32) (wire_signed w32)
+        (λ v w h. ap is_even h) (BackKept Equal) int4_lawful) };
 }
