@@ -14,9 +14,9 @@ const LEN: usize = 1_048_576;
 const COUNT: usize = 1_000;
 
 /// The value is written into an empty buffer as a cell of that length.
-fn written<T: ToSql>(alloc: Global, value: &T, ty: &Type, len: usize) -> Result<BytesMut, Fail> {
+fn written<T: ToSql>(alloc: Global, value: &T, ty: Type, len: usize) -> Result<BytesMut, Fail> {
     let mut cell = BytesMut::new(alloc);
-    same(value.to_sql_checked(alloc, ty, &mut cell)?, IsNull::No)?;
+    same(value.to_sql_checked(alloc, &ty, &mut cell)?, IsNull::No)?;
     same(cell.len(), len)?;
     Ok(cell)
 }
@@ -25,22 +25,28 @@ fn written<T: ToSql>(alloc: Global, value: &T, ty: &Type, len: usize) -> Result<
 fn is_read<'a, T: FromSql<'a> + PartialEq>(
     alloc: Global,
     value: &T,
-    ty: &Type,
+    ty: Type,
     cell: &'a [u8],
 ) -> Result<(), Fail> {
-    let back: T = read(alloc, ty, Some(cell))?;
+    let back: T = read(alloc, &ty, Some(cell))?;
     holds(back == *value, "another value")
 }
 
 #[test]
-fn long_bytes_and_bits(rt: HostRuntime) -> Result<(), Fail> {
+fn long_bytes(rt: HostRuntime) -> Result<(), Fail> {
     let alloc = rt.alloc();
     let bytes = vec![in alloc; b'x'; LEN]?;
-    let cell = written(alloc, &bytes, &Type::BYTEA, LEN)?;
-    is_read(alloc, &bytes, &Type::BYTEA, cell.as_slice())?;
+    let cell = written(alloc, &bytes, Type::BYTEA, LEN)?;
+    is_read(alloc, &bytes, Type::BYTEA, cell.as_slice())
+}
+
+#[test]
+fn long_bits(rt: HostRuntime) -> Result<(), Fail> {
+    let alloc = rt.alloc();
+    let bytes = vec![in alloc; b'x'; LEN]?;
     let bits = BitVec::from_bytes(alloc, bytes.as_slice())?;
-    let cell = written(alloc, &bits, &Type::VARBIT, 1_048_580)?;
-    is_read(alloc, &bits, &Type::VARBIT, cell.as_slice())
+    let cell = written(alloc, &bits, Type::VARBIT, 1_048_580)?;
+    is_read(alloc, &bits, Type::VARBIT, cell.as_slice())
 }
 
 /// A JSON text of one string.
@@ -52,14 +58,20 @@ fn long_text(alloc: Global) -> Result<Vec<u8>, Fail> {
 }
 
 #[test]
-fn long_texts_and_documents(rt: HostRuntime) -> Result<(), Fail> {
+fn long_documents(rt: HostRuntime) -> Result<(), Fail> {
     let alloc = rt.alloc();
     let cell = long_text(alloc)?;
     let document: Value = read(alloc, &Type::JSON, Some(cell.as_slice()))?;
-    let again = written(alloc, &document, &Type::JSON, 1_048_578)?;
-    holds(again.as_slice() == cell.as_slice(), "another document")?;
+    let again = written(alloc, &document, Type::JSON, 1_048_578)?;
+    holds(again.as_slice() == cell.as_slice(), "another document")
+}
+
+#[test]
+fn long_texts(rt: HostRuntime) -> Result<(), Fail> {
+    let alloc = rt.alloc();
+    let cell = long_text(alloc)?;
     let text: String = read(alloc, &Type::TEXT, Some(cell.as_slice()))?;
-    let again = written(alloc, &text, &Type::TEXT, 1_048_578)?;
+    let again = written(alloc, &text, Type::TEXT, 1_048_578)?;
     holds(again.as_slice() == cell.as_slice(), "another text")
 }
 
@@ -67,9 +79,13 @@ fn long_texts_and_documents(rt: HostRuntime) -> Result<(), Fail> {
 fn long_lists(rt: HostRuntime) -> Result<(), Fail> {
     let alloc = rt.alloc();
     let list = vec![in alloc; 7i32; COUNT]?;
-    let cell = written(alloc, &list, &Type::INT4_ARRAY, 8_020)?;
-    is_read(alloc, &list, &Type::INT4_ARRAY, cell.as_slice())?;
+    let cell = written(alloc, &list, Type::INT4_ARRAY, 8_020)?;
+    is_read(alloc, &list, Type::INT4_ARRAY, cell.as_slice())
+}
+
+#[test]
+fn long_arrays(rt: HostRuntime) -> Result<(), Fail> {
     let array = [7i32; COUNT];
-    let cell = written(alloc, &array, &Type::INT4_ARRAY, 8_020)?;
-    is_read(alloc, &array, &Type::INT4_ARRAY, cell.as_slice())
+    let cell = written(rt.alloc(), &array, Type::INT4_ARRAY, 8_020)?;
+    is_read(rt.alloc(), &array, Type::INT4_ARRAY, cell.as_slice())
 }

@@ -18,16 +18,16 @@ fn kinds(alloc: Global) -> Result<Vec<Kind>, Fail> {
     let user = simple_type(alloc, "mood", 100_005, "app")?;
     let labels = vec![in alloc; text(alloc)?]?;
     let fields = vec![in alloc; field(alloc)?]?;
-    let mut kinds = Vec::with_capacity(alloc, 8)?;
-    kinds.push(Kind::Simple)?;
-    kinds.push(Kind::Enum(labels))?;
-    kinds.push(Kind::Pseudo)?;
-    kinds.push(Kind::Array(user))?;
-    kinds.push(Kind::Range(Type::INT4))?;
-    kinds.push(Kind::Multirange(Type::INT4))?;
-    kinds.push(Kind::Domain(Type::TEXT))?;
-    kinds.push(Kind::Composite(fields))?;
-    Ok(kinds)
+    Ok(vec![in alloc;
+        Kind::Simple,
+        Kind::Enum(labels),
+        Kind::Pseudo,
+        Kind::Array(user),
+        Kind::Range(Type::INT4),
+        Kind::Multirange(Type::INT4),
+        Kind::Domain(Type::TEXT),
+        Kind::Composite(fields),
+    ]?)
 }
 
 /// The kind, and a type of it, have copies.

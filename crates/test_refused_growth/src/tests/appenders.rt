@@ -224,9 +224,10 @@ const SEVEN_AND_NULL: [u8; 32] = [
 /// a => 1, b => NULL
 const HSTORE: &[u8] = b"\0\0\0\x02\0\0\0\x01a\0\0\0\x011\0\0\0\x01b\xff\xff\xff\xff";
 
-fn lists(alloc: Global, elements: &[Option<Vec<u8>>], target: &mut Target) -> Answered {
+fn lists(alloc: Global, target: &mut Target) -> Answered {
     target.leave(SEVEN_AND_NULL.len())?;
-    let appended = array_to_sql(alloc, 1, 23, elements, &mut target.out).is_ok();
+    let scratch = [0, 0, 0, 7];
+    let appended = array_to_sql(alloc, 1, 23, &scratch, &[Some(4), None], &mut target.out).is_ok();
     yes(appended && target.has(&SEVEN_AND_NULL), "array_to_sql")?;
     target.leave(HSTORE.len())?;
     let entries = [("a", Some("1")), ("b", None)];
@@ -236,12 +237,9 @@ fn lists(alloc: Global, elements: &[Option<Vec<u8>>], target: &mut Target) -> An
 
 #[test]
 fn bits_frames_and_lists_are_appended(rt: HostRuntime) -> Result<(), Fail> {
-    let alloc = rt.alloc();
-    let seven = Vec::from_slice(alloc, SEVEN)?;
-    let elements = vec![in alloc; Some(seven), None]?;
-    answer_without_memory(alloc, |alloc, target| {
+    answer_without_memory(rt.alloc(), |alloc, target| {
         bits_and_addresses(alloc, target)?;
         frames(alloc, target)?;
-        lists(alloc, elements.as_slice(), target)
+        lists(alloc, target)
     })
 }

@@ -154,7 +154,7 @@ fn dates_and_timestamps_are_read(rt: HostRuntime) -> Result<(), Fail> {
     })
 }
 
-/// Infinities, and finite values in their wrappers. `[T; N]` is read by way of a list, and stands not here.
+/// Infinities, and finite values in their wrappers.
 fn wrappers(alloc: Global) -> Answered {
     let (Ok(date), Some(unix)) = (
         civil::Date::new(2000, 1, 8),
@@ -181,6 +181,40 @@ fn wrappers(alloc: Global) -> Answered {
 #[test]
 fn infinities_are_read(rt: HostRuntime) -> Result<(), Fail> {
     answer_without_memory(rt.alloc(), |alloc, _target| wrappers(alloc))
+}
+
+/// The frame of the INT4 array of 1 and 2.
+const ONE_AND_TWO: &[u8] =
+    b"\0\0\0\x24\0\0\0\x01\0\0\0\0\0\0\0\x17\0\0\0\x02\0\0\0\x01\0\0\0\x04\0\0\0\x01\0\0\0\x04\0\0\0\x02";
+
+/// The frame of an INT4 array without a dimension.
+const EMPTY: &[u8] = b"\0\0\0\x0c\0\0\0\0\0\0\0\0\0\0\0\x17";
+
+/// Elements that take no memory are read in their places.
+fn arrays(alloc: Global) -> Answered {
+    yes(
+        reads_frame(alloc, &Type::INT4_ARRAY, ONE_AND_TWO, &[1i32, 2]),
+        "[i32; 2]",
+    )?;
+    yes(
+        reads_frame(
+            alloc,
+            &Type::INT4_ARRAY,
+            ONE_AND_TWO,
+            &[Some(1i32), Some(2)],
+        ),
+        "[Option<i32>; 2]",
+    )?;
+    let none: [i32; 0] = [];
+    yes(
+        reads_frame(alloc, &Type::INT4_ARRAY, EMPTY, &none),
+        "[i32; 0]",
+    )
+}
+
+#[test]
+fn arrays_are_read_without_memory(rt: HostRuntime) -> Result<(), Fail> {
+    answer_without_memory(rt.alloc(), |alloc, _target| arrays(alloc))
 }
 
 fn owned_nulls(alloc: Global, hstore: &Type) -> Answered {
