@@ -3,3 +3,4 @@
 mod nulls;
 mod refusals;
 mod timestamps;
+mod wrappers;
