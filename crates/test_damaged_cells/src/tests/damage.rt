@@ -155,7 +155,7 @@ pub fn all_fronts(
 
 /// Reading each cell as a `T`, by itself and from the front of a slice, gives a value or the fault that it is to be
 /// refused with, and the slice stands after the cell. Answers how many cells were read.
-pub fn read_damaged<'a, T: FromSql<'a>>(
+fn read_damaged<'a, T: FromSql<'a>>(
     alloc: Global,
     ty: &Type,
     cells: &'a [Damaged],
@@ -261,62 +261,78 @@ pub fn forms_of(alloc: Global, sample: Sample) -> Result<Forms, Fail> {
     })
 }
 
-/// The sample is read as a `T` and as an option of it, NULL as an option alone, and the damaged cells as they are to
-/// be. Answers how many damaged cells were read.
-pub fn read_plain<'a, T: FromSql<'a>>(
+/// So many damaged cells are read as `T`s, or refused.
+///
+/// The tests hand in their types: a type that a test itself has to drop makes it several times as long to prove.
+pub fn reads_damaged<'a, T: FromSql<'a>>(
     alloc: Global,
-    ty: &Type,
+    ty: Type,
+    cells: &'a [Damaged],
+    count: usize,
+) -> Result<(), Fail> {
+    same(read_damaged::<T>(alloc, &ty, cells)?, count)
+}
+
+/// The sample is read as a `T` and as an option of it, NULL as an option alone, and so many damaged cells as they are
+/// to be.
+pub fn reads_plain<'a, T: FromSql<'a>>(
+    alloc: Global,
+    ty: Type,
     forms: &'a Forms,
-) -> Result<[usize; 2], Fail> {
+    count: usize,
+) -> Result<(), Fail> {
     let whole = Some(forms.plain.as_slice());
-    same(refusal::<T>(alloc, ty, whole), 0)?;
-    same(refusal::<T>(alloc, ty, None), WAS_NULL)?;
-    same(refusal::<Option<T>>(alloc, ty, None), 0)?;
+    same(refusal::<T>(alloc, &ty, whole), 0)?;
+    same(refusal::<T>(alloc, &ty, None), WAS_NULL)?;
+    same(refusal::<Option<T>>(alloc, &ty, None), 0)?;
     let cells = forms.damaged.as_slice();
-    let plain = read_damaged::<T>(alloc, ty, cells)?;
-    let optional = read_damaged::<Option<T>>(alloc, ty, cells)?;
-    Ok([plain, optional])
+    let plain = read_damaged::<T>(alloc, &ty, cells)?;
+    let optional = read_damaged::<Option<T>>(alloc, &ty, cells)?;
+    same([plain, optional], [count, count])
 }
 
 /// The same of the array of the sample, as a list of `T` and of options.
-pub fn read_lists<'a, T: FromSql<'a>>(
+fn reads_lists<'a, T: FromSql<'a>>(
     alloc: Global,
-    ty: &Type,
+    ty: Type,
     forms: &'a Forms,
-) -> Result<[usize; 2], Fail> {
+    count: usize,
+) -> Result<(), Fail> {
     let whole = Some(forms.array.as_slice());
-    same(refusal::<Vec<T>>(alloc, ty, whole), 0)?;
-    same(refusal::<Vec<T>>(alloc, ty, None), WAS_NULL)?;
-    let list = read_damaged::<Vec<T>>(alloc, ty, forms.damaged_array.as_slice())?;
+    same(refusal::<Vec<T>>(alloc, &ty, whole), 0)?;
+    same(refusal::<Vec<T>>(alloc, &ty, None), WAS_NULL)?;
+    let list = read_damaged::<Vec<T>>(alloc, &ty, forms.damaged_array.as_slice())?;
     let cells = forms.damaged_nullable_array.as_slice();
-    let nullable = read_damaged::<Vec<Option<T>>>(alloc, ty, cells)?;
-    Ok([list, nullable])
+    let nullable = read_damaged::<Vec<Option<T>>>(alloc, &ty, cells)?;
+    same([list, nullable], [count, count])
 }
 
-/// The damaged arrays are read as a `T` and as an option of it. Answers how many.
-pub fn read_arrays<'a, T: FromSql<'a>>(
+/// So many damaged arrays are read as a `T` and as an option of it.
+pub fn reads_arrays<'a, T: FromSql<'a>>(
     alloc: Global,
-    ty: &Type,
+    ty: Type,
     forms: &'a Forms,
-) -> Result<[usize; 2], Fail> {
-    same(refusal::<T>(alloc, ty, Some(forms.array.as_slice())), 0)?;
+    count: usize,
+) -> Result<(), Fail> {
+    same(refusal::<T>(alloc, &ty, Some(forms.array.as_slice())), 0)?;
     let cells = forms.damaged_array.as_slice();
-    let plain = read_damaged::<T>(alloc, ty, cells)?;
-    let optional = read_damaged::<Option<T>>(alloc, ty, cells)?;
-    Ok([plain, optional])
+    let plain = read_damaged::<T>(alloc, &ty, cells)?;
+    let optional = read_damaged::<Option<T>>(alloc, &ty, cells)?;
+    same([plain, optional], [count, count])
 }
 
 /// All four forms of a type and of its array type: so many damaged cells are read as values or refused, of the type and
 /// of the array type.
 pub fn reads_all_forms<'a, T: FromSql<'a>>(
     alloc: Global,
-    types: (&Type, &Type),
+    types: (Type, Type),
     forms: &'a Forms,
     counts: (usize, usize),
 ) -> Result<(), Fail> {
+    let (ty, array_type) = types;
     let (plain, array) = counts;
-    same(read_plain::<T>(alloc, types.0, forms)?, [plain, plain])?;
-    same(read_lists::<T>(alloc, types.1, forms)?, [array, array])
+    reads_plain::<T>(alloc, ty, forms, plain)?;
+    reads_lists::<T>(alloc, array_type, forms, array)
 }
 
 /// Cells and the numbers of their faults.

@@ -37,34 +37,45 @@ const TIMESTAMP: Sample = Sample {
 fn damaged_dates(rt: HostRuntime) -> Result<(), Fail> {
     let alloc = rt.alloc();
     let forms = forms_of(alloc, DATE)?;
-    let types = (&Type::DATE, &Type::DATE_ARRAY);
-    reads_all_forms::<civil::Date>(alloc, types, &forms, (24, 144))?;
-    reads_all_forms::<Date<civil::Date>>(alloc, types, &forms, (24, 144))
+    reads_all_forms::<civil::Date>(alloc, (Type::DATE, Type::DATE_ARRAY), &forms, (24, 144))?;
+    reads_all_forms::<Date<civil::Date>>(alloc, (Type::DATE, Type::DATE_ARRAY), &forms, (24, 144))
 }
 
 #[test]
 fn damaged_times(rt: HostRuntime) -> Result<(), Fail> {
     let alloc = rt.alloc();
     let forms = forms_of(alloc, TIME)?;
-    let types = (&Type::TIME, &Type::TIME_ARRAY);
-    reads_all_forms::<civil::Time>(alloc, types, &forms, (44, 164))
+    reads_all_forms::<civil::Time>(alloc, (Type::TIME, Type::TIME_ARRAY), &forms, (44, 164))
 }
 
 #[test]
 fn damaged_timestamps(rt: HostRuntime) -> Result<(), Fail> {
     let alloc = rt.alloc();
     let forms = forms_of(alloc, TIMESTAMP)?;
-    let types = (&Type::TIMESTAMP, &Type::TIMESTAMP_ARRAY);
-    reads_all_forms::<civil::DateTime>(alloc, types, &forms, (44, 164))?;
-    reads_all_forms::<Timestamp<civil::DateTime>>(alloc, types, &forms, (44, 164))
+    reads_all_forms::<civil::DateTime>(
+        alloc,
+        (Type::TIMESTAMP, Type::TIMESTAMP_ARRAY),
+        &forms,
+        (44, 164),
+    )?;
+    reads_all_forms::<Timestamp<civil::DateTime>>(
+        alloc,
+        (Type::TIMESTAMP, Type::TIMESTAMP_ARRAY),
+        &forms,
+        (44, 164),
+    )
 }
 
 #[test]
 fn damaged_timestamps_with_time_zone(rt: HostRuntime) -> Result<(), Fail> {
     let alloc = rt.alloc();
     let forms = forms_of(alloc, TIMESTAMP)?;
-    let types = (&Type::TIMESTAMPTZ, &Type::TIMESTAMPTZ_ARRAY);
-    reads_all_forms::<jiff::Timestamp>(alloc, types, &forms, (44, 164))
+    reads_all_forms::<jiff::Timestamp>(
+        alloc,
+        (Type::TIMESTAMPTZ, Type::TIMESTAMPTZ_ARRAY),
+        &forms,
+        (44, 164),
+    )
 }
 
 /// Every count of microseconds is a value.
@@ -72,7 +83,16 @@ fn damaged_timestamps_with_time_zone(rt: HostRuntime) -> Result<(), Fail> {
 fn damaged_unix_times(rt: HostRuntime) -> Result<(), Fail> {
     let alloc = rt.alloc();
     let forms = forms_of(alloc, fixed_width(TIMESTAMP.cell))?;
-    let types = (&Type::TIMESTAMP, &Type::TIMESTAMP_ARRAY);
-    reads_all_forms::<UnixTime>(alloc, types, &forms, (44, 164))?;
-    reads_all_forms::<Timestamp<UnixTime>>(alloc, types, &forms, (44, 164))
+    reads_all_forms::<UnixTime>(
+        alloc,
+        (Type::TIMESTAMP, Type::TIMESTAMP_ARRAY),
+        &forms,
+        (44, 164),
+    )?;
+    reads_all_forms::<Timestamp<UnixTime>>(
+        alloc,
+        (Type::TIMESTAMP, Type::TIMESTAMP_ARRAY),
+        &forms,
+        (44, 164),
+    )
 }

@@ -26,14 +26,12 @@ const JSON: Sample = Sample {
 fn damaged_jsonb(rt: HostRuntime) -> Result<(), Fail> {
     let alloc = rt.alloc();
     let forms = forms_of(alloc, JSONB)?;
-    let types = (&Type::JSONB, &Type::JSONB_ARRAY);
-    reads_all_forms::<Value>(alloc, types, &forms, (19, 139))
+    reads_all_forms::<Value>(alloc, (Type::JSONB, Type::JSONB_ARRAY), &forms, (19, 139))
 }
 
 #[test]
 fn damaged_json(rt: HostRuntime) -> Result<(), Fail> {
     let alloc = rt.alloc();
     let forms = forms_of(alloc, JSON)?;
-    let types = (&Type::JSON, &Type::JSON_ARRAY);
-    reads_all_forms::<Value>(alloc, types, &forms, (14, 134))
+    reads_all_forms::<Value>(alloc, (Type::JSON, Type::JSON_ARRAY), &forms, (14, 134))
 }

@@ -56,35 +56,35 @@ const CIDR: Sample = Sample {
 fn damaged_bits(rt: HostRuntime) -> Result<(), Fail> {
     let alloc = rt.alloc();
     let forms = forms_of(alloc, BITS)?;
-    let varbit = (&Type::VARBIT, &Type::VARBIT_ARRAY);
-    reads_all_forms::<BitVec>(alloc, varbit, &forms, (29, 149))?;
-    let bit = (&Type::BIT, &Type::BIT_ARRAY);
-    reads_all_forms::<BitVec>(alloc, bit, &forms, (29, 149))
+    reads_all_forms::<BitVec>(alloc, (Type::VARBIT, Type::VARBIT_ARRAY), &forms, (29, 149))?;
+    reads_all_forms::<BitVec>(alloc, (Type::BIT, Type::BIT_ARRAY), &forms, (29, 149))
 }
 
 #[test]
 fn damaged_addresses(rt: HostRuntime) -> Result<(), Fail> {
     let alloc = rt.alloc();
     let forms = forms_of(alloc, INET)?;
-    let types = (&Type::INET, &Type::INET_ARRAY);
-    reads_all_forms::<IpInet>(alloc, types, &forms, (44, 164))?;
-    reads_all_forms::<IpAddr>(alloc, types, &forms, (44, 164))
+    reads_all_forms::<IpInet>(alloc, (Type::INET, Type::INET_ARRAY), &forms, (44, 164))?;
+    reads_all_forms::<IpAddr>(alloc, (Type::INET, Type::INET_ARRAY), &forms, (44, 164))
 }
 
 #[test]
 fn damaged_networks(rt: HostRuntime) -> Result<(), Fail> {
     let alloc = rt.alloc();
     let forms = forms_of(alloc, CIDR)?;
-    let types = (&Type::CIDR, &Type::CIDR_ARRAY);
-    reads_all_forms::<IpCidr>(alloc, types, &forms, (44, 164))
+    reads_all_forms::<IpCidr>(alloc, (Type::CIDR, Type::CIDR_ARRAY), &forms, (44, 164))
 }
 
 #[test]
 fn damaged_mac_addresses(rt: HostRuntime) -> Result<(), Fail> {
     let alloc = rt.alloc();
     let forms = forms_of(alloc, fixed_width(&[8, 0, 0x2b, 1, 2, 3]))?;
-    let types = (&Type::MACADDR, &Type::MACADDR_ARRAY);
-    reads_all_forms::<MacAddress>(alloc, types, &forms, (34, 154))
+    reads_all_forms::<MacAddress>(
+        alloc,
+        (Type::MACADDR, Type::MACADDR_ARRAY),
+        &forms,
+        (34, 154),
+    )
 }
 
 #[test]
@@ -92,14 +92,12 @@ fn damaged_uuids(rt: HostRuntime) -> Result<(), Fail> {
     let alloc = rt.alloc();
     let uuid = [1, 2, 3, 4, 5, 6, 7, 8, 9, 10, 11, 12, 13, 14, 15, 16];
     let forms = forms_of(alloc, fixed_width(&uuid))?;
-    let types = (&Type::UUID, &Type::UUID_ARRAY);
-    reads_all_forms::<Uuid>(alloc, types, &forms, (84, 204))
+    reads_all_forms::<Uuid>(alloc, (Type::UUID, Type::UUID_ARRAY), &forms, (84, 204))
 }
 
 #[test]
 fn damaged_log_positions(rt: HostRuntime) -> Result<(), Fail> {
     let alloc = rt.alloc();
     let forms = forms_of(alloc, fixed_width(&[0, 0, 0, 0x16, 0xb3, 0x74, 0xd8, 0x48]))?;
-    let types = (&Type::PG_LSN, &Type::PG_LSN_ARRAY);
-    reads_all_forms::<PgLsn>(alloc, types, &forms, (44, 164))
+    reads_all_forms::<PgLsn>(alloc, (Type::PG_LSN, Type::PG_LSN_ARRAY), &forms, (44, 164))
 }

@@ -1,6 +1,6 @@
 //! Whole cells of which every proper front is read, and cells that are damaged on purpose.
 
-use super::damage::{ALL_SIZE, all_fronts, damaged_rows, read_damaged};
+use super::damage::{ALL_SIZE, all_fronts, damaged_rows, reads_damaged};
 use postgres_types::private::read_value;
 use postgres_types::{BitVec, Fault, IpInet, Type};
 use rows::code::{COUNT, JSON_TEXT, KEY_LENGTH, SIZE, TEXT_VERSION, UTF8};
@@ -30,51 +30,49 @@ fn hstore(alloc: Global) -> Result<Type, Fault> {
 #[test]
 fn fronts_of_arrays(rt: HostRuntime) -> Result<(), Fail> {
     let fronts = all_fronts(rt.alloc(), &ONE_AND_TWO, ALL_SIZE)?;
-    let ty = &Type::INT4_ARRAY;
-    same(
-        read_damaged::<Vec<i32>>(rt.alloc(), ty, fronts.as_slice())?,
-        36,
-    )
+    reads_damaged::<Vec<i32>>(rt.alloc(), Type::INT4_ARRAY, fronts.as_slice(), 36)
 }
 
 #[test]
 fn fronts_of_hstores(rt: HostRuntime) -> Result<(), Fail> {
     let fronts = all_fronts(rt.alloc(), &HSTORE, ALL_SIZE)?;
     let ty = hstore(rt.alloc())?;
-    same(read_damaged::<Map>(rt.alloc(), &ty, fronts.as_slice())?, 23)
+    reads_damaged::<Map>(rt.alloc(), ty, fronts.as_slice(), 23)
 }
 
 #[test]
-fn fronts_of_addresses_and_bits(rt: HostRuntime) -> Result<(), Fail> {
-    let alloc = rt.alloc();
-    let fronts = all_fronts(alloc, &[2, 8, 0, 4, 0x0a, 1, 2, 3], ALL_SIZE)?;
-    same(
-        read_damaged::<IpInet>(alloc, &Type::INET, fronts.as_slice())?,
-        8,
-    )?;
-    let fronts = all_fronts(alloc, &[0, 0, 0, 3, 0xbf], ALL_SIZE)?;
-    same(
-        read_damaged::<BitVec>(alloc, &Type::VARBIT, fronts.as_slice())?,
-        5,
-    )
+fn fronts_of_addresses(rt: HostRuntime) -> Result<(), Fail> {
+    let fronts = all_fronts(rt.alloc(), &[2, 8, 0, 4, 0x0a, 1, 2, 3], ALL_SIZE)?;
+    reads_damaged::<IpInet>(rt.alloc(), Type::INET, fronts.as_slice(), 8)
+}
+
+#[test]
+fn fronts_of_bits(rt: HostRuntime) -> Result<(), Fail> {
+    let fronts = all_fronts(rt.alloc(), &[0, 0, 0, 3, 0xbf], ALL_SIZE)?;
+    reads_damaged::<BitVec>(rt.alloc(), Type::VARBIT, fronts.as_slice(), 5)
 }
 
 #[test]
 fn fronts_of_documents(rt: HostRuntime) -> Result<(), Fail> {
     let fronts = all_fronts(rt.alloc(), b"\x01\x7b\x7d", &[(1, SIZE), (2, JSON_TEXT)])?;
-    same(
-        read_damaged::<Value>(rt.alloc(), &Type::JSONB, fronts.as_slice())?,
-        3,
-    )
+    reads_damaged::<Value>(rt.alloc(), Type::JSONB, fronts.as_slice(), 3)
+}
+
+fn ltree(alloc: Global) -> Result<Type, Fault> {
+    simple_type(alloc, "ltree", 100_001, "public")
 }
 
 #[test]
 fn fronts_of_ltrees(rt: HostRuntime) -> Result<(), Fail> {
     let alloc = rt.alloc();
-    let ty = simple_type(alloc, "ltree", 100_001, "public")?;
     let fronts = all_fronts(alloc, b"\x01\x61", &[(1, TEXT_VERSION), (1, 0)])?;
-    same(read_damaged::<String>(alloc, &ty, fronts.as_slice())?, 2)?;
-    reads(alloc, &ty, &[1], String::new(alloc))
+    reads_damaged::<String>(alloc, ltree(alloc)?, fronts.as_slice(), 2)
+}
+
+#[test]
+fn the_empty_ltree_is_read(rt: HostRuntime) -> Result<(), Fail> {
+    let ty = ltree(rt.alloc())?;
+    reads(rt.alloc(), &ty, &[1], String::new(rt.alloc()))
 }
 
 /// Two elements of at most 2,147,483,647, a negative number of dimensions, and no dimension with a trailing byte.
@@ -103,33 +101,28 @@ const TEXTS: [(&[u8], u32); 3] = [
 ];
 
 #[test]
-fn false_arrays_and_hstores_are_refused(rt: HostRuntime) -> Result<(), Fail> {
-    let alloc = rt.alloc();
-    let arrays = damaged_rows(alloc, &ARRAYS)?;
-    same(
-        read_damaged::<Vec<i32>>(alloc, &Type::INT4_ARRAY, arrays.as_slice())?,
-        3,
-    )?;
-    let hstores = damaged_rows(alloc, &HSTORES)?;
-    same(
-        read_damaged::<Map>(alloc, &hstore(alloc)?, hstores.as_slice())?,
-        3,
-    )
+fn false_arrays_are_refused(rt: HostRuntime) -> Result<(), Fail> {
+    let cells = damaged_rows(rt.alloc(), &ARRAYS)?;
+    reads_damaged::<Vec<i32>>(rt.alloc(), Type::INT4_ARRAY, cells.as_slice(), 3)
 }
 
 #[test]
-fn false_bits_and_texts_are_refused(rt: HostRuntime) -> Result<(), Fail> {
-    let alloc = rt.alloc();
-    let bits = damaged_rows(alloc, &BITS)?;
-    same(
-        read_damaged::<BitVec>(alloc, &Type::VARBIT, bits.as_slice())?,
-        2,
-    )?;
-    let texts = damaged_rows(alloc, &TEXTS)?;
-    same(
-        read_damaged::<String>(alloc, &Type::TEXT, texts.as_slice())?,
-        3,
-    )
+fn false_hstores_are_refused(rt: HostRuntime) -> Result<(), Fail> {
+    let cells = damaged_rows(rt.alloc(), &HSTORES)?;
+    let ty = hstore(rt.alloc())?;
+    reads_damaged::<Map>(rt.alloc(), ty, cells.as_slice(), 3)
+}
+
+#[test]
+fn false_bits_are_refused(rt: HostRuntime) -> Result<(), Fail> {
+    let cells = damaged_rows(rt.alloc(), &BITS)?;
+    reads_damaged::<BitVec>(rt.alloc(), Type::VARBIT, cells.as_slice(), 2)
+}
+
+#[test]
+fn false_texts_are_refused(rt: HostRuntime) -> Result<(), Fail> {
+    let cells = damaged_rows(rt.alloc(), &TEXTS)?;
+    reads_damaged::<String>(rt.alloc(), Type::TEXT, cells.as_slice(), 3)
 }
 
 /// The array of NULL, whose length is 80000000, and as it is written.

@@ -1,9 +1,9 @@
 //! Texts, bytes and hstore.
 
-use super::damage::{ALL_SIZE, Faults, Sample, forms_of, read_plain, reads_all_forms};
+use super::damage::{ALL_SIZE, Faults, Sample, forms_of, reads_all_forms, reads_plain};
 use postgres_types::Type;
 use rows::code::{COUNT, KEY_LENGTH, SIZE, TEXT_VERSION, UTF8};
-use rows::{same, simple_type};
+use rows::simple_type;
 use std::borrow::CowStr;
 use std::boxed::BoxedStr;
 use std::collections::HashMap;
@@ -81,22 +81,18 @@ fn damaged_texts(rt: HostRuntime) -> Result<(), Fail> {
         (Type::NAME, Type::NAME_ARRAY),
     ];
     for (ty, array) in types {
-        reads_all_forms::<String>(alloc, (&ty, &array), &forms, (19, 139))?;
+        reads_all_forms::<String>(alloc, (ty, array), &forms, (19, 139))?;
     }
-    same(
-        read_plain::<String>(alloc, &Type::UNKNOWN, &forms)?,
-        [19, 19],
-    )
+    reads_plain::<String>(alloc, Type::UNKNOWN, &forms, 19)
 }
 
 #[test]
 fn damaged_texts_of_other_forms(rt: HostRuntime) -> Result<(), Fail> {
     let alloc = rt.alloc();
     let forms = forms_of(alloc, TEXT)?;
-    let types = (&Type::TEXT, &Type::TEXT_ARRAY);
-    reads_all_forms::<&str>(alloc, types, &forms, (19, 139))?;
-    reads_all_forms::<CowStr>(alloc, types, &forms, (19, 139))?;
-    reads_all_forms::<BoxedStr>(alloc, types, &forms, (19, 139))
+    reads_all_forms::<&str>(alloc, (Type::TEXT, Type::TEXT_ARRAY), &forms, (19, 139))?;
+    reads_all_forms::<CowStr>(alloc, (Type::TEXT, Type::TEXT_ARRAY), &forms, (19, 139))?;
+    reads_all_forms::<BoxedStr>(alloc, (Type::TEXT, Type::TEXT_ARRAY), &forms, (19, 139))
 }
 
 #[test]
@@ -105,7 +101,7 @@ fn damaged_ltrees(rt: HostRuntime) -> Result<(), Fail> {
     let forms = forms_of(alloc, LTREE)?;
     for name in ["ltree", "lquery", "ltxtquery"] {
         let ty = simple_type(alloc, name, 100_001, "public")?;
-        same(read_plain::<String>(alloc, &ty, &forms)?, [14, 14])?;
+        reads_plain::<String>(alloc, ty, &forms, 14)?;
     }
     Ok(())
 }
@@ -114,9 +110,8 @@ fn damaged_ltrees(rt: HostRuntime) -> Result<(), Fail> {
 fn damaged_bytes(rt: HostRuntime) -> Result<(), Fail> {
     let alloc = rt.alloc();
     let forms = forms_of(alloc, BYTEA)?;
-    let types = (&Type::BYTEA, &Type::BYTEA_ARRAY);
-    reads_all_forms::<Vec<u8>>(alloc, types, &forms, (19, 139))?;
-    reads_all_forms::<&[u8]>(alloc, types, &forms, (19, 139))
+    reads_all_forms::<Vec<u8>>(alloc, (Type::BYTEA, Type::BYTEA_ARRAY), &forms, (19, 139))?;
+    reads_all_forms::<&[u8]>(alloc, (Type::BYTEA, Type::BYTEA_ARRAY), &forms, (19, 139))
 }
 
 #[test]
@@ -124,5 +119,5 @@ fn damaged_hstores(rt: HostRuntime) -> Result<(), Fail> {
     let alloc = rt.alloc();
     let ty = simple_type(alloc, "hstore", 100_002, "public")?;
     let forms = forms_of(alloc, HSTORE)?;
-    same(read_plain::<Map>(alloc, &ty, &forms)?, [119, 119])
+    reads_plain::<Map>(alloc, ty, &forms, 119)
 }
