@@ -54,7 +54,7 @@ fn writes_checked<T: ToSql>(alloc: Global, value: &T, ty: &Type, cell: &[u8]) ->
 /// Each call writes the value as the cell into an empty buffer.
 ///
 /// The rows hand in their types, and answer `bool`: a type that a test itself has to drop, and a fault on the way out
-/// of it, would make each row several times as long to prove.
+/// of it, would make each row longer to prove.
 fn writes<T: ToSql>(alloc: Global, value: &T, ty: Type, cell: &[u8]) -> bool {
     if !T::accepts(&ty) {
         return false;

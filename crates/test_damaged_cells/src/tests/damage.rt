@@ -263,7 +263,7 @@ pub fn forms_of(alloc: Global, sample: Sample) -> Result<Forms, Fail> {
 
 /// So many damaged cells are read as `T`s, or refused.
 ///
-/// The tests hand in their types: a type that a test itself has to drop makes it several times as long to prove.
+/// The tests hand in their types: a type that a test itself has to drop makes its proof longer.
 pub fn reads_damaged<'a, T: FromSql<'a>>(
     alloc: Global,
     ty: Type,
