@@ -1,5 +1,6 @@
 //! A newtype over a plain format: days since 2000-01-01, sent as DATE.
-ghost use Rattle.postgres_types.specs.Conversion.{◌≡◌, BackKept, Date, Equal, EveryCell, ReadsSigned, ReadsThrough};
+ghost use Rattle.std.specs.Prelude.{◌≡◌};
+ghost use Rattle.postgres_types.specs.Conversion.{BackKept, Date, Equal, EveryCell, ReadsSigned, ReadsThrough};
 ghost use Rattle.postgres_types.specs.Conversion.{Through, codes, content_equivalence, int4_lawful, int4_single, is_row};
 ghost use Rattle.postgres_types.specs.Conversion.{refl, signed_finite, through_lawful, through_single, w32, w64, wire_signed};
 

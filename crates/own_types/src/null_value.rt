@@ -1,6 +1,7 @@
 //! A value for NULL: a rating by stars, sent as INT2, of which NULL is the value "unrated".
 ghost use Rattle.own_types.specs.Ratings.{stars};
-ghost use Rattle.postgres_types.specs.Conversion.{◌≡◌, BackKept, BackOption, Equal, EveryCell, Int2, ReadsOption};
+ghost use Rattle.std.specs.Prelude.{◌≡◌};
+ghost use Rattle.postgres_types.specs.Conversion.{BackKept, BackOption, Equal, EveryCell, Int2, ReadsOption};
 ghost use Rattle.postgres_types.specs.Conversion.{ReadsSigned, ReadsThrough, SameOption, Through, codes, equal_equivalence};
 ghost use Rattle.postgres_types.specs.Conversion.{inside_equivalence, int2_lawful, int2_single, is_row, option_equivalence};
 ghost use Rattle.postgres_types.specs.Conversion.{option_lawful, option_single, refl, through_lawful, through_single, w16};

@@ -1,7 +1,8 @@
 //! A constraint: a percentage, sent as INT2, which is refused below 0 and above 100 in both directions.
 ghost use Rattle.own_types.specs.Percentages.{ReadsPercentage, is_percentage, no_percentage, percentage_lawful};
 ghost use Rattle.own_types.specs.Percentages.{percentage_single, wire_percentage};
-ghost use Rattle.postgres_types.specs.Conversion.{◌≡◌, BackKept, Constrained, Equal, EveryCell, Int2, ReadsThrough};
+ghost use Rattle.std.specs.Prelude.{◌≡◌};
+ghost use Rattle.postgres_types.specs.Conversion.{BackKept, Constrained, Equal, EveryCell, Int2, ReadsThrough};
 ghost use Rattle.postgres_types.specs.Conversion.{Through, codes, content_equivalence, is_row, refl, through_lawful};
 ghost use Rattle.postgres_types.specs.Conversion.{through_single};
 

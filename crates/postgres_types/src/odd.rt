@@ -1,6 +1,7 @@
 //! Conversions with rules of their own, as a user may write them: a width of its own, a value for NULL, a timestamp
 //! as a number, and a refusal in writing.
-ghost use Rattle.postgres_types.specs.Conversion.{◌≡◌, BackKept, BackOption, Equal, EveryCell, FormSigned, Int4};
+ghost use Rattle.std.specs.Prelude.{◌≡◌};
+ghost use Rattle.postgres_types.specs.Conversion.{BackKept, BackOption, Equal, EveryCell, FormSigned, Int4};
 ghost use Rattle.postgres_types.specs.Conversion.{ReadsOption, ReadsPlain, ReadsSigned, ReadsThrough, SameOption};
 ghost use Rattle.postgres_types.specs.Conversion.{Through, Timestamp, ap, codes, content_equivalence};
 ghost use Rattle.postgres_types.specs.Conversion.{equal_equivalence, inside_equivalence, int4_lawful, int4_single};
