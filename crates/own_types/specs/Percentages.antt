@@ -1,5 +1,6 @@
 -- Percentages: the integers from 0 to 100.
-use Rattle.postgres_types.specs.Conversion.{◌&&◌, ℤ, BackKept, Bool, Cell, Constrained, Equal, IsLawful, Outcome}
+use Rattle.std.specs.Prelude.{◌&&◌}
+use Rattle.postgres_types.specs.Conversion.{ℤ, BackKept, Bool, Cell, Constrained, Equal, IsLawful, Outcome}
 use Rattle.postgres_types.specs.Conversion.{ReadsConstrained, ReadsSigned, ReadsSingle, Refusal, Wire, ap, codes}
 use Rattle.postgres_types.specs.Conversion.{constrained_lawful, constrained_single, int2_lawful, int2_single, int_le, pos}
 use Rattle.postgres_types.specs.Conversion.{user, w16, wire_constrained, wire_signed}

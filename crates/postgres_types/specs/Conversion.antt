@@ -1,4 +1,4 @@
--- What a conversion of one's own cites, in one import.
+-- What a conversion of one's own cites, in one import; operators come from the Prelude of std.
 use Rattle.std.specs.Prelude.{◌≡◌, ℤ}
 use Rattle.std.specs.Int.{w16, w32, w64}
 use Rattle.pg_base.proofs.FormatLaws.{int2_grammar, int4_grammar, int8_grammar}
@@ -7,7 +7,7 @@ use Rattle.pg_read.specs.Reading.{ReadsSingle}
 use Rattle.pg_read.specs.ReadingLaws.{plain_single}
 use Rattle.postgres_types.specs.FormatBackLaws.{signed_lawful}
 use Rattle.postgres_types.specs.ReadingBack.{BackKept, IsLawful}
-pub use Rattle.std.specs.Prelude.{◌≡◌, ◌&&◌, ◌||◌, ℤ, Option, Some, None, Bool, codes, int_le, int_lt, negsuc, pos, refl}
+pub use Rattle.std.specs.Prelude.{ℤ, Option, Some, None, Bool, codes, int_le, int_lt, negsuc, pos, refl}
 pub use Rattle.std.proofs.Common.{ap}
 pub use Rattle.std.specs.Int.{w16, w32, w64}
 pub use Rattle.pg_types.specs.Content.{is_row}
