@@ -1,18 +1,25 @@
 //! Calls with ample memory, and where every growth is refused.
+ghost use Rattle.std.specs.Prelude.{◌≤◌, length};
 
 use postgres_types::private::{BytesMut, read_value};
-use postgres_types::{Fault, FromSql, IsNull, ToSql, Type};
+use postgres_types::{Fault, FromSql, IsNull, REASON_LEN, ToSql, Type};
 use rows::code::WAS_NULL;
 use rows::{fault_code, hoard, holds, read};
 use std::alloc::Global;
 use std::test::Fail;
 
 /// All calls have answered their values, or the name of one that has not.
-pub type Answered = Result<(), &'static str>;
+pub type Answered = Result<(), Fault>;
 
 /// What is said of the call of that name holds.
-pub fn yes(answered: bool, name: &'static str) -> Answered {
-    if answered { Ok(()) } else { Err(name) }
+pub fn yes(answered: bool, name: &'static str) -> Answered
+    requires { length name.now ≤ REASON_LEN }
+{
+    if answered {
+        Ok(())
+    } else {
+        Err(Fault::user(name))
+    }
 }
 
 /// Where a write appends: an empty buffer, or one with exactly the room of what is appended.
@@ -30,7 +37,7 @@ impl Target {
             return Ok(());
         }
         let Some(filled) = self.out.capacity().checked_sub(len) else {
-            return Err("the buffer is too small");
+            return Err(Fault::user("the buffer is too small"));
         };
         yes(self.out.resize(filled, 0).is_ok(), "the buffer has no room")
     }
@@ -121,7 +128,7 @@ pub fn reads_null<'a, T: FromSql<'a>>(alloc: Global, ty: &Type) -> bool {
 /// The framed cell is read as the value: by itself, as an option, and from the front; and NULL as an option alone.
 pub fn reads_frame<'a, T: FromSql<'a> + PartialEq>(
     alloc: Global,
-    ty: Type,
+    ty: &Type,
     frame: &'a [u8],
     value: &T,
 ) -> bool {
@@ -129,30 +136,30 @@ pub fn reads_frame<'a, T: FromSql<'a> + PartialEq>(
         return false;
     }
     let (_, cell) = frame.split_at(4);
-    is_value(read::<T>(alloc, &ty, Some(cell)), value)
-        && is_some(read::<Option<T>>(alloc, &ty, Some(cell)), value)
-        && takes(alloc, &ty, frame, value)
-        && reads_null::<T>(alloc, &ty)
+    is_value(read::<T>(alloc, ty, Some(cell)), value)
+        && is_some(read::<Option<T>>(alloc, ty, Some(cell)), value)
+        && takes(alloc, ty, frame, value)
+        && reads_null::<T>(alloc, ty)
 }
 
 /// The value is written as the cell, by both calls; the type is accepted.
 pub fn writes_cell<T: ToSql>(
     alloc: Global,
     value: &T,
-    ty: Type,
+    ty: &Type,
     cell: &[u8],
     target: &mut Target,
 ) -> Answered {
     target.leave(cell.len())?;
-    let checked = value.to_sql_checked(alloc, &ty, &mut target.out);
+    let checked = value.to_sql_checked(alloc, ty, &mut target.out);
     yes(
         gives(checked, IsNull::No) && target.has(cell),
         "to_sql_checked",
     )?;
-    if !T::accepts(&ty) {
-        return Err("not accepted");
+    if !T::accepts(ty) {
+        return Err(Fault::user("not accepted"));
     }
     target.leave(cell.len())?;
-    let written = value.to_sql(alloc, &ty, &mut target.out);
+    let written = value.to_sql(alloc, ty, &mut target.out);
     yes(gives(written, IsNull::No) && target.has(cell), "to_sql")
 }

@@ -3,7 +3,7 @@
 use super::calls::{Answered, Target, answer_without_memory, gives, yes};
 use postgres_types::private::{BytesMut, read_be_i32};
 use postgres_types::{
-    BitVec, Format, FromSql, IsNull, PgLsn, ToSql, Type, rewrite, to_sql_checked_as,
+    BitVec, Fault, Format, FromSql, IsNull, PgLsn, ToSql, Type, rewrite, to_sql_checked_as,
 };
 use rows::code::WRONG_TYPE;
 use rows::fault_code;
@@ -55,7 +55,7 @@ fn integers_and_positions() -> Answered {
     yes(gives(read_be_i32(&mut buf), 7), "read_be_i32")?;
     yes(buf == [9u8].as_slice(), "the slice after the integer")?;
     let Ok(lsn) = "16/B374D848".parse::<PgLsn>() else {
-        return Err("PgLsn::from_str");
+        return Err(Fault::user("PgLsn::from_str"));
     };
     yes(u64::from(lsn) == 0x16_b374_d848, "PgLsn")
 }
@@ -71,19 +71,19 @@ fn types_and_positions_are_answered(rt: HostRuntime) -> Result<(), Fail> {
 }
 
 /// Writing NULL answers so, and appends nothing.
-fn writes_null<T: ToSql>(alloc: Global, ty: Type, target: &mut Target) -> Answered {
+fn writes_null<T: ToSql>(alloc: Global, ty: &Type, target: &mut Target) -> Answered {
     target.leave(0)?;
-    let written = None::<T>.to_sql_checked(alloc, &ty, &mut target.out);
+    let written = None::<T>.to_sql_checked(alloc, ty, &mut target.out);
     yes(gives(written, IsNull::Yes) && target.has(&[]), "NULL")
 }
 
 #[test]
 fn null_is_written(rt: HostRuntime) -> Result<(), Fail> {
     answer_without_memory(rt.alloc(), |alloc, target| {
-        writes_null::<i32>(alloc, Type::INT4, target)?;
-        writes_null::<String>(alloc, Type::TEXT, target)?;
-        writes_null::<BitVec>(alloc, Type::VARBIT, target)?;
-        writes_null::<Vec<i32>>(alloc, Type::INT4_ARRAY, target)
+        writes_null::<i32>(alloc, &Type::INT4, target)?;
+        writes_null::<String>(alloc, &Type::TEXT, target)?;
+        writes_null::<BitVec>(alloc, &Type::VARBIT, target)?;
+        writes_null::<Vec<i32>>(alloc, &Type::INT4_ARRAY, target)
     })
 }
 

@@ -1,6 +1,7 @@
 //! The readers of `protocol`, which take no memory.
 
 use super::calls::{Answered, answer_without_memory, gives, yes};
+use postgres_types::Fault;
 use postgres_types::protocol::{
     array_from_sql, bool_from_sql, bytea_from_sql, char_from_sql, date_from_sql, hstore_from_sql,
     inet_from_sql, int2_from_sql, int4_from_sql, int8_from_sql, lquery_from_sql, lsn_from_sql,
@@ -52,14 +53,14 @@ fn fixed_bytes() -> Answered {
 
 fn bits_and_addresses() -> Answered {
     let Ok(bits) = varbit_from_sql(&[0, 0, 0, 3, 0xa0]) else {
-        return Err("varbit_from_sql");
+        return Err(Fault::user("varbit_from_sql"));
     };
     yes(
         bits.len() == 3 && bits.bytes() == [0xa0u8].as_slice(),
         "Varbit",
     )?;
     let Ok(inet) = inet_from_sql(&[2, 8, 0, 4, 10, 1, 2, 3]) else {
-        return Err("inet_from_sql");
+        return Err(Fault::user("inet_from_sql"));
     };
     let host = IpAddr::V4(Ipv4Addr::new(10, 1, 2, 3));
     yes(inet.addr() == host && inet.netmask() == 8, "Inet")
@@ -90,7 +91,7 @@ const SEVEN_AND_NULL: [u8; 32] = [
 
 fn elements(alloc: Global) -> Answered {
     let Ok(mut cells) = array_from_sql(alloc, &SEVEN_AND_NULL) else {
-        return Err("array_from_sql");
+        return Err(Fault::user("array_from_sql"));
     };
     let first = cells.next().transpose();
     yes(gives(first, Some(Some(SEVEN))), "the first element")?;
@@ -104,7 +105,7 @@ const HSTORE: &[u8] = b"\0\0\0\x02\0\0\0\x01a\0\0\0\x011\0\0\0\x01b\xff\xff\xff\
 
 fn entries(alloc: Global) -> Answered {
     let Ok(mut entries) = hstore_from_sql(alloc, HSTORE) else {
-        return Err("hstore_from_sql");
+        return Err(Fault::user("hstore_from_sql"));
     };
     let first = entries.next().transpose();
     yes(gives(first, Some(("a", Some("1")))), "the first entry")?;

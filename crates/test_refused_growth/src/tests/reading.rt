@@ -2,7 +2,9 @@
 
 use super::calls::{Answered, answer_without_memory, reads_frame, reads_null, yes};
 use jiff::civil;
-use postgres_types::{BitVec, Date, IpCidr, IpInet, MacAddress, PgLsn, Timestamp, Type, UnixTime};
+use postgres_types::{
+    BitVec, Date, Fault, IpCidr, IpInet, MacAddress, PgLsn, Timestamp, Type, UnixTime,
+};
 use rows::simple_type;
 use serde_json::Value;
 use std::alloc::Global;
@@ -26,25 +28,25 @@ const AB: &[u8] = &[0, 0, 0, 2, b'a', b'b'];
 
 fn numbers(alloc: Global) -> Answered {
     yes(
-        reads_frame(alloc, Type::BOOL, &[0, 0, 0, 1, 1], &true),
+        reads_frame(alloc, &Type::BOOL, &[0, 0, 0, 1, 1], &true),
         "bool",
     )?;
     yes(
-        reads_frame(alloc, Type::CHAR, &[0, 0, 0, 1, 0xff], &-1i8),
+        reads_frame(alloc, &Type::CHAR, &[0, 0, 0, 1, 0xff], &-1i8),
         "i8",
     )?;
     yes(
-        reads_frame(alloc, Type::INT2, &[0, 0, 0, 2, 0, 5], &5i16),
+        reads_frame(alloc, &Type::INT2, &[0, 0, 0, 2, 0, 5], &5i16),
         "i16",
     )?;
-    yes(reads_frame(alloc, Type::INT4, SEVEN, &7i32), "i32")
+    yes(reads_frame(alloc, &Type::INT4, SEVEN, &7i32), "i32")
 }
 
 fn long_numbers(alloc: Global) -> Answered {
-    yes(reads_frame(alloc, Type::OID, SEVEN, &7u32), "u32")?;
-    yes(reads_frame(alloc, Type::INT8, ONE, &1i64), "i64")?;
+    yes(reads_frame(alloc, &Type::OID, SEVEN, &7u32), "u32")?;
+    yes(reads_frame(alloc, &Type::INT8, ONE, &1i64), "i64")?;
     yes(
-        reads_frame(alloc, Type::PG_LSN, ONE, &PgLsn::from(1u64)),
+        reads_frame(alloc, &Type::PG_LSN, ONE, &PgLsn::from(1u64)),
         "PgLsn",
     )
 }
@@ -59,12 +61,12 @@ fn numbers_are_read(rt: HostRuntime) -> Result<(), Fail> {
 
 fn borrowed(alloc: Global) -> Answered {
     let bytes: &[u8] = b"ab";
-    yes(reads_frame(alloc, Type::TEXT, AB, &"ab"), "&str")?;
+    yes(reads_frame(alloc, &Type::TEXT, AB, &"ab"), "&str")?;
     yes(
-        reads_frame(alloc, Type::TEXT, AB, &CowStr::Borrowed("ab")),
+        reads_frame(alloc, &Type::TEXT, AB, &CowStr::Borrowed("ab")),
         "CowStr",
     )?;
-    yes(reads_frame(alloc, Type::BYTEA, AB, &bytes), "&[u8]")
+    yes(reads_frame(alloc, &Type::BYTEA, AB, &bytes), "&[u8]")
 }
 
 #[test]
@@ -79,15 +81,15 @@ const NETWORK: &[u8] = &[0, 0, 0, 8, 2, 8, 0, 4, 10, 0, 0, 0];
 
 fn addresses(alloc: Global) -> Answered {
     let host = IpAddr::V4(Ipv4Addr::new(10, 1, 2, 3));
-    yes(reads_frame(alloc, Type::INET, HOST, &host), "IpAddr")?;
+    yes(reads_frame(alloc, &Type::INET, HOST, &host), "IpAddr")?;
     let Ok(inet) = IpInet::new(host, 32) else {
-        return Err("IpInet::new");
+        return Err(Fault::user("IpInet::new"));
     };
-    yes(reads_frame(alloc, Type::INET, HOST, &inet), "IpInet")?;
+    yes(reads_frame(alloc, &Type::INET, HOST, &inet), "IpInet")?;
     let Ok(cidr) = IpCidr::new(IpAddr::V4(Ipv4Addr::new(10, 0, 0, 0)), 8) else {
-        return Err("IpCidr::new");
+        return Err(Fault::user("IpCidr::new"));
     };
-    yes(reads_frame(alloc, Type::CIDR, NETWORK, &cidr), "IpCidr")
+    yes(reads_frame(alloc, &Type::CIDR, NETWORK, &cidr), "IpCidr")
 }
 
 /// The frames of a MAC address and of a UUID.
@@ -97,9 +99,9 @@ const UUID: &[u8] = &[0, 0, 0, 16, 0, 0, 0, 0, 0, 0, 0, 0, 0, 0, 0, 0, 0, 0, 0, 
 
 fn identifiers(alloc: Global) -> Answered {
     let mac = MacAddress::new([8, 0, 0x2b, 1, 2, 3]);
-    yes(reads_frame(alloc, Type::MACADDR, MAC, &mac), "MacAddress")?;
+    yes(reads_frame(alloc, &Type::MACADDR, MAC, &mac), "MacAddress")?;
     yes(
-        reads_frame(alloc, Type::UUID, UUID, &Uuid::from_u128(7)),
+        reads_frame(alloc, &Type::UUID, UUID, &Uuid::from_u128(7)),
         "Uuid",
     )
 }
@@ -117,15 +119,15 @@ fn civil_values(alloc: Global) -> Answered {
         civil::Date::new(2000, 1, 8),
         civil::Time::new(0, 0, 0, 1_000),
     ) else {
-        return Err("Date::new");
+        return Err(Fault::user("Date::new"));
     };
-    yes(reads_frame(alloc, Type::DATE, SEVEN, &date), "Date")?;
-    yes(reads_frame(alloc, Type::TIME, ONE, &time), "Time")?;
+    yes(reads_frame(alloc, &Type::DATE, SEVEN, &date), "Date")?;
+    yes(reads_frame(alloc, &Type::TIME, ONE, &time), "Time")?;
     let Ok(first) = civil::Date::new(2000, 1, 1) else {
-        return Err("Date::new");
+        return Err(Fault::user("Date::new"));
     };
     yes(
-        reads_frame(alloc, Type::TIMESTAMP, ONE, &first.to_datetime(time)),
+        reads_frame(alloc, &Type::TIMESTAMP, ONE, &first.to_datetime(time)),
         "DateTime",
     )
 }
@@ -135,13 +137,13 @@ fn timestamps(alloc: Global) -> Answered {
         jiff::Timestamp::new(946_684_800, 1_000),
         UnixTime::new(946_684_800, 1_000),
     ) else {
-        return Err("Timestamp::new");
+        return Err(Fault::user("Timestamp::new"));
     };
     yes(
-        reads_frame(alloc, Type::TIMESTAMPTZ, ONE, &instant),
+        reads_frame(alloc, &Type::TIMESTAMPTZ, ONE, &instant),
         "jiff::Timestamp",
     )?;
-    yes(reads_frame(alloc, Type::TIMESTAMP, ONE, &unix), "UnixTime")
+    yes(reads_frame(alloc, &Type::TIMESTAMP, ONE, &unix), "UnixTime")
 }
 
 #[test]
@@ -158,20 +160,20 @@ fn wrappers(alloc: Global) -> Answered {
         civil::Date::new(2000, 1, 8),
         UnixTime::new(946_684_800, 1_000),
     ) else {
-        return Err("Date::new");
+        return Err(Fault::user("Date::new"));
     };
     let infinity = &[0, 0, 0, 4, 0x7f, 0xff, 0xff, 0xff];
     yes(
-        reads_frame(alloc, Type::DATE, SEVEN, &Date::Value(date)),
+        reads_frame(alloc, &Type::DATE, SEVEN, &Date::Value(date)),
         "Date<Date>",
     )?;
     let infinite: Date<civil::Date> = Date::PosInfinity;
     yes(
-        reads_frame(alloc, Type::DATE, infinity, &infinite),
+        reads_frame(alloc, &Type::DATE, infinity, &infinite),
         "Date::PosInfinity",
     )?;
     yes(
-        reads_frame(alloc, Type::TIMESTAMP, ONE, &Timestamp::Value(unix)),
+        reads_frame(alloc, &Type::TIMESTAMP, ONE, &Timestamp::Value(unix)),
         "Timestamp<UnixTime>",
     )
 }
@@ -191,16 +193,21 @@ const EMPTY: &[u8] = b"\0\0\0\x0c\0\0\0\0\0\0\0\0\0\0\0\x17";
 /// Elements that take no memory are read in their places.
 fn arrays(alloc: Global) -> Answered {
     yes(
-        reads_frame(alloc, Type::INT4_ARRAY, ONE_AND_TWO, &[1i32, 2]),
+        reads_frame(alloc, &Type::INT4_ARRAY, ONE_AND_TWO, &[1i32, 2]),
         "[i32; 2]",
     )?;
     yes(
-        reads_frame(alloc, Type::INT4_ARRAY, ONE_AND_TWO, &[Some(1i32), Some(2)]),
+        reads_frame(
+            alloc,
+            &Type::INT4_ARRAY,
+            ONE_AND_TWO,
+            &[Some(1i32), Some(2)],
+        ),
         "[Option<i32>; 2]",
     )?;
     let none: [i32; 0] = [];
     yes(
-        reads_frame(alloc, Type::INT4_ARRAY, EMPTY, &none),
+        reads_frame(alloc, &Type::INT4_ARRAY, EMPTY, &none),
         "[i32; 0]",
     )
 }
