@@ -1,5 +1,5 @@
 -- Bytes that are there, one after another.
-use Rattle.std.proofs.Common.{◌≡◌, ◌≤◌, ◌+◌, ◌++◌, ℕ, List, [], length, map, Option, Some, None, Bool, true, false}
+use Rattle.std.proofs.Common.{◌≡◌, ◌≤◌, ◌+◌, ◌++◌, ℕ, List, [], ◌∷◌, length, map, Option, Some, None, Bool, true, false}
 use Rattle.std.proofs.Common.{cond, pos, Ok, Err, refl, sym, ap, ◌∙◌, subst, arith, append_assoc}
 use Rattle.std.proofs.Common.{append-nil, length-append}
 use Rattle.std.specs.Bool.{⊤}
@@ -9,7 +9,7 @@ use Rattle.std.specs.Int.{w32}
 use Rattle.bytes.specs.Filled.{Filled}
 use Rattle.pg_types.specs.declared.fault.Fault.{Fault}
 use Rattle.pg_base.specs.Appending.{Appends, Extends, HasRoomFor}
-use Rattle.pg_base.specs.Cells.{be, frame, concat, fits_prefix, max_length}
+use Rattle.pg_base.specs.Cells.{Cell, be, frame, frames, concat, fits_prefix, max_length}
 use Rattle.pg_base.specs.Counts.{count_bytes, number_width}
 
 abbrev pub Bytes : Type 0
@@ -28,6 +28,11 @@ concat-nil (Some a) = ap Some (append-nil a)
 pub nil-concat : (a : Bytes) → concat (Some []) a ≡ a
 nil-concat None = refl
 nil-concat (Some a) = refl
+
+pub frames-append : (cs ds : List Cell) → frames (cs ++ ds) ≡ concat (frames cs) (frames ds)
+frames-append [] ds = sym (nil-concat (frames ds))
+frames-append (c ∷ cs) ds = ap (concat (frame c)) (frames-append cs ds)
+    ∙ sym (concat-assoc (frame c) (frames cs) (frames ds))
 
 pub sum_len : (t x y : List ℕ) → t ≡ x ++ y → length t ≡ length x + length y
 sum_len t x y e = subst (λ (s : List ℕ). length s ≡ length x + length y) (sym e) (length-append x y)

@@ -6,6 +6,7 @@ pub mod BitLemmas
 pub mod BitsLaws
 pub mod CellLaws
 pub mod CellRows
+pub mod CellsByLength
 pub mod CivilLaws
 pub mod Completeness
 pub mod CompletenessBits
@@ -17,7 +18,6 @@ pub mod CountLaws
 pub mod FixedBytesLaws
 pub mod FormatLaws
 pub mod FrameLaws
-pub mod FrameLists
 pub mod HostBits
 pub mod HstoreLaws
 pub mod HstoreLengths

@@ -1,15 +1,16 @@
 -- Arrays (array_send, array_recv): a head, and then the elements' frames. The head is a count of dimensions, flags
 -- and the elements' OID in four bytes each, and for each dimension its length and its lower bound.
 use Rattle.std.specs.Prelude.{◌≡◌, ℕ, zero, suc, List, [], ◌∷◌, ◌++◌, length, drop, Option, false, nat_le, Result}
-use Rattle.std.specs.Prelude.{ℤ, pos, option_map, Bool, ◌||◌, is_none, if◌then◌else◌, Vec}
+use Rattle.std.specs.Prelude.{Some, None, ◌+◌, take, not, ℤ, pos, option_map, Bool, ◌||◌, is_none, if◌then◌else◌}
 use Rattle.std.specs.Borrow.{Bor}
+use Rattle.std.specs.List.{list_any}
+use Rattle.std.specs.Option.{unwrap_or}
 use Rattle.pg_types.specs.declared.fault.Fault.{Fault}
-use Rattle.pg_base.specs.Cells.{Cell, cell_of, Spells, CellsInRow, be, frames, concat}
+use Rattle.pg_base.specs.Cells.{Cell, cell_of, Spells, CellsInRow, be, fits_prefix, frames, concat}
 use Rattle.pg_base.specs.Counts.{IsCount, TakesNext, ToRead, cell_checks, count_checks, not_negative, number_in}
 use Rattle.pg_base.specs.Counts.{after_number, count_or_zero, count_bytes, number_width}
 use Rattle.pg_types.specs.Faults.{size, count, dimensions}
 use Rattle.pg_base.specs.Formats.{Checks}
-use Rattle.std.specs.Global.{Global}
 use Rattle.std.specs.Int.{w32, to_be_bytes}
 
 -- how many bytes two numbers have: flags and an OID, or a length and a lower bound
@@ -74,9 +75,25 @@ ArrayBody b n cs rest = (s : List ℕ) × SpellsHead b (record { left = n; bytes
 abbrev pub TakesElement : ToRead → Option (Result (Option (Bor (List ℕ))) Fault) → ToRead → Type 0
 TakesElement = TakesNext (λ s raw. Spells s (cell_of raw)) cell_checks
 
--- the cell that owned bytes are
-abbrev pub owned_cell : Option (Vec ℕ Global) → Cell
-owned_cell = option_map (λ bytes. bytes.items)
+-- how many bytes cells of these lengths have; NULL has none
+abbrev pub total_len : List (Option ℕ) → ℕ
+total_len [] = 0
+total_len (None ∷ lens) = total_len lens
+total_len (Some n ∷ lens) = n + total_len lens
+
+-- the cells of these lengths, whose bytes stand one after another; a cell without a length is NULL
+abbrev pub cells_of : List ℕ → List (Option ℕ) → List Cell
+cells_of bytes [] = []
+cells_of bytes (None ∷ lens) = None ∷ cells_of bytes lens
+cells_of bytes (Some n ∷ lens) = Some (take n bytes) ∷ cells_of (drop n bytes) lens
+
+-- whether one of the lengths is that of NULL
+abbrev pub has_none : List (Option ℕ) → Bool
+has_none = list_any is_none
+
+-- whether one of the lengths is more than a length prefix can say
+abbrev pub has_long : List (Option ℕ) → Bool
+has_long = list_any (λ n. not (fits_prefix (unwrap_or n 0)))
 
 -- whether a cell is NULL
 abbrev pub has_null : List Cell → Bool

@@ -10,7 +10,7 @@ use Rattle.pg_base.specs.Appending.{Wire}
 use Rattle.pg_base.specs.Cells.{Cell, frame, frames, concat}
 use Rattle.pg_types.specs.Faults.{Outcome}
 use Rattle.pg_types.specs.declared.fault.Fault.{Fault}
-use Rattle.pg_base.proofs.FrameLists.{frames-append}
+use Rattle.pg_base.proofs.Concat.{frames-append}
 use Rattle.pg_base.proofs.Concat.{concat-nil}
 use Rattle.pg_write.proofs.ElementCells.{next_cell}
 use Rattle.pg_write.specs.ArrayWriting.{element_cells, element_frame_cell, with_frame}

@@ -100,9 +100,10 @@ fn param_to_sql(
     let start = out.len();
     // The frame of NULL, whose length is put right once a cell stands after it.
     out.put_i32(-1)?;
-    match write_boxed(alloc, param, ty, out)? {
-        IsNull::Yes => Ok(()),
-        IsNull::No => frame_from(start, out),
+    match write_boxed(alloc, param, ty, out) {
+        Ok(IsNull::Yes) => Ok(()),
+        Ok(IsNull::No) => frame_from(start, out),
+        Err(fault) => Err(fault),
     }
 }
 

@@ -1,18 +1,18 @@
 -- Reading so many elements of an array one after another.
-use Rattle.std.proofs.Common.{◌≡◌, ℕ, ◌+◌, ◌-◌, ◌<◌, ◌≤◌, true, false, List, [], ◌∷◌, ◌++◌, length, take, Option}
-use Rattle.std.proofs.Common.{Some, None, Ok, Err, refl, sym, ◌∙◌, ap, arith, inl, inr, append_assoc, length-append}
-use Rattle.std.specs.Prelude.{IfSome, nat_le}
+use Rattle.std.proofs.Common.{◌≡◌, ℕ, ◌+◌, ◌-◌, ◌<◌, ◌≤◌, true, false, List, [], ◌∷◌, ◌++◌, length, take, All}
+use Rattle.std.proofs.Common.{Some, None, Ok, Err, refl, sym, subst, ◌∙◌, ap, arith, inl, inr, append_assoc}
+use Rattle.std.proofs.Common.{length-append, slice_index_or}
+use Rattle.std.specs.Prelude.{nat_le}
 use Rattle.std.proofs.Math.Seq.{take-append-add, take-append_seam}
 use Rattle.std.proofs.lemmas.Bool.Decides.{nat_tests}
 use Rattle.std.proofs.lemmas.List.{take_all}
-use Rattle.std.proofs.lemmas.Option.{IfSome_then}
 use Rattle.pg_base.specs.Arrays.{SpellsHead}
 use Rattle.pg_base.specs.Cells.{AreBytes, Cell, Spells}
 use Rattle.pg_base.specs.Counts.{next_checks, cell_checks, ToRead, nothing}
 use Rattle.pg_types.specs.Faults.{Refusal, Outcome, excess, too_few}
 use Rattle.pg_base.proofs.FormatLaws.{check_failed, checks_passed}
 use Rattle.pg_base.specs.Formats.{first_fault_of}
-use Rattle.pg_read.specs.ArrayReading.{ReadsAll, ReadsArray, ReadsFixed, end_checks, fixed_checks}
+use Rattle.pg_read.specs.ArrayReading.{ElementsAll, ReadsAll, ReadsArray, ReadsFixed, end_checks, fixed_checks}
 use Rattle.pg_read.proofs.ArrayCellSteps.{HaveBeenTaken, all_remaining, all_taken, all_there, fault_more}
 use Rattle.pg_read.proofs.ArrayCellSteps.{fault_stays, none_left, taken_next}
 
@@ -28,6 +28,11 @@ take_more : (m : ℕ) (cs ds : List Cell) → length cs ≤ m → take m (cs ++ 
 take_more m cs ds h =
     let parts : m ≡ length cs + (m - length cs) = omega (arith, h) in
     ap (λ k. take k (cs ++ ds)) parts ∙ take-append-add cs ds (m - length cs)
+
+-- the item after so many is the next
+at_seam : (cs : List Cell) (c : Cell) (ds : List Cell) → slice_index_or (cs ++ c ∷ ds) (length cs) c ≡ c
+at_seam [] c ds = refl
+at_seam (b ∷ cs) c ds = at_seam cs c ds
 
 no_more : (m n : ℕ) → n ≤ m → nat_le n m ≡ true
 no_more m n h = grind (arith, nat_tests)
@@ -67,11 +72,10 @@ module _ {A : Type 0} (reads : Cell → Outcome A → Type 0) (expected : ℕ) (
       }
 
   -- the count is smaller
-  pub array_short : now ≡ nothing → length vs < expected → Reads (Err (too_few expected (length vs)))
+  pub array_short : now ≡ nothing → length vs < expected → Reads (Err (too_few expected start.left))
   array_short end short =
       let all = all_taken start now cs taken end in
-      let many : start.left ≡ length vs = omega (arith, as_many reads cs vs values, all.0) in
-      let fewer : start.left < expected = omega (arith, many, short) in
+      let fewer : start.left < expected = omega (arith, as_many reads cs vs values, all.0, short) in
       let failed : first_fault_of (fixed_checks expected start.left cs []) ≡ Some (too_few expected start.left)
       = rw (no_more expected (length cs) cells_within)
       (checks_passed (end_checks start.left cs []) ((nat_le expected start.left, too_few expected start.left) ∷ [])
@@ -82,11 +86,12 @@ module _ {A : Type 0} (reads : Cell → Outcome A → Type 0) (expected : ℕ) (
         cells = cs;
         rest = [];
         body = (start.bytes, head, all.1);
-        gives = inr (vs, read_within, failed ∙ ap (λ n. Some (too_few expected n)) many);
+        gives = inr (vs, read_within, failed);
       })
 
-  truncated : (r : Refusal) → first_fault_of (next_checks cell_checks now) ≡ Some r → Reads (Err r)
-  truncated r e =
+  -- the next step fails
+  pub array_truncated : (r : Refusal) → first_fault_of (next_checks cell_checks now) ≡ Some r → Reads (Err r)
+  array_truncated r e =
       let all = all_there start now cs r taken e in
       let failed : first_fault_of (fixed_checks expected start.left cs now.bytes) ≡ Some r
       = rw (no_more expected (length cs) cells_within)
@@ -99,11 +104,6 @@ module _ {A : Type 0} (reads : Cell → Outcome A → Type 0) (expected : ℕ) (
         body = (start.bytes, head, all.0);
         gives = inr (vs, read_within, failed);
       })
-
-  -- the next step fails
-  pub array_truncated : (fault : Option Refusal)
-      → IfSome fault (λ r. first_fault_of (next_checks cell_checks now) ≡ Some r) → IfSome fault (λ r. Reads (Err r))
-  array_truncated fault e = IfSome_then fault e truncated
 
   module _ (next : ToRead) (t : List ℕ) (c : Cell) (bytes : AreBytes b) (n : next.left + 1 ≡ now.left)
       (is : now.bytes ≡ t ++ next.bytes) (spells : Spells t c) where
@@ -131,8 +131,9 @@ module _ {A : Type 0} (reads : Cell → Outcome A → Type 0) (expected : ℕ) (
           gives = inr (vs, (rw first values), failed);
         })
 
-    refused : length vs < expected → (r : Refusal) → reads c (Err r) → Reads (Err r)
-    refused wanted r h =
+    -- the next cell is refused
+    pub array_refused : length vs < expected → (r : Refusal) → reads c (Err r) → Reads (Err r)
+    array_refused wanted r h =
         let all = all_remaining b start next (cs ++ c ∷ []) head bytes one_more in
         let fault : ReadsAll reads (cs ++ c ∷ []) (Err r) = fault_more reads cs (c ∷ []) vs r values (inl h) in
         let few : length (cs ++ c ∷ []) ≤ expected =
@@ -146,7 +147,15 @@ module _ {A : Type 0} (reads : Cell → Outcome A → Type 0) (expected : ℕ) (
               (fault_stays reads (cs ++ c ∷ []) (take (expected - length (cs ++ c ∷ [])) all.0) r fault));
         })
 
-    -- the next cell is refused
-    pub array_refused : length vs < expected → (fault : Option Refusal) → IfSome fault (λ r. reads c (Err r))
-        → IfSome fault (λ r. Reads (Err r))
-    array_refused wanted fault e = IfSome_then fault e (refused wanted)
+    -- what is free of memory in each of the first so many cells is so in the next one
+    pub array_free : length vs < expected → (free : Cell → Type 0) → ElementsAll expected free b → free c
+    array_free wanted free all_free =
+        let all = all_remaining b start next (cs ++ c ∷ []) head bytes one_more in
+        let few : length (cs ++ c ∷ []) ≤ expected =
+        omega (arith, length-append cs (c ∷ []), as_many reads cs vs values, wanted) in
+        let others = take (expected - length (cs ++ c ∷ [])) all.0 in
+        let first : take expected ((cs ++ c ∷ []) ++ all.0) ≡ cs ++ c ∷ others
+        = take_more expected (cs ++ c ∷ []) all.0 few ∙ append_assoc cs (c ∷ []) others in
+        let each = subst (λ ds. All free ds) first
+        (all_free start.left ((cs ++ c ∷ []) ++ all.0) all.1 (start.bytes, head, all.2)) in
+        subst free (at_seam cs c others) (each (length cs) c (omega (arith, length-append cs (c ∷ others))))

@@ -1,5 +1,6 @@
 -- The lemmas of this crate's proofs.
 mod ArrayCellSteps
+mod ElementSteps
 mod FixedSizeSteps
 mod LastEntries
 mod Refusals

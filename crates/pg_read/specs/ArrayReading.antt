@@ -1,5 +1,6 @@
 -- Reading a list from an array's cell.
-use Rattle.std.specs.Prelude.{◌≡◌, ◌⊎◌, nat_le, ℕ, List, [], ◌∷◌, ◌++◌, length, take, Option, Some, None, Ok, Err}
+use Rattle.std.specs.Prelude.{◌≡◌, ◌⊎◌, nat_le, ℕ, List, [], ◌∷◌, ◌++◌, length, take, All, Option, Some, None, Ok}
+use Rattle.std.specs.Prelude.{Err}
 use Rattle.pg_base.specs.Arrays.{ArrayBody, head_checks}
 use Rattle.pg_base.specs.Cells.{Cell}
 use Rattle.pg_base.specs.Counts.{no_trailing}
@@ -66,6 +67,11 @@ DecodesArray items elements b (Err r) = (first_fault_of (head_checks b) ≡ Some
 abbrev pub ReadsArray : {A X : Type 0} → (X → List A) → (ℕ → List Cell → List ℕ → Outcome (List A) → Type 0) → Cell
     → Outcome X → Type 0
 ReadsArray items elements = NotNull (DecodesArray items elements)
+
+-- P holds of each of the first so many cells of the array that the bytes are
+abbrev pub ElementsAll : ℕ → (Cell → Type 0) → List ℕ → Type 0
+ElementsAll expected P b =
+    (n : ℕ) (cs : List Cell) (rest : List ℕ) → ArrayBody b n cs rest → All P (take expected cs)
 
 -- what the cell of a list gives
 abbrev pub ReadsList : {A X : Type 0} → (X → List A) → (Cell → Outcome A → Type 0) → Cell → Outcome X → Type 0

@@ -1,6 +1,6 @@
 -- Laws of reading: a cell has at most one outcome, in plain formats, and in what holds a value that is read.
-use Rattle.std.specs.Prelude.{◌≡◌, ℕ, List, length, Option, Some, None, Ok, Err}
-use Rattle.std.proofs.Common.{sym, ◌∙◌, ap, inl, inr}
+use Rattle.std.specs.Prelude.{◌≡◌, ℕ, List, length, Bool, true, false, Option, Some, None, Ok, Err}
+use Rattle.std.proofs.Common.{sym, ◌∙◌, ap, inl, inr, true≢false}
 use Rattle.std.specs.Int.{Width}
 use Rattle.pg_base.specs.Cells.{Cell}
 use Rattle.pg_types.specs.Faults.{Refusal, Outcome}
@@ -9,9 +9,10 @@ use Rattle.pg_base.specs.Sameness.{SameOption}
 use Rattle.pg_base.specs.Special.{Special, pos_infinity, neg_infinity, value, DecodesSpecial, FormSpecial}
 use Rattle.pg_base.specs.Special.{RefusedSpecial, ReadsSpecial, SameSpecial}
 use Rattle.pg_base.proofs.SpecialLaws.{infinity_width, minus_infinity_width, infinities_apart}
-use Rattle.pg_read.specs.BoxReading.{InBox, ReadsBox}
+use Rattle.pg_read.specs.BoxReading.{ReadsBox}
 use Rattle.pg_read.specs.OptionReading.{ReadsOption}
 use Rattle.pg_read.specs.Reading.{GivesSingle, ReadsSingle}
+use Rattle.pg_read.specs.Views.{Constrained, ReadsConstrained, ReadsThrough, Through}
 
 -- ---- plain formats
 
@@ -48,21 +49,56 @@ pub value_from_outcome : {A : Type 0} (form : List ℕ → A → Type 0) (first_
 value_from_outcome form first_fault b (Ok v) h e = (v, h)
 value_from_outcome form first_fault b (Err r) h e = absurd (no_fault (first_fault b) r e h)
 
--- ---- boxes and options
+-- ---- types over another
 
-one_in_box : {A B : Type 0} (inside : B → A) (same : A → A → Type 0) (gives : Outcome A → Type 0)
-    → GivesSingle same gives → GivesSingle (λ v w. same (inside v) (inside w)) (InBox inside gives)
-one_in_box inside same gives single (Ok v) (Ok w) h k = single (Ok (inside v)) (Ok (inside w)) h k
-one_in_box inside same gives single (Ok v) (Err s) h k = single (Ok (inside v)) (Err s) h k
-one_in_box inside same gives single (Err r) (Ok w) h k = single (Err r) (Ok (inside w)) h k
-one_in_box inside same gives single (Err r) (Err s) h k = single (Err r) (Err s) h k
+through_gives_single : {A B : Type 0} (inside : B → A) (same : A → A → Type 0) (gives : Outcome A → Type 0)
+    → GivesSingle same gives → GivesSingle (λ v w. same (inside v) (inside w)) (Through inside gives)
+through_gives_single inside same gives single (Ok v) (Ok w) h k = single (Ok (inside v)) (Ok (inside w)) h k
+through_gives_single inside same gives single (Ok v) (Err s) h k = single (Ok (inside v)) (Err s) h k
+through_gives_single inside same gives single (Err r) (Ok w) h k = single (Err r) (Ok (inside w)) h k
+through_gives_single inside same gives single (Err r) (Err s) h k = single (Err r) (Err s) h k
+
+-- one outcome inside gives one of the values that show it
+pub through_single : {A B : Type 0} (inside : B → A) (same : A → A → Type 0) (reads : Cell → Outcome A → Type 0)
+    → ReadsSingle same reads → ReadsSingle (λ v w. same (inside v) (inside w)) (ReadsThrough inside reads)
+through_single inside same reads single c = through_gives_single inside same (reads c) (single c)
+
+module _ {A : Type 0} (same : A → A → Type 0) (meets : A → Bool) (fault : Refusal)
+    (respects : (v w : A) → same v w → meets v ≡ meets w) (gives : Outcome A → Type 0)
+    (single : GivesSingle same gives) where
+  -- no value meets the constraint and is the same as one that does not
+  met_and_unmet : (v w : A) → gives (Ok v) → meets v ≡ true → gives (Ok w) → meets w ≡ false → ⊥
+  met_and_unmet v w h m k u = true≢false (sym m ∙ respects v w (single (Ok v) (Ok w) h k) ∙ u)
+
+  constrained_gives_single : GivesSingle same (Constrained meets fault gives)
+  constrained_gives_single (Ok v) (Ok w) h k = single (Ok v) (Ok w) h.0 k.0
+  constrained_gives_single (Ok v) (Err s) h k = elim k [
+    | inl z ↦ single (Ok v) (Err s) h.0 z
+    | inr z ↦ met_and_unmet v z.value h.0 h.1 z.given z.fails
+  ]
+  constrained_gives_single (Err r) (Ok w) h k = elim h [
+    | inl y ↦ single (Err r) (Ok w) y k.0
+    | inr y ↦ met_and_unmet w y.value k.0 k.1 y.given y.fails
+  ]
+  constrained_gives_single (Err r) (Err s) h k = elim h [
+    | inl y ↦ elim k [ inl z ↦ single (Err r) (Err s) y z | inr z ↦ absurd (single (Err r) (Ok z.value) y z.given) ]
+    | inr y ↦ elim k [ inl z ↦ absurd (single (Ok y.value) (Err s) y.given z) | inr z ↦ y.is ∙ sym z.is ]
+  ]
+
+-- one outcome gives one under a constraint that does not tell values apart that are the same
+pub constrained_single : {A : Type 0} (same : A → A → Type 0) (meets : A → Bool) (fault : Refusal)
+    → ((v w : A) → same v w → meets v ≡ meets w) → (reads : Cell → Outcome A → Type 0) → ReadsSingle same reads
+    → ReadsSingle same (ReadsConstrained meets fault reads)
+constrained_single same meets fault respects reads single c =
+    constrained_gives_single same meets fault respects (reads c) (single c)
+
+-- ---- boxes and options
 
 -- one outcome inside gives one of the box
 pub box_single : {A B : Type 0} (inside : B → A) (same : A → A → Type 0) (reads : Cell → Outcome A → Type 0)
     → ReadsSingle same reads → ReadsSingle (λ v w. same (inside v) (inside w)) (ReadsBox inside reads)
-box_single inside same reads single =
-    not_null_single (λ v w. same (inside v) (inside w)) (λ b. InBox inside (reads (Some b)))
-    (λ b. one_in_box inside same (reads (Some b)) (single (Some b)))
+box_single inside same reads single = through_single inside same (NotNull (λ b. reads (Some b)))
+    (not_null_single same (λ b. reads (Some b)) (λ b. single (Some b)))
 
 -- one outcome inside gives one of the option
 pub option_single : {A : Type 0} (same : A → A → Type 0) (reads : Cell → Outcome A → Type 0) → ReadsSingle same reads

@@ -62,6 +62,7 @@ pub fn types_read_without_memory() {
     never_answers_memory::<MacAddress>();
     never_answers_memory::<Uuid>();
     never_answers_memory::<Option<i32>>();
+    never_answers_memory::<[i32; 2]>();
     never_answers_memory::<Date<civil::Date>>();
     never_answers_memory::<Timestamp<UnixTime>>();
 }
@@ -81,7 +82,7 @@ pub fn types_whose_null_is_read_without_memory() {
     never_answers_memory_at_null::<Timestamp<String>>();
     never_answers_memory_at_null::<Vec<i32>>();
     never_answers_memory_at_null::<BoxedSlice<i32>>();
-    never_answers_memory_at_null::<[i32; 2]>();
+    never_answers_memory_at_null::<[String; 2]>();
 }
 
 /// A cell that is read without memory has an outcome: a value, or a fault. By the law `single` of

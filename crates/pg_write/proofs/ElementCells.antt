@@ -1,16 +1,18 @@
 -- The cells of elements, one after another.
-use Rattle.std.proofs.Common.{◌≡◌, ◌<◌, ◌≤◌, ◌+◌, ◌++◌, ℕ, ℤ, List, [], ◌∷◌, length, map, take, drop, get_or, Vec}
-use Rattle.std.proofs.Common.{Global, Option, Some, None, IfSome, Ok, Err, true, cond, refl, sym, ap, ◌∙◌}
+use Rattle.std.proofs.Common.{◌≡◌, ◌<◌, ◌≤◌, ◌+◌, ◌++◌, ℕ, ℤ, List, [], ◌∷◌, length, take, drop, get_or}
+use Rattle.std.proofs.Common.{Option, Some, None, IfSome, Ok, Err, true, cond, refl, sym, ap, ap₂, subst, ◌∙◌}
 use Rattle.std.proofs.Common.{append_assoc, arith}
 use Rattle.std.specs.Bool.{⊤}
 use Rattle.std.proofs.lemmas.Bool.Decides.{nat_tests}
 use Rattle.std.proofs.lemmas.List.{take_more, take-append-drop}
 use Rattle.bytes.specs.Filled.{Filled}
 use Rattle.pg_base.specs.Appending.{Appends, Wire, wire_of}
-use Rattle.pg_base.specs.Arrays.{array_bytes, owned_cell}
+use Rattle.pg_base.specs.Arrays.{array_bytes, cells_of}
 use Rattle.pg_base.specs.Cells.{Cell, fits_prefix, max_length}
 use Rattle.pg_types.specs.Content.{Content, oid_of}
-use Rattle.pg_types.specs.Faults.{Outcome, Refusal, transmit}
+use Rattle.pg_types.specs.Faults.{Outcome, Refusal, refusal_of, transmit}
+use Rattle.pg_types.specs.declared.fault.Fault.{Fault}
+use Rattle.pg_types.specs.declared.fault.Fault.TheVariants.{Transmit}
 use Rattle.pg_base.specs.ArrayTypes.{element_of}
 use Rattle.pg_write.specs.ArrayWriting.{element_cells, element_frame_cell, cons_cell, lower_bound_of, wire_array}
 use Rattle.pg_write.specs.ArrayWriting.{wire_list, wire_by_element}
@@ -81,16 +83,14 @@ module _ {A : Type 0} (wire : A → Wire) where
 
 -- what a list is written as, where its elements have cells
 pub list_written : {A : Type 0} (wire : Content → A → Wire) (ty element : Content) (vs : List A) (cs : List Cell)
-    (b : List ℕ)
     → element_of ty ≡ Some element → length vs ≤ max_length → element_cells (wire element) vs ≡ Ok cs
-    → array_bytes (lower_bound_of ty) (oid_of element) cs ≡ Some b
-    → wire_list wire ty vs ≡ Ok (Some b)
-list_written wire ty element vs cs b element_is few cells bytes =
+    → wire_list wire ty vs ≡ wire_of (array_bytes (lower_bound_of ty) (oid_of element) cs)
+list_written wire ty element vs cs element_is few cells =
     let fits : fits_prefix (length vs) ≡ true = grind (arith, nat_tests) in
     ap (λ m. wire_by_element wire ty m vs) element_is
     ∙ ap (λ t. cond t (wire_array (lower_bound_of ty) (oid_of element) (element_cells (wire element) vs))
     (Err transmit)) fits
-    ∙ ap (wire_array (lower_bound_of ty) (oid_of element)) cells ∙ ap wire_of bytes
+    ∙ ap (wire_array (lower_bound_of ty) (oid_of element)) cells
 
 -- an appender that did not refuse had bytes to append
 pub had_bytes : {u : ⊤} (w : Option (List ℕ)) (old new : Filled) → Appends w old new (Ok u) → (b : List ℕ)
@@ -98,9 +98,18 @@ pub had_bytes : {u : ⊤} (w : Option (List ℕ)) (old new : Filled) → Appends
 had_bytes None old new a = absurd a
 had_bytes (Some b) old new a = (b, refl, a.0)
 
+-- one that refused had none, or no memory
+pub had_none : (w : Option (List ℕ)) (old new : Filled) (f : Fault) → Appends w old new (Err f)
+    → (new.items ≡ old.items) × IfSome (refusal_of f) (λ r. wire_of w ≡ Err r)
+had_none None old new f a =
+    let refused : IfSome (refusal_of Transmit) (λ r. wire_of None ≡ Err r) = refl in
+    (ap (λ (x : Filled). x.items) a.0, subst (λ g. IfSome (refusal_of g) (λ r. wire_of None ≡ Err r)) (sym a.1) refused)
+had_none (Some b) old new f a =
+    (a.0, subst (λ g. IfSome (refusal_of g) (λ r. wire_of (Some b) ≡ Err r)) (sym a.1) tt)
+
 -- an array of the same parts
-pub same_array : (a z : ℤ) (m n : ℕ) (xs ys : List (Option (Vec ℕ Global))) → a ≡ z → m ≡ n → xs ≡ ys
-    → array_bytes a m (map owned_cell xs) ≡ array_bytes z n (map owned_cell ys)
-same_array a z m n xs ys e f g =
-    ap (λ x. array_bytes x m (map owned_cell xs)) e ∙ ap (λ x. array_bytes z x (map owned_cell xs)) f
-    ∙ ap (λ x. array_bytes z n (map owned_cell x)) g
+pub same_array : (a z : ℤ) (m n : ℕ) (s t : List ℕ) (ks ls : List (Option ℕ)) → a ≡ z → m ≡ n → s ≡ t → ks ≡ ls
+    → array_bytes a m (cells_of s ks) ≡ array_bytes z n (cells_of t ls)
+same_array a z m n s t ks ls e f g h =
+    ap (λ x. array_bytes x m (cells_of s ks)) e ∙ ap (λ x. array_bytes z x (cells_of s ks)) f
+    ∙ ap₂ (λ x y. array_bytes z n (cells_of x y)) g h

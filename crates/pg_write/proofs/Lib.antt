@@ -1,4 +1,5 @@
 -- The lemmas of this crate's proofs.
+pub mod CellNotes
 pub mod ElementCells
 pub mod Insertion
 mod KeyOrder

@@ -1,12 +1,15 @@
 -- Writing arrays.
 use Rattle.std.specs.Prelude.{◌≡◌, ℕ, ℤ, pos, List, [], ◌∷◌, length, Option, Some, None, ◌||◌, ◌==◌}
-use Rattle.std.specs.Prelude.{if◌then◌else◌, Ok, Err}
+use Rattle.std.specs.Prelude.{if◌then◌else◌, Result, Ok, Err, IfSome, ⊤}
 use Rattle.pg_types.specs.declared.types.built_in.BuiltIn.TheVariants.{Int2Vector, OidVector}
+use Rattle.pg_types.specs.declared.fault.Fault.{Fault}
+use Rattle.pg_types.specs.declared.format.IsNull.{IsNull}
+use Rattle.pg_types.specs.declared.format.IsNull.TheVariants.{Yes, No}
 use Rattle.pg_base.specs.Appending.{Wire, wire_of}
-use Rattle.pg_base.specs.Arrays.{array_bytes}
+use Rattle.pg_base.specs.Arrays.{array_bytes, cells_of, total_len}
 use Rattle.pg_base.specs.Cells.{Cell, frame, fits_prefix}
 use Rattle.pg_types.specs.Content.{Content, is_row, oid_of}
-use Rattle.pg_types.specs.Faults.{Outcome, transmit}
+use Rattle.pg_types.specs.Faults.{Outcome, refusal_of, transmit}
 use Rattle.pg_base.specs.ArrayTypes.{element_of}
 
 -- a cell with its frame, or Transmit where it has none
@@ -55,7 +58,13 @@ wire_list wire ty vs = wire_by_element wire ty (element_of ty) vs
 abbrev pub wire_fixed : {A : Type 0} → ℕ → (Content → A → Wire) → Content → List A → Wire
 wire_fixed expected wire ty vs = if length vs == expected then wire_list wire ty vs else Err transmit
 
--- the answer, viewed so, is that outcome
-abbrev pub Gives : {A B : Type 0} → (B → A) → Outcome A → Outcome B → Type 0
-Gives view told (Ok value) = told ≡ Ok (view value)
-Gives view told (Err r) = told ≡ Err r
+-- the length that is noted of an element's cell; None for NULL, and no length for a cell without a frame
+abbrev pub frame_len : IsNull → ℕ → Option (Option ℕ)
+frame_len Yes n = Some None
+frame_len No n = if fits_prefix n then Some (Some n) else None
+
+-- these bytes and lengths are those of the elements' cells; or an element is refused with this fault or has no frame,
+-- or memory ran out
+abbrev pub NotesCells : Outcome (List Cell) → List ℕ → List (Option ℕ) → Result ⊤ Fault → Type 0
+NotesCells told bytes lens (Ok done) = (told ≡ Ok (cells_of bytes lens)) × (total_len lens ≡ length bytes)
+NotesCells told bytes lens (Err f) = IfSome (refusal_of f) (λ r. told ≡ Err r)

@@ -3,7 +3,7 @@ use Rattle.std.specs.Prelude.{◌≡◌, ℕ, ◌<◌, List, ◌++◌, length, B
 use Rattle.std.specs.Prelude.{IfSome, IfNone, if◌then◌else◌}
 use Rattle.pg_base.specs.Appending.{Wire}
 use Rattle.pg_types.specs.Content.{Content}
-use Rattle.pg_types.specs.Faults.{refusal_of, wrong_type}
+use Rattle.pg_types.specs.Faults.{Refusal, refusal_of, wrong_type}
 use Rattle.pg_types.specs.declared.fault.Fault.{Fault}
 use Rattle.pg_types.specs.declared.format.IsNull.{IsNull}
 use Rattle.pg_types.specs.declared.format.IsNull.TheVariants.{Yes, No}
@@ -34,3 +34,7 @@ appended_len (Err r) = 0
 abbrev pub KeepsRoomRule : Wire → ℕ → Result IsNull Fault → Type 0
 KeepsRoomRule w room (Ok null) = Unit {0}
 KeepsRoomRule w room (Err f) = IfNone (refusal_of f) (room < appended_len w)
+
+-- under a constraint: a value that meets it is written as ever, and another is refused with the constraint's fault
+abbrev pub wire_constrained : {A : Type 0} → (A → Bool) → Refusal → (A → Wire) → A → Wire
+wire_constrained meets fault wire v = if meets v then wire v else Err fault

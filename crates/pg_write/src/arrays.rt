@@ -1,12 +1,11 @@
 //! Writing lists.
-ghost use Rattle.std.specs.Prelude.{◌≡◌, IsTrue, map, true, codes};
+ghost use Rattle.std.specs.Prelude.{◌≡◌, ◌≤◌, [], IsTrue, length, true, codes};
 ghost use Rattle.std.specs.Box.{boxed_slice_items};
-ghost use Rattle.pg_base.specs.Arrays.{owned_cell};
+ghost use Rattle.std.specs.Vec.{vec_capacity};
 ghost use Rattle.pg_types.specs.Content.{content};
-ghost use Rattle.pg_types.specs.Faults.{Answers};
 ghost use Rattle.pg_base.specs.ArrayTypes.{accepted_list};
-ghost use Rattle.pg_write.specs.ArrayWriting.{Gives, element_cells, element_frame_cell, lower_bound_of};
-ghost use Rattle.pg_write.specs.ArrayWriting.{wire_fixed, wire_list};
+ghost use Rattle.pg_write.specs.ArrayWriting.{NotesCells, element_cells, frame_len};
+ghost use Rattle.pg_write.specs.ArrayWriting.{lower_bound_of, wire_fixed, wire_list};
 ghost use Rattle.pg_write.specs.Writing.{Writes};
 
 use crate::to_sql::{ToSql, wrong_type};
@@ -19,11 +18,14 @@ use pg_base::types::PgType;
 use std::alloc::Global;
 use std::boxed::BoxedSlice;
 
+/// How many bytes of the scratch buffer are reserved for a value.
+const VALUE_LEN: usize = 8;
+
 /// An array of a type that `T` writes (`array_send`): one dimension, the element type's OID, the
 /// elements in their order, and the lower bound 1, or 0 for OID_VECTOR and INT2_VECTOR. More than
 /// 2,147,483,647 elements are `Transmit`; otherwise the first element that `T` refuses gives its
 /// fault, and the first whose cell passes 2,147,483,647 bytes `Transmit`, whichever stands first.
-/// Each element is written in memory of its own.
+/// The elements are written in a scratch buffer first, a list within a list in that of the outer one.
 impl<T: ToSql> ToSql for Vec<T> {
     ghost accepted = { accepted_list T.accepted };
 
@@ -195,46 +197,57 @@ fn list_to_sql<T: ToSql>(
     if values.len() > MAX_LEN {
         return Err(Fault::Transmit);
     }
-    let cells = element_cells(alloc, &element, values)?;
-    array_to_sql(alloc, lower_bound(ty), element.oid(), cells.as_slice(), out)?;
+    let mut scratch = BytesMut::with_capacity(alloc, VALUE_LEN * values.len())?;
+    let mut lens = Vec::with_capacity(alloc, values.len())?;
+    elements_to_sql(alloc, &element, values, &mut scratch, &mut lens)?;
+    let first = lower_bound(ty);
+    array_to_sql(
+        alloc,
+        first,
+        element.oid(),
+        scratch.as_slice(),
+        lens.as_slice(),
+        out,
+    )?;
     Ok(IsNull::No)
 }
 
-/// The cells of the values.
-fn element_cells<T: ToSql>(
+/// Appends the cells of the values to `scratch`, and notes their lengths in `lens`, of which `None`
+/// is NULL. There is room for the lengths. A refusal leaves what was appended and noted so far.
+fn elements_to_sql<T: ToSql>(
     alloc: Global,
     element: &PgType,
     values: &[T],
-) -> Result<Vec<Option<Vec<u8>>>, Fault>
-    requires { IsTrue (T.accepted (content element.now)) }
-    ensures { Answers (Gives (λ cells. map owned_cell cells.items)
-        (element_cells (T.wire (content element.now)) values.now)) result }
+    scratch: &mut BytesMut,
+    lens: &mut Vec<Option<usize>>,
+) -> Result<(), Fault>
+    requires accepted { IsTrue (T.accepted (content element.now)) }
+    requires empty { (scratch.now.items ≡ []) × (lens.now.items ≡ []) }
+    requires room { length values.now ≤ vec_capacity lens.now }
+    ensures { NotesCells (element_cells (T.wire (content element.now)) values.now)
+        scratch.new.items lens.new.items result }
 {
-    let mut cells = Vec::with_capacity(alloc, values.len())?;
     for value in values {
-        cells.push(element_cell(alloc, element, value)?)?;
+        let start = scratch.len();
+        let is_null = value.to_sql(alloc, element, scratch)?;
+        let Some(len) = frame_len(is_null, scratch.len() - start) else {
+            return Err(Fault::Transmit);
+        };
+        lens.push_reserved(len);
     }
-    Ok(cells)
+    Ok(())
 }
 
-/// The cell of the value, which is to have a frame.
-fn element_cell<T: ToSql>(
-    alloc: Global,
-    element: &PgType,
-    value: &T,
-) -> Result<Option<Vec<u8>>, Fault>
-    requires { IsTrue (T.accepted (content element.now)) }
-    ensures { Answers (Gives owned_cell (element_frame_cell (T.wire (content element.now) value.now))) result }
+/// What is noted of a cell of that length, of which NULL has none. A cell that is to have a frame and passes
+/// 2,147,483,647 bytes has none.
+fn frame_len(is_null: IsNull, len: usize) -> Option<Option<usize>>
+    ensures { result ≡ frame_len is_null len }
 {
-    let mut bytes = BytesMut::new(alloc);
-    match value.to_sql(alloc, element, &mut bytes)? {
-        IsNull::Yes => return Ok(None),
-        IsNull::No => {}
+    match is_null {
+        IsNull::Yes => Some(None),
+        IsNull::No if len > MAX_LEN => None,
+        IsNull::No => Some(Some(len)),
     }
-    if bytes.len() > MAX_LEN {
-        return Err(Fault::Transmit);
-    }
-    Ok(Some(bytes.into_vec()?))
 }
 
 /// The number of the first element of an array of that type.

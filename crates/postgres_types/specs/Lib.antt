@@ -2,8 +2,10 @@
 pub mod ArrayBackLaws
 pub mod BackLaws
 pub mod BoxBackLaws
+pub mod Conversion
 pub mod FormatBackLaws
 pub mod HstoreBackLaws
+pub mod Odd
 pub mod OptionBackLaws
 pub mod PlainLaws
 pub mod ReadingBack
@@ -12,6 +14,7 @@ pub mod Rewriting
 pub mod SpecialBackLaws
 pub mod TimestampBack
 pub mod TimestampBackLaws
+pub mod ViewBackLaws
 pub mod WrittenArrayLaws
 pub use Rattle.pg_types.specs.BuiltInRows
 pub use Rattle.pg_types.specs.Content
@@ -47,6 +50,7 @@ pub use Rattle.pg_read.specs.OptionReading
 pub use Rattle.pg_read.specs.Reading
 pub use Rattle.pg_read.specs.ReadingLaws
 pub use Rattle.pg_read.specs.RunReading
+pub use Rattle.pg_read.specs.Views
 pub use Rattle.pg_write.specs.ArrayWriting
 pub use Rattle.pg_write.specs.OptionWriting
 pub use Rattle.pg_write.specs.Writing

@@ -58,6 +58,12 @@ module _ {A : Type 0} (form : List ℕ → A → Type 0) (first_fault : List ℕ
     reads_back = λ v c o e. kept_reads_back v c o (subst (WrittenAsKept form first_fault kept v) e (written v));
   }
 
+-- a format stays a grammar under other checks, where bytes that spell a value pass them
+pub under_checks : {A : Type 0} {same : A → A → Type 0} {form : List ℕ → A → Type 0} {first_fault : List ℕ → Option Refusal}
+    → IsGrammar same form first_fault → (checks : List ℕ → Option Refusal)
+    → ((b : List ℕ) (v : A) → form b v → checks b ≡ None) → IsGrammar same form checks
+under_checks grammar checks passes = record { passes = passes; single = grammar.single }
+
 -- over a grammar of contents, and what contents are written as
 module _ {A C : Type 0} (content_of : A → C) (form : List ℕ → C → Type 0) (first_fault : List ℕ → Option Refusal)
     (grammar : IsGrammar (λ x y. x ≡ y) form first_fault) where

@@ -9,9 +9,9 @@ use Rattle.pg_base.specs.Cells.{Cell}
 use Rattle.pg_types.specs.Faults.{Outcome}
 use Rattle.pg_base.specs.Formats.{IsWasNull}
 use Rattle.pg_base.specs.Special.{IsFiniteCell, ReadsSpecial, Special, pos_infinity, neg_infinity, value}
-use Rattle.pg_read.specs.BoxReading.{InBox}
 use Rattle.pg_read.specs.ArrayReading.{ReadsAll}
 use Rattle.pg_read.specs.OptionReading.{IsNoneOutcome}
+use Rattle.pg_read.specs.Views.{Through}
 
 -- ---- laws
 
@@ -75,10 +75,13 @@ abbrev pub BackOption : {A : Type 0} → (A → Wire) → (A → Outcome A → T
 BackOption wire back None outcome = IsNoneOutcome outcome
 BackOption wire back (Some v) outcome = IfNull (wire v) (IsNoneOutcome outcome) (InSome (back v) outcome)
 
--- WasNull where the value inside is written as NULL, and otherwise a box of what that is read back as
+-- WasNull where the value is written as NULL, and otherwise what it is read back as
+abbrev pub BackNotNull : {A : Type 0} → (A → Wire) → (A → Outcome A → Type 0) → A → Outcome A → Type 0
+BackNotNull wire back v outcome = IfNull (wire v) (IsWasNull outcome) (back v outcome)
+
+-- a box of that of the value inside
 abbrev pub BackBox : {A B : Type 0} → (B → A) → (A → Wire) → (A → Outcome A → Type 0) → B → Outcome B → Type 0
-BackBox inside wire back v outcome =
-    IfNull (wire (inside v)) (IsWasNull outcome) (InBox inside (back (inside v)) outcome)
+BackBox inside wire back v = Through inside (BackNotNull wire back (inside v))
 
 -- an infinity
 abbrev pub IsInfinityOutcome : {A B : Type 0} → (B → Special A) → Special A → Outcome B → Type 0

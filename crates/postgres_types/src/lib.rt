@@ -5,9 +5,12 @@
 //! PostgreSQL's send and receive functions.
 #![tactic(auto)]
 
+mod acceptance;
+pub mod odd;
 mod paired;
 mod rewriting;
 
+pub use acceptance::check_type;
 pub use paired::{Finite, Paired};
 pub use pg_base::bits::BitVec;
 pub use pg_base::fault::{Fault, REASON_LEN, Reason, WasNull, WrongType};

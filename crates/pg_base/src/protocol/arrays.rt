@@ -1,15 +1,15 @@
 //! Arrays.
-ghost use Rattle.std.specs.Prelude.{suc, zero, ◌≡◌, ◌≤◌, ◌+◌, ◌*◌, length, map, IfOk};
+ghost use Rattle.std.specs.Prelude.{suc, zero, pos, ℕ, List, ◌≡◌, ◌≤◌, length, if◌then◌else◌};
 ghost use Rattle.pg_base.specs.Arrays.{SpellsDimensions, SpellsHead, TakesElement, dimension_checks};
-ghost use Rattle.pg_base.specs.Arrays.{head_checks, array_bytes, array_head, flags_of, owned_cell};
+ghost use Rattle.pg_base.specs.Arrays.{head_checks, array_bytes, array_head, cells_of, has_long, has_none, total_len};
 ghost use Rattle.pg_base.specs.Counts.{ToRead, cell_checks};
 ghost use Rattle.pg_types.specs.Faults.{Answers, NeverMemory};
 ghost use Rattle.pg_base.specs.Formats.{Decodes, first_fault_of};
-ghost use Rattle.pg_base.specs.Appending.{Appends, Extends, HasRoomFor, Measures};
+ghost use Rattle.pg_base.specs.Appending.{Appends, Extends, HasRoomFor};
 ghost use Rattle.pg_base.specs.Cells.{Spells, cell_of, frames, max_length};
 
 use super::counts::{Item, Items, split_cell, split_count};
-use super::frames::{MAX_LEN, extend_by_frame, frame_len};
+use super::frames::{MAX_LEN, extend_by_frame};
 use crate::fault::Fault;
 use crate::types::Oid;
 use bytes::BytesMut;
@@ -84,6 +84,13 @@ impl<'a> Item<'a> for Option<&'a [u8]> {
 }
 
 impl<'a> ArrayCells<'a> {
+    /// How many cells are still to come, as the head states it. It takes no memory.
+    pub fn len(&self) -> usize
+        ensures { result ≡ self.now.left }
+    {
+        self.items.len()
+    }
+
     /// The next cell: its length in 4 bytes, big-endian, every negative one NULL, and that many
     /// bytes. Where the length or a part of the bytes is truncated it answers `Size`, and so it
     /// does where bytes are left after the last cell. After a fault, and after the last cell, it
@@ -98,61 +105,72 @@ impl<'a> ArrayCells<'a> {
 /// The length of the head that is written.
 const HEAD_LEN: usize = 20;
 
+/// The length of a length prefix.
+const PREFIX_LEN: usize = 4;
+
 /// Appends an array of one dimension (`array_send`): in 4 bytes each, big-endian, the number 1
 /// of dimensions, the flags, which are 1 where a cell is NULL and else 0, the OID of the elements'
-/// type, the number of cells, and the lower bound; and then the frames of the cells, in the order
-/// of the list. Where the number of cells or the length of a cell passes 2,147,483,647 it answers
-/// `Transmit`. A refusal, `Memory` too, leaves the buffer's bytes as they were.
+/// type, the number of cells, and the lower bound; and then the frames of the cells.
+///
+/// The bytes of the cells stand one after another in `scratch`. Their lengths are `lens`, of which
+/// `None` is NULL; they add up to the length of `scratch`. Where the number of cells or the length
+/// of a cell passes 2,147,483,647 it answers `Transmit`. A refusal, `Memory` too, leaves the
+/// buffer's bytes as they were.
 pub fn array_to_sql(
     _alloc: Global,
     lower_bound: i32,
     oid: Oid,
-    cells: &[Option<Vec<u8>>],
+    scratch: &[u8],
+    lens: &[Option<usize>],
     out: &mut BytesMut,
 ) -> Result<(), Fault>
-    ensures { Appends (array_bytes lower_bound oid (map owned_cell cells.now)) out.old out.new result }
+    requires { total_len lens.now ≡ length scratch.now }
+    ensures { Appends (array_bytes lower_bound oid (cells_of scratch.now lens.now)) out.old out.new result }
 {
-    if cells.len() > MAX_LEN {
+    if lens.len() > MAX_LEN || has_long(scratch.len(), lens) {
         return Err(Fault::Transmit);
     }
-    out.reserve(HEAD_LEN + frames_len(cells)?)?;
-    extend_by_head(lower_bound, oid, cells, out);
-    extend_by_frames(cells, out);
+    out.reserve(HEAD_LEN + PREFIX_LEN * lens.len() + scratch.len())?;
+    extend_by_head(lower_bound, oid, lens, out);
+    extend_by_frames(scratch, lens, out);
     Ok(())
 }
 
-/// How many bytes the frames of so few cells take.
-fn frames_len(cells: &[Option<Vec<u8>>]) -> Result<usize, Fault>
-    requires { length cells.now ≤ max_length }
-    ensures len { Measures (frames (map owned_cell cells.now)) result }
-    ensures short { IfOk result (λ n. n ≤ max_length * (max_length + 4)) }
+/// Whether one of the lengths, which add up to `total`, is more than a length prefix can say.
+fn has_long(total: usize, lens: &[Option<usize>]) -> bool
+    requires { total_len lens.now ≡ total }
+    ensures { result ≡ has_long lens.now }
 {
-    let mut len = 0;
-    for cell in cells {
-        len += frame_len(bytes_of(cell))?;
+    if total <= MAX_LEN {
+        return false;
     }
-    Ok(len)
+    for len in lens {
+        if len.unwrap_or(0) > MAX_LEN {
+            return true;
+        }
+    }
+    false
 }
 
 /// Appends the head. There is room for it.
-fn extend_by_head(lower_bound: i32, oid: Oid, cells: &[Option<Vec<u8>>], out: &mut BytesMut)
-    requires few { length cells.now ≤ max_length }
+fn extend_by_head(lower_bound: i32, oid: Oid, lens: &[Option<usize>], out: &mut BytesMut)
+    requires few { length lens.now ≤ max_length }
     requires room { 20 ≤ out.now.spare }
-    ensures { Extends (array_head lower_bound oid (map owned_cell cells.now)) out.old out.new }
+    ensures { (bytes : List ℕ) → Extends (array_head lower_bound oid (cells_of bytes lens.now)) out.old out.new }
 {
     out.extend_reserved(&1i32.to_be_bytes());
-    out.extend_reserved(&flags_of(cells).to_be_bytes());
+    out.extend_reserved(&flags_of(lens).to_be_bytes());
     out.extend_reserved(&oid.to_be_bytes());
-    out.extend_reserved(&(cells.len() as i32).to_be_bytes());
+    out.extend_reserved(&(lens.len() as i32).to_be_bytes());
     out.extend_reserved(&lower_bound.to_be_bytes());
 }
 
-/// The flags of an array of the cells.
-fn flags_of(cells: &[Option<Vec<u8>>]) -> i32
-    ensures { result ≡ flags_of (map owned_cell cells.now) }
+/// The flags of an array of cells of these lengths.
+fn flags_of(lens: &[Option<usize>]) -> i32
+    ensures { result ≡ (if has_none lens.now then pos 1 else pos 0) }
 {
-    for cell in cells {
-        if cell.is_none() {
+    for len in lens {
+        if len.is_none() {
             return 1;
         }
     }
@@ -160,18 +178,20 @@ fn flags_of(cells: &[Option<Vec<u8>>]) -> i32
 }
 
 /// Appends the frames of the cells. Each has one, and there is room for them.
-fn extend_by_frames(cells: &[Option<Vec<u8>>], out: &mut BytesMut)
-    requires { HasRoomFor (frames (map owned_cell cells.now)) out.now.spare }
-    ensures { Extends (frames (map owned_cell cells.now)) out.old out.new }
+fn extend_by_frames(scratch: &[u8], lens: &[Option<usize>], out: &mut BytesMut)
+    requires whole { total_len lens.now ≡ length scratch.now }
+    requires room { HasRoomFor (frames (cells_of scratch.now lens.now)) out.now.spare }
+    ensures { Extends (frames (cells_of scratch.now lens.now)) out.old out.new }
 {
-    for cell in cells {
-        extend_by_frame(bytes_of(cell), out);
+    let mut rest = scratch;
+    for len in lens {
+        match *len {
+            None => extend_by_frame(None, out),
+            Some(len) => {
+                let (cell, after) = rest.split_at(len);
+                extend_by_frame(Some(cell), out);
+                rest = after;
+            }
+        }
     }
-}
-
-/// The bytes of the cell, borrowed.
-fn bytes_of(cell: &Option<Vec<u8>>) -> Option<&[u8]>
-    ensures { cell_of result ≡ owned_cell cell.now }
-{
-    cell.as_ref().map(|bytes| bytes.as_slice())
 }

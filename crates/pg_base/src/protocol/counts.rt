@@ -89,6 +89,13 @@ impl<'a> Items<'a> {
         Items { left, bytes }
     }
 
+    /// How many items are still to come.
+    pub(super) fn len(&self) -> usize
+        ensures { result ≡ self.now.left }
+    {
+        self.left
+    }
+
     /// The next item, or the fault of the first check that it fails. Where bytes are left after the
     /// last item it answers `Size`. After a fault, and after the last item, it answers `None`, for
     /// good.

@@ -42,6 +42,8 @@ pub(super) fn extend_by_frame(cell: Option<&[u8]>, out: &mut BytesMut)
 {
     match cell {
         None => out.extend_reserved(&(-1i32).to_be_bytes()),
+        // The width of most numbers: length and bytes at once.
+        Some([a, b, c, d]) => out.extend_reserved(&[0, 0, 0, 4, *a, *b, *c, *d]),
         Some(bytes) => {
             out.extend_reserved(&(bytes.len() as i32).to_be_bytes());
             out.extend_reserved(bytes);

@@ -1,26 +1,31 @@
 //! Reading arrays of a fixed number of elements.
-ghost use Rattle.std.specs.Prelude.{Some, IsTrue};
+ghost use Rattle.std.specs.Prelude.{◌≡◌, Some, IsTrue};
 ghost use Rattle.pg_base.specs.ArrayTypes.{accepted_list, element_of};
+ghost use Rattle.pg_base.specs.Options.{NoneOr};
 ghost use Rattle.pg_types.specs.Content.{content};
-ghost use Rattle.pg_types.specs.Faults.{Answers};
+ghost use Rattle.pg_types.specs.Faults.{Answers, NeverMemory};
 ghost use Rattle.pg_base.proofs.SamenessLaws.{list_equivalence};
 ghost use Rattle.pg_base.specs.Sameness.{SameList};
 ghost use Rattle.pg_read.specs.ArrayReadingLaws.{fixed_single, by_elements_single};
-ghost use Rattle.pg_read.specs.ArrayReading.{ReadsArray, ReadsFixed, ReadsByElement};
-ghost use Rattle.pg_read.specs.Reading.{NullAlone};
+ghost use Rattle.pg_read.specs.ArrayReading.{ElementsAll, ReadsArray, ReadsFixed, ReadsByElement};
+ghost use Rattle.pg_read.specs.ElementReading.{Finishes, GivesElement, Stops};
 
 use super::accepts_list;
 use crate::from_sql::{FromSql, from_sql_nullable};
+use array_slots::{ElementSource, Finish, try_from_source};
 use pg_base::acceptance::element_type;
 use pg_base::fault::Fault;
-use pg_base::protocol::array_from_sql;
+use pg_base::protocol::{ArrayCells, array_from_sql};
 use pg_base::types::PgType;
 use std::alloc::Global;
+use std::marker::PhantomData;
 
 /// An array of a type that `T` accepts, of `N` elements, read as for `Vec<T>`; elements after the
 /// first `N` are not read. Where `N` were read, a further element that is truncated is `Size`, and
 /// one that is whole `Excess` with `N`. Where the count is smaller, bytes after the last are `Size`,
 /// and otherwise it is `TooFew` with `N` and the count. NULL is `WasNull`.
+///
+/// The elements are read into their places, so that it takes no memory where none of them does.
 impl<'a, T: FromSql<'a>, const N: usize> FromSql<'a> for [T; N] {
     ghost same = { SameList T.same };
 
@@ -29,7 +34,7 @@ impl<'a, T: FromSql<'a>, const N: usize> FromSql<'a> for [T; N] {
     ghost reads = { λ ty. ReadsByElement (λ element. ReadsArray (λ vs. vs) (ReadsFixed N (T.reads element)))
         (element_of ty) };
 
-    ghost memory_free = { NullAlone };
+    ghost memory_free = { NoneOr (ElementsAll N T.memory_free) };
 
     ghost equivalence = { list_equivalence T.same T.equivalence (λ vs. vs) };
 
@@ -60,24 +65,82 @@ fn read_array<'a, T: FromSql<'a>, const N: usize>(
     raw: &'a [u8],
 ) -> Result<[T; N], Fault>
     requires { IsTrue (T.accepted (content element.now)) }
-    ensures { Answers (ReadsArray (λ vs. vs) (ReadsFixed N (T.reads (content element.now)))
+    ensures outcome { Answers (ReadsArray (λ vs. vs) (ReadsFixed N (T.reads (content element.now)))
         (Some raw.entry.now)) result }
+    ensures never_memory { ElementsAll N T.memory_free raw.entry.now → NeverMemory result }
 {
-    let mut cells = array_from_sql(alloc, raw)?;
-    let mut values = Vec::new(alloc);
-    while let Some(cell) = cells.next() {
-        let cell = cell?;
-        if values.len() == N {
-            return Err(Fault::Excess { expected: N });
+    let cells = array_from_sql(alloc, raw)?;
+    let got = cells.len();
+    let reader: ElementReader<'a, '_, T> = ElementReader {
+        alloc,
+        element,
+        cells,
+        expected: N,
+        fault: Fault::TooFew { expected: N, got },
+        values: PhantomData,
+    };
+    try_from_source(reader)
+}
+
+/// Reads the elements of an array one after another.
+#[derive(Drop)]
+struct ElementReader<'a, 'p, T> {
+    alloc: Global,
+    /// The type of the elements.
+    element: &'p PgType,
+    /// The cells that are to be read.
+    cells: ArrayCells<'a>,
+    /// How many elements are wanted.
+    expected: usize,
+    /// Why there are no more elements: too few are stated, unless another fault was met.
+    fault: Fault,
+    values: PhantomData<T>,
+}
+
+impl<'a, 'p, T: FromSql<'a>> ElementSource<T> for ElementReader<'a, 'p, T> {
+    ghost ready = { λ r. IsTrue (T.accepted (content r.element.now)) };
+
+    ghost gives = { GivesElement T.reads };
+
+    ghost stops = { Stops T.reads T.memory_free };
+
+    fn next(&mut self) -> Option<T> {
+        let cell = match self.cells.next()? {
+            Ok(cell) => cell,
+            Err(fault) => {
+                self.fault = fault;
+                return None;
+            }
+        };
+        match from_sql_nullable(self.alloc, self.element, cell) {
+            Ok(value) => Some(value),
+            Err(fault) => {
+                self.fault = fault;
+                None
+            }
         }
-        let value: T = from_sql_nullable(alloc, element, cell)?;
-        values.push(value)?;
     }
-    match <[T; N]>::try_from(values) {
-        Ok(array) => Ok(array),
-        Err(values) => Err(Fault::TooFew {
-            expected: N,
-            got: values.len(),
-        }),
+}
+
+impl<'a, 'p, T: FromSql<'a>> Finish for ElementReader<'a, 'p, T> {
+    type Fault = Fault;
+
+    ghost stopped_at = { λ r fault. fault ≡ r.fault };
+
+    ghost finishes = { Finishes };
+
+    fn into_fault(self) -> Fault {
+        self.fault
+    }
+
+    /// There is no further element, and no bytes are left.
+    fn finish(mut self) -> Result<(), Fault> {
+        match self.cells.next() {
+            None => Ok(()),
+            Some(Ok(_)) => Err(Fault::Excess {
+                expected: self.expected,
+            }),
+            Some(Err(fault)) => Err(fault),
+        }
     }
 }

@@ -1,6 +1,7 @@
 //! Tests of runs, by readers and writers that give, take or fail in pieces.
 
 mod lines;
+mod streams;
 
 use super::{BLOCK, RunFault, run};
 use lines::{

@@ -66,11 +66,9 @@ fn the_first_damaged_element_is_the_last_answer(rt: HostRuntime) -> Result<(), F
 #[test]
 fn an_array_is_appended(rt: HostRuntime) -> Result<(), Fail> {
     let alloc = rt.alloc();
-    let one = Vec::from_slice(alloc, &[0, 0, 0, 1])?;
-    let two = Vec::from_slice(alloc, &[0, 0, 0, 2])?;
-    let elements = vec![in alloc; Some(one), Some(two)]?;
+    let scratch = [0, 0, 0, 1, 0, 0, 0, 2];
     let mut out = BytesMut::copy_from_slice(alloc, b"before")?;
-    array_to_sql(alloc, 1, 23, elements.as_slice(), &mut out)?;
+    array_to_sql(alloc, 1, 23, &scratch, &[Some(4), Some(4)], &mut out)?;
     same(out.strip_prefix(b"before"), Some(ONE_AND_TWO.as_slice()))
 }
 
@@ -82,6 +80,6 @@ fn an_array_of_null_is_appended(rt: HostRuntime) -> Result<(), Fail> {
         0xff,
     ];
     let mut out = BytesMut::new(alloc);
-    array_to_sql(alloc, -1, 0x0102_0304, &[None], &mut out)?;
+    array_to_sql(alloc, -1, 0x0102_0304, &[], &[None], &mut out)?;
     same(out.as_slice(), cell.as_slice())
 }

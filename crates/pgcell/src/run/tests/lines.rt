@@ -1,5 +1,30 @@
 //! Lines and their answers.
 
+/// The stored run.
+pub const STORED_RUN: [(&[u8], &[u8]); 18] = [
+    (b"norm int4 00000007", b"ok 00000007"),
+    (b"norm int4 000000", b"refused 4"),
+    (b"norm int4 NULL", b"refused 2"),
+    (b"norm int4? NULL", b"null"),
+    (b"norm text -", b"ok -"),
+    (b"norm text ff", b"refused 5"),
+    (b"norm bool 02", b"ok 01"),
+    (
+        b"norm int4[] 000000000000000000000017",
+        b"ok 0000000100000000000000170000000000000001",
+    ),
+    (b"norm int4", b"bad line"),
+    (b"norm addr 020800040a010203", b"ok 022000040a010203"),
+    (b"norm cidr 020800040a010203", b"refused 20"),
+    (b"norm date 7fffffff", b"refused 11"),
+    (b"norm date_inf 7FFFFFFF", b"ok 7fffffff"),
+    (b"type 1007", b"ok _int4"),
+    (b"type 701", b"none"),
+    (b"lsn 16/b374d848", b"ok 16/B374D848"),
+    (b"lsn 16", b"bad lsn"),
+    (b"norm ltree 61", b"refused 14"),
+];
+
 /// Words, cells, `int4` and `text`.
 pub const WORDS: [(&[u8], &[u8]); 29] = [
     (b"norm int4 00000007", b"ok 00000007"),

@@ -1,20 +1,56 @@
 -- What the proof of `extend_by_frames` answers by hand.
-use Rattle.std.proofs.Common.{sym, subst}
+use Rattle.std.proofs.Common.{◌+◌, None, Some, take, drop, sym, subst}
 use Rattle.pg_base.specs.Appending.{Extends, HasRoomFor}
-use Rattle.pg_base.specs.Arrays.{owned_cell}
-use Rattle.pg_base.specs.Cells.{frame}
-use Rattle.pg_base.proofs.FrameLists.{next_frame, next_room}
+use Rattle.pg_base.specs.Arrays.{cells_of}
+use Rattle.pg_base.specs.Cells.{frame, frames}
+use Rattle.pg_base.proofs.CellsByLength.{at_next, cell_framed, next_has_room, null_framed}
+use Rattle.pg_base.proofs.protocol.arrays.extend_by_frames.Goals.{in-None, in-Some}
 use Rattle.pg_base.proofs.protocol.arrays.extend_by_frames.Goals as goal
 
 pub extend_by_frame-requires : goal.extend_by_frame-requires
 extend_by_frame-requires c =
-    let room = next_room owned_cell c.args.cells.now c.loop-cell.cell-index _ c.loop-cell-test.true c.cell-item.is
-    c.args.out.now c.loop-cell.out c.requires c.loop-cell.invariant in
-    subst (λ cell. HasRoomFor (frame cell) c.loop-cell.out.spare) (sym c.bytes_of.ensures) room
+    let lens = c.args.lens.now in
+    let i = c.loop-len.len-index in
+    let rest = c.loop-len.rest.now in
+    let all = frames (cells_of c.args.scratch.now lens) in
+    let here = at_next all rest lens i None None c.args.out.now c.loop-len.out c.loop-len-test.true c.in-None.is
+    c.loop-len.invariant in
+    next_has_room all (frame None) (frames (cells_of rest (drop (i + 1) lens))) c.args.out.now c.loop-len.out
+    c.requires.room here.1
 
-pub loop-cell-preserved : goal.loop-cell-preserved
-loop-cell-preserved c =
-    let here = subst (λ cell. Extends (frame cell) c.loop-cell.out c.extend_by_frame.new.out) c.bytes_of.ensures
-    c.extend_by_frame.ensures in
-    next_frame owned_cell c.args.cells.now c.loop-cell.cell-index _ c.loop-cell-test.true c.cell-item.is c.args.out.now
-    c.loop-cell.out c.extend_by_frame.new.out c.loop-cell.invariant here
+pub extend_by_frame-requires-in-Some : goal.extend_by_frame-requires-in-Some
+extend_by_frame-requires-in-Some c =
+    let lens = c.args.lens.now in
+    let i = c.loop-len.len-index in
+    let n = c.in-Some.len in
+    let rest = c.loop-len.rest.now in
+    let all = frames (cells_of c.args.scratch.now lens) in
+    let here = at_next all rest lens i None (Some n) c.args.out.now c.loop-len.out c.loop-len-test.true c.in-Some.is
+    c.loop-len.invariant in
+    let room = next_has_room all (frame (Some (take n rest))) (frames (cells_of (drop n rest) (drop (i + 1) lens)))
+    c.args.out.now c.loop-len.out c.requires.room here.1 in
+    subst (λ b. HasRoomFor (frame (Some b)) c.loop-len.out.spare) (sym c.split_at.ensures.front) room
+
+pub loop-len-preserved : goal.loop-len-preserved
+loop-len-preserved c =
+    let lens = c.args.lens.now in
+    let i = c.loop-len.len-index in
+    let rest = c.loop-len.rest.now in
+    let start = c.args.out.now in
+    let out = c.loop-len.out in
+    let all = frames (cells_of c.args.scratch.now lens) in
+    let so_far = c.loop-len.invariant in
+    elim c.match-len.branch [
+      | in-None w ↦
+          let here = at_next all rest lens i None None start out c.loop-len-test.true w.in-None.is so_far in
+          rw (w.out-is, w.rest-is)
+          (null_framed all rest (drop (i + 1) lens) start out w.extend_by_frame.new.out here w.extend_by_frame.ensures)
+      | in-Some w ↦
+          let n = w.in-Some.len in
+          let here = at_next all rest lens i None (Some n) start out c.loop-len-test.true w.in-Some.is so_far in
+          let done = w.extend_by_frame-in-Some.new.out in
+          let cell = subst (λ b. Extends (frame (Some b)) out done) w.split_at.ensures.front
+          w.extend_by_frame-in-Some.ensures in
+          rw (w.out-is, w.rest-is, w.split_at.ensures.back)
+          (cell_framed all rest n (drop (i + 1) lens) start out done here cell)
+    ]

@@ -1,10 +1,11 @@
 -- The invariants and measures of `extend_by_frames`.
-use Rattle.std.proofs.Common.{map, take}
-use Rattle.pg_base.specs.Appending.{Extends}
-use Rattle.pg_base.specs.Arrays.{owned_cell}
+use Rattle.std.proofs.Common.{drop}
+use Rattle.pg_base.specs.Arrays.{cells_of}
 use Rattle.pg_base.specs.Cells.{frames}
+use Rattle.pg_base.proofs.CellsByLength.{IsFramedUpTo}
 use Rattle.pg_base.proofs.protocol.arrays.extend_by_frames.Given as goal
 
--- the frames of the cells so far were appended
-abbrev pub invariant-loop-cell : goal.invariant-loop-cell
-invariant-loop-cell l = Extends (frames (map owned_cell (take l.cell-index l.cells))) l.initial.out l.out
+-- the frames of the cells so far were appended, and the rest is the bytes of the others
+abbrev pub invariant-loop-len : goal.invariant-loop-len
+invariant-loop-len l =
+    IsFramedUpTo (frames (cells_of l.scratch l.lens)) l.rest (drop l.len-index l.lens) l.initial.out l.out

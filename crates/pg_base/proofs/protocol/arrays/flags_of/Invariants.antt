@@ -1,8 +1,8 @@
 -- The invariants and measures of `flags_of`.
-use Rattle.std.proofs.Common.{◌≡◌, false, map, take}
-use Rattle.pg_base.specs.Arrays.{has_null, owned_cell}
+use Rattle.std.proofs.Common.{◌≡◌, false, take}
+use Rattle.pg_base.specs.Arrays.{has_none}
 use Rattle.pg_base.proofs.protocol.arrays.flags_of.Given as goal
 
--- no cell so far is NULL
-abbrev pub invariant-loop-cell : goal.invariant-loop-cell
-invariant-loop-cell l = has_null (map owned_cell (take l.cell-index l.cells)) ≡ false
+-- no length so far is that of NULL
+abbrev pub invariant-loop-len : goal.invariant-loop-len
+invariant-loop-len l = has_none (take l.len-index l.lens) ≡ false

@@ -8,4 +8,4 @@ pub returns-clause-outcome : goal.returns-clause-outcome
 returns-clause-outcome g c =
     let element : element_of (content c.args.ty.now) ≡ Some (content c.deref.result.now)
     = sym c.in-Some.ensures ∙ ap (λ ty. Some (content ty)) (sym c.deref.ensures) in
-    rw element c.read_array.ensures
+    rw element c.read_array.ensures.outcome

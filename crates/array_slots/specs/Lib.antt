@@ -1,0 +1,2 @@
+-- The words of reading arrays from sources.
+pub mod Sources

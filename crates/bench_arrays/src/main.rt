@@ -1,0 +1,40 @@
+//! Work of which `bench/compare` takes the time: lists and parameters, written and read.
+//!
+//! `bench_arrays CASE TURNS` does a case so many times, and prints its name and the checksum of what
+//! it made. Without arguments it does each case once.
+#![tactic(auto)]
+
+mod cases;
+mod reading;
+mod values;
+mod writing;
+
+use anyhow::{Context, Result};
+use std::alloc::Global;
+use std::env;
+
+fn main(rt: HostRuntime) -> Result<()> {
+    let mut words = env::args(&rt)?.skip(1);
+    match (words.next(), words.next()) {
+        (Some(case), Some(turns)) => {
+            let turns = turns.as_str().parse::<u32>().context("TURNS is no number")?;
+            show(&rt, rt.alloc(), case.as_str(), turns)
+        }
+        _ => show_all(&rt, rt.alloc()),
+    }
+}
+
+/// Does each case once.
+fn show_all(rt: &impl Print, alloc: Global) -> Result<()> {
+    for case in cases::NAMES {
+        show(rt, alloc, case, 1)?;
+    }
+    Ok(())
+}
+
+/// Does the case so many times, and prints its name and its checksum.
+fn show(rt: &impl Print, alloc: Global, case: &str, turns: u32) -> Result<()> {
+    let sum = cases::run(alloc, case, turns)?.context("no such CASE")?;
+    println!(rt; "{case} {sum:016x}")?;
+    Ok(())
+}

@@ -1,0 +1,3 @@
+-- The words of the examples.
+pub mod Percentages
+pub mod Ratings

@@ -1,0 +1,45 @@
+//! Reads and writes each worked row of the library in turn, and says how many gave their answer and how many met a
+//! refused growth. It fails where a row has another answer than its own or out of memory, or where a refusal left
+//! something.
+//!
+//! `.ci/refuse-growths` runs it with each growth of memory refused.
+#![tactic(auto)]
+
+mod arrays;
+mod checks;
+mod frames;
+mod outcome;
+mod params;
+mod small_values;
+mod texts;
+mod timestamps;
+mod types;
+
+use outcome::Tally;
+use std::process::ExitCode;
+
+fn main(rt: HostRuntime) -> ExitCode {
+    let alloc = rt.alloc();
+    let mut tally = Tally::new();
+    arrays::rows(alloc, &mut tally);
+    frames::rows(alloc, &mut tally);
+    small_values::rows(alloc, &mut tally);
+    texts::rows(alloc, &mut tally);
+    timestamps::rows(alloc, &mut tally);
+    params::rows(alloc, &mut tally);
+    types::rows(alloc, &mut tally);
+    let Tally {
+        own,
+        memory,
+        failed,
+    } = tally;
+    let printed = match failed {
+        Some(name) => println!(rt; "another answer: {name}"),
+        None => println!(rt; "{own} rows answered, {memory} out of memory"),
+    };
+    if failed.is_none() && printed.is_ok() {
+        ExitCode::SUCCESS
+    } else {
+        ExitCode::FAILURE
+    }
+}

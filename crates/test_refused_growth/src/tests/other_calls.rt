@@ -1,0 +1,126 @@
+//! Calls beside reading and writing of values, which take no memory.
+
+use super::calls::{Answered, Target, answer_without_memory, gives, yes};
+use postgres_types::private::{BytesMut, read_be_i32};
+use postgres_types::{
+    BitVec, Fault, Format, FromSql, IsNull, PgLsn, ToSql, Type, rewrite, to_sql_checked_as,
+};
+use rows::code::WRONG_TYPE;
+use rows::fault_code;
+use serde_json::Value;
+use std::alloc::Global;
+use std::collections::HashMap;
+use std::test::Fail;
+
+type Map = HashMap<String, Option<String>>;
+
+fn types() -> Answered {
+    yes(Type::from_oid(23) == Some(Type::INT4), "from_oid")?;
+    yes(Type::from_oid(0).is_none(), "from_oid of no type")?;
+    yes(gives(Type::INT4.try_clone(), Type::INT4), "try_clone")?;
+    yes(
+        gives(Type::INT4_ARRAY.try_clone(), Type::INT4_ARRAY),
+        "try_clone of an array type",
+    )
+}
+
+fn accepts() -> Answered {
+    yes(
+        <Vec<i32> as FromSql>::accepts(&Type::INT4_ARRAY),
+        "accepts of FromSql",
+    )?;
+    yes(
+        <Vec<i32> as ToSql>::accepts(&Type::INT4_ARRAY),
+        "accepts of ToSql",
+    )?;
+    yes(
+        !<Map as FromSql>::accepts(&Type::TEXT),
+        "accepts of another type",
+    )
+}
+
+fn formats() -> Answered {
+    yes(
+        7i32.encode_format(&Type::INT4) == Format::Binary,
+        "encode_format",
+    )?;
+    yes(
+        Some("ab").encode_format(&Type::TEXT) == Format::Binary,
+        "encode_format of Some",
+    )
+}
+
+fn integers_and_positions() -> Answered {
+    let mut buf: &[u8] = &[0, 0, 0, 7, 9];
+    yes(gives(read_be_i32(&mut buf), 7), "read_be_i32")?;
+    yes(buf == [9u8].as_slice(), "the slice after the integer")?;
+    let Ok(lsn) = "16/B374D848".parse::<PgLsn>() else {
+        return Err(Fault::user("PgLsn::from_str"));
+    };
+    yes(u64::from(lsn) == 0x16_b374_d848, "PgLsn")
+}
+
+#[test]
+fn types_and_positions_are_answered(rt: HostRuntime) -> Result<(), Fail> {
+    answer_without_memory(rt.alloc(), |_alloc, _target| {
+        types()?;
+        accepts()?;
+        formats()?;
+        integers_and_positions()
+    })
+}
+
+/// Writing NULL answers so, and appends nothing.
+fn writes_null<T: ToSql>(alloc: Global, ty: &Type, target: &mut Target) -> Answered {
+    target.leave(0)?;
+    let written = None::<T>.to_sql_checked(alloc, ty, &mut target.out);
+    yes(gives(written, IsNull::Yes) && target.has(&[]), "NULL")
+}
+
+#[test]
+fn null_is_written(rt: HostRuntime) -> Result<(), Fail> {
+    answer_without_memory(rt.alloc(), |alloc, target| {
+        writes_null::<i32>(alloc, &Type::INT4, target)?;
+        writes_null::<String>(alloc, &Type::TEXT, target)?;
+        writes_null::<BitVec>(alloc, &Type::VARBIT, target)?;
+        writes_null::<Vec<i32>>(alloc, &Type::INT4_ARRAY, target)
+    })
+}
+
+/// A built-in type that is not accepted is refused as such.
+fn refuses_type<T: ToSql>(alloc: Global, value: &T) -> Answered {
+    let mut out = BytesMut::new(alloc);
+    let checked = value.to_sql_checked(alloc, &Type::CIDR, &mut out);
+    yes(fault_code(checked) == WRONG_TYPE, "to_sql_checked")?;
+    let named = to_sql_checked_as(alloc, value, "value", &Type::CIDR, &mut out);
+    yes(fault_code(named) == WRONG_TYPE, "to_sql_checked_as")
+}
+
+/// The list, the map, the text, the bits and the document are refused as parameters of CIDR.
+fn refuses_types(alloc: Global, map: &Map, list: &Vec<i32>, text: &String) -> Answered {
+    refuses_type(alloc, &7i32)?;
+    refuses_type(alloc, map)?;
+    refuses_type(alloc, list)?;
+    refuses_type(alloc, text)?;
+    refuses_type(alloc, &Value::Null)
+}
+
+fn rewrites_no_other_type(alloc: Global) -> Answered {
+    let mut out = BytesMut::new(alloc);
+    let text = rewrite::<String>(alloc, &Type::INT4, Some(b"ab"), &mut out);
+    yes(fault_code(text) == WRONG_TYPE, "rewrite as String")?;
+    let list = rewrite::<Vec<i32>>(alloc, &Type::INT4, None, &mut out);
+    yes(fault_code(list) == WRONG_TYPE, "rewrite as Vec")
+}
+
+#[test]
+fn other_built_in_types_are_refused(rt: HostRuntime) -> Result<(), Fail> {
+    let alloc = rt.alloc();
+    let map = Map::new(alloc);
+    let list = Vec::from_slice(alloc, &[1i32, 2])?;
+    let text = String::from_str(alloc, "ab")?;
+    answer_without_memory(alloc, |alloc, _target| {
+        refuses_types(alloc, &map, &list, &text)?;
+        rewrites_no_other_type(alloc)
+    })
+}
