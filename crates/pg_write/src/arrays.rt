@@ -17,9 +17,7 @@ use pg_base::protocol::{MAX_LEN, array_to_sql};
 use pg_base::types::PgType;
 use std::alloc::Global;
 use std::boxed::BoxedSlice;
-
-/// How many bytes of the scratch buffer are reserved for a value.
-const VALUE_LEN: usize = 8;
+use std::mem;
 
 /// An array of a type that `T` writes (`array_send`): one dimension, the element type's OID, the
 /// elements in their order, and the lower bound 1, or 0 for OID_VECTOR and INT2_VECTOR. More than
@@ -197,7 +195,8 @@ fn list_to_sql<T: ToSql>(
     if values.len() > MAX_LEN {
         return Err(Fault::Transmit);
     }
-    let mut scratch = BytesMut::with_capacity(alloc, VALUE_LEN * values.len())?;
+    // The cells of most elements are no longer than the values.
+    let mut scratch = BytesMut::with_capacity(alloc, mem::size_of_val(values))?;
     let mut lens = Vec::with_capacity(alloc, values.len())?;
     elements_to_sql(alloc, &element, values, &mut scratch, &mut lens)?;
     let first = lower_bound(ty);
@@ -227,13 +226,15 @@ fn elements_to_sql<T: ToSql>(
     ensures { NotesCells (element_cells (T.wire (content element.now)) values.now)
         scratch.new.items lens.new.items result }
 {
+    let mut start = scratch.len();
     for value in values {
-        let start = scratch.len();
         let is_null = value.to_sql(alloc, element, scratch)?;
-        let Some(len) = frame_len(is_null, scratch.len() - start) else {
+        let end = scratch.len();
+        let Some(len) = frame_len(is_null, end - start) else {
             return Err(Fault::Transmit);
         };
         lens.push_reserved(len);
+        start = end;
     }
     Ok(())
 }

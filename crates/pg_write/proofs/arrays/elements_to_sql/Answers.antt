@@ -20,11 +20,11 @@ returns-in_err-is_null g c =
 
 pub returns-in_default : goal.returns-in_default
 returns-in_default g c =
-    let told : frame_len c.in_ok-is_null.is_null (c.len.result - c.len-start.result) ≡ None =
+    let told : frame_len c.in_ok-is_null.is_null (c.len-end.result - c.loop-value.start) ≡ None =
     rw (sym c.frame_len.ensures) c.in_default.is in
     let next = unframed (g.T.ToSql.wire (content c.args.element.now) c.value-item.result)
-    c.loop-value.scratch.items c.to_sql.new.out.items c.in_ok-is_null.is_null c.len-start.result c.len.result
-    c.in_ok-is_null.ensures.writes c.len-start.ensures.value c.len.ensures.value told in
+    c.loop-value.scratch.items c.to_sql.new.out.items c.in_ok-is_null.is_null c.loop-value.start c.len-end.result
+    c.in_ok-is_null.ensures.writes c.loop-value.invariant.4 c.len-end.ensures.value told in
     next_fault (g.T.ToSql.wire (content c.args.element.now)) c.args.values.now c.loop-value.value-index _
     c.loop-value-test.true c.value-item.is _ transmit c.loop-value.invariant.0 next
 
@@ -34,11 +34,11 @@ loop-value-preserved g c =
     let new = c.to_sql.new.out.items in
     let lens = c.loop-value.lens.items in
     let so_far = c.loop-value.invariant in
-    let told : frame_len c.in_ok-is_null.is_null (c.len.result - c.len-start.result) ≡ Some c.in-Some.len =
+    let told : frame_len c.in_ok-is_null.is_null (c.len-end.result - c.loop-value.start) ≡ Some c.in-Some.len =
     rw (sym c.frame_len.ensures) c.in-Some.is in
     let one_more = noted (g.T.ToSql.wire (content c.args.element.now) c.value-item.result) old new lens
-    c.in_ok-is_null.is_null c.len-start.result c.len.result c.in-Some.len so_far.1
-    c.in_ok-is_null.ensures.writes c.len-start.ensures.value c.len.ensures.value told in
+    c.in_ok-is_null.is_null c.loop-value.start c.len-end.result c.in-Some.len so_far.1
+    c.in_ok-is_null.ensures.writes so_far.4 c.len-end.ensures.value told in
     let next = next_cell (g.T.ToSql.wire (content c.args.element.now)) c.args.values.now c.loop-value.value-index _
     c.loop-value-test.true c.value-item.is (cells_of old lens) one_more.0 so_far.0 one_more.1 in
     let pushed = c.push_reserved.ensures.items in (
@@ -46,4 +46,5 @@ loop-value-preserved g c =
       ap total_len pushed ∙ one_more.3,
       omega (arith, so_far.2, c.push_reserved.ensures.len),
       omega (arith, so_far.3, c.push_reserved.ensures.capacity),
+      c.len-end.ensures.value,
     )
