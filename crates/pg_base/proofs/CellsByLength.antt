@@ -1,14 +1,16 @@
 -- Cells by their lengths, and their frames one after another.
 use Rattle.std.proofs.Common.{◌≡◌, suc, ◌<◌, ◌≤◌, ◌+◌, ◌*◌, ◌++◌, ℕ, ℤ, List, [], ◌∷◌, length, take, drop, get_or}
-use Rattle.std.proofs.Common.{Option, Some}
+use Rattle.std.proofs.Common.{Option, Some, option_map}
 use Rattle.std.proofs.Common.{None, Bool, true, false, not, ◌||◌, pos, negsuc, cond, refl, sym, ap, ap₂, ◌∙◌, subst}
-use Rattle.std.proofs.Common.{arith, length-append}
+use Rattle.std.proofs.Common.{append_assoc, arith, length-append}
 use Rattle.std.proofs.lemmas.Bool.Decides.{nat_tests}
-use Rattle.std.proofs.lemmas.List.{drop_more, length-take-le, length-drop}
+use Rattle.std.proofs.Math.Bool.{or-true, or-false}
+use Rattle.std.proofs.Math.Seq.{take-append_seam}
+use Rattle.std.proofs.lemmas.List.{drop_all, drop_at, drop_more, length-take-le, length-drop}
 use Rattle.std.specs.Int.{w32, to_be_bytes}
 use Rattle.bytes.specs.Filled.{Filled}
 use Rattle.pg_base.specs.Appending.{Extends, HasRoomFor}
-use Rattle.pg_base.specs.Arrays.{array_bytes, array_head, cells_of, flags_of, has_long, has_none, has_null, total_len}
+use Rattle.pg_base.specs.Arrays.{array_bytes, array_head, cells_of, flags_of, has_long, has_none, has_null, head_bytes, total_len}
 use Rattle.pg_base.specs.Cells.{be, concat, fits_prefix, frame, frames, max_length}
 use Rattle.pg_base.specs.Counts.{count_bytes, number_width}
 use Rattle.pg_base.proofs.Concat.{Bytes, concat-assoc, cond_passes, extends_both, room_for_first}
@@ -102,23 +104,43 @@ unframed_by_length bytes (Some n ∷ lens) e h =
     first_or_later n bytes lens (omega (arith, e))
     (unframed_by_length (drop n bytes) lens (rest_len n bytes lens e)) (fits_prefix n) refl h
 
--- an array of so many cells has a head, of twenty bytes
-pub head_by_length : (lower_bound : ℤ) (oid : ℕ) (bytes : List ℕ) (lens : List (Option ℕ)) → length lens ≤ max_length
-    → (h : List ℕ) × (array_head lower_bound oid (cells_of bytes lens) ≡ Some h) × (length h ≡ 20)
-head_by_length lower_bound oid bytes lens few =
-    let flags : List ℕ = be w32 (flags_of (cells_of bytes lens)) in
-    let number : List ℕ = be w32 (pos (length lens)) in
-    let head : List ℕ = be w32 (pos 1) ++ flags ++ to_be_bytes w32 oid ++ number ++ be w32 lower_bound in
-    (head, rw (short_lens bytes lens few) refl, refl)
+-- an array of so many cells has a head
+pub short_head : (lower_bound : ℤ) (oid : ℕ) (bytes : List ℕ) (lens : List (Option ℕ)) → length lens ≤ max_length
+    → array_head lower_bound oid (cells_of bytes lens)
+    ≡ Some (head_bytes (flags_of (cells_of bytes lens)) lower_bound oid (be w32 (pos (length lens))))
+short_head lower_bound oid bytes lens few =
+    ap (option_map (head_bytes (flags_of (cells_of bytes lens)) lower_bound oid)) (short_lens bytes lens few)
+
+-- four bytes after the first four are put right
+pub put_right : (old one wrong right rest before : List ℕ) → length one ≡ number_width
+    → length wrong ≡ number_width → before ≡ old ++ (one ++ (wrong ++ rest))
+    → take (length old + number_width) before ++ (right ++ drop (length old + number_width + number_width) before)
+    ≡ old ++ (one ++ (right ++ rest))
+put_right old one wrong right rest before four width is =
+    let front : length (old ++ one) ≡ length old + number_width = omega (arith, four, length-append old one) in
+    let both : length ((old ++ one) ++ wrong) ≡ length old + number_width + number_width
+    = omega (arith, front, width, length-append (old ++ one) wrong) in
+    let apart : before ≡ (old ++ one) ++ (wrong ++ rest) = is ∙ sym (append_assoc old one (wrong ++ rest)) in
+    let first : take (length old + number_width) before ≡ old ++ one
+    = ap (take (length old + number_width)) apart
+    ∙ ap (λ n. take n ((old ++ one) ++ (wrong ++ rest))) (sym front)
+    ∙ take-append_seam (old ++ one) (wrong ++ rest) in
+    let last : drop (length old + number_width + number_width) before ≡ rest
+    = ap (drop (length old + number_width + number_width)) (apart ∙ sym (append_assoc (old ++ one) wrong rest))
+    ∙ drop_at ((old ++ one) ++ wrong) rest (length old + number_width + number_width) both in
+    ap₂ (λ s t. s ++ (right ++ t)) first last ∙ append_assoc old one (right ++ rest)
 
 pub array_by_length : (lower_bound : ℤ) (oid : ℕ) (bytes : List ℕ) (lens : List (Option ℕ)) → length lens ≤ max_length
     → total_len lens ≡ length bytes → has_long lens ≡ false
     → (b : List ℕ) × (array_bytes lower_bound oid (cells_of bytes lens) ≡ Some b)
     × (length b ≡ 20 + number_width * length lens + length bytes)
 array_by_length lower_bound oid bytes lens few whole short =
-    let h = head_by_length lower_bound oid bytes lens few in
-    let f = framed_by_length bytes lens whole short in
-    (h.0 ++ f.0, ap₂ concat h.1 f.1, omega (arith, h.2, f.2, length-append h.0 f.0))
+    let head : List ℕ = head_bytes (flags_of (cells_of bytes lens)) lower_bound oid (be w32 (pos (length lens))) in
+    let f = framed_by_length bytes lens whole short in (
+      head ++ f.0,
+      ap₂ concat (short_head lower_bound oid bytes lens few) f.1,
+      omega (arith, f.2, length-append head f.0),
+    )
 
 -- and more cells have none
 pub long_count : (lower_bound : ℤ) (oid : ℕ) (bytes : List ℕ) (lens : List (Option ℕ)) → max_length < length lens
@@ -188,3 +210,27 @@ cell_framed all rest n lens start now new p h = (
   rest_len n rest lens p.0,
   goes_on all (frame (Some (take n rest))) (frames (cells_of (drop n rest) lens)) start now new p.1 h,
 )
+
+-- whether one of the lengths is that of NULL: one was found, or is still to come
+abbrev pub HasNone : Bool → List (Option ℕ) → List (Option ℕ) → Type 0
+HasNone found lens rest = has_none lens ≡ (found || has_none rest)
+
+module _ (found : Bool) (lens : List (Option ℕ)) (i : ℕ) (d : Option ℕ) (h : i < length lens) where
+  next_first : (n : Option ℕ) → get_or lens i d ≡ n → has_none (drop i lens) ≡ has_none (n ∷ drop (i + 1) lens)
+  next_first n is = ap has_none (drop_more lens i d h ∙ ap (λ m. m ∷ drop (i + 1) lens) is)
+
+  -- the next is that of NULL
+  pub none_found : get_or lens i d ≡ None → HasNone found lens (drop i lens) → HasNone true lens (drop (i + 1) lens)
+  none_found is so_far = so_far ∙ ap (λ t. found || t) (next_first None is) ∙ or-true found
+
+  -- it is that of another cell
+  pub some_found : (n : ℕ) → get_or lens i d ≡ Some n → HasNone found lens (drop i lens)
+      → HasNone found lens (drop (i + 1) lens)
+  some_found n is so_far = so_far ∙ ap (λ t. found || t) (next_first (Some n) is)
+
+-- all were looked at
+pub all_found : (found : Bool) (lens : List (Option ℕ)) (i : ℕ) → length lens ≤ i → HasNone found lens (drop i lens)
+    → found ≡ has_none lens
+all_found found lens i end so_far =
+    let none : drop i lens ≡ [] = drop_all i lens end in
+    sym (so_far ∙ ap (λ rest. found || has_none rest) none ∙ or-false found)

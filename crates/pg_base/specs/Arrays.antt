@@ -104,12 +104,14 @@ has_null (c ∷ cs) = is_none c || has_null cs
 abbrev pub flags_of : List Cell → ℤ
 flags_of cs = if has_null cs then pos 1 else pos 0
 
--- the head that is written, of one dimension whatever the number of cells: the flags, the OID of the elements' type,
--- the number of cells, and the number of the first of them
+-- a head of one dimension: the flags, the OID of the elements' type, the bytes of the number of cells, and the number
+-- of the first of them
+abbrev pub head_bytes : ℤ → ℤ → ℕ → List ℕ → List ℕ
+head_bytes flags lower_bound oid n = be w32 (pos 1) ++ be w32 flags ++ to_be_bytes w32 oid ++ n ++ be w32 lower_bound
+
+-- the head that is written, of one dimension whatever the number of cells
 abbrev pub array_head : ℤ → ℕ → List Cell → Option (List ℕ)
-array_head lower_bound oid cs =
-    option_map (λ n. be w32 (pos 1) ++ be w32 (flags_of cs) ++ to_be_bytes w32 oid ++ n ++ be w32 lower_bound)
-    (count_bytes (length cs))
+array_head lower_bound oid cs = option_map (head_bytes (flags_of cs) lower_bound oid) (count_bytes (length cs))
 
 -- the cell of an array: the head, and the frames of its elements' cells
 abbrev pub array_bytes : ℤ → ℕ → List Cell → Option (List ℕ)

@@ -25,7 +25,7 @@ pub(crate) use bits::without_pad;
 pub use bits::{Varbit, varbit_from_sql, varbit_to_sql};
 pub use bytea::{bytea_from_sql, bytea_to_sql};
 pub use civil::{date_from_sql, date_to_sql, time_from_sql, time_to_sql};
-pub use frames::{MAX_LEN, frame_to_sql};
+pub use frames::{MAX_LEN, frame_to_sql, set_number};
 pub use hstore::{HstoreEntries, hstore_from_sql, hstore_to_sql};
 pub use lsn::{lsn_from_sql, lsn_to_sql};
 pub use network::{Inet, inet_from_sql, inet_to_sql, macaddr_from_sql, macaddr_to_sql};

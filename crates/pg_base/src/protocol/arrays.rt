@@ -1,15 +1,16 @@
 //! Arrays.
-ghost use Rattle.std.specs.Prelude.{suc, zero, pos, ℕ, List, ◌≡◌, ◌≤◌, length, if◌then◌else◌};
+ghost use Rattle.std.specs.Prelude.{suc, zero, pos, ◌≡◌, ◌≤◌, length, Some};
+ghost use Rattle.std.specs.Int.{w32};
 ghost use Rattle.pg_base.specs.Arrays.{SpellsDimensions, SpellsHead, TakesElement, dimension_checks};
-ghost use Rattle.pg_base.specs.Arrays.{head_checks, array_bytes, array_head, cells_of, has_long, has_none, total_len};
+ghost use Rattle.pg_base.specs.Arrays.{head_checks, array_bytes, head_bytes, cells_of, has_long, has_none, total_len};
 ghost use Rattle.pg_base.specs.Counts.{ToRead, cell_checks};
 ghost use Rattle.pg_types.specs.Faults.{Answers, NeverMemory};
 ghost use Rattle.pg_base.specs.Formats.{Decodes, first_fault_of};
 ghost use Rattle.pg_base.specs.Appending.{Appends, Extends, HasRoomFor};
-ghost use Rattle.pg_base.specs.Cells.{Spells, cell_of, frames, max_length};
+ghost use Rattle.pg_base.specs.Cells.{Spells, be, cell_of, frames, max_length};
 
 use super::counts::{Item, Items, split_cell, split_count};
-use super::frames::{MAX_LEN, extend_by_frame};
+use super::frames::{MAX_LEN, extend_by_frame, set_number};
 use crate::fault::Fault;
 use crate::types::Oid;
 use bytes::BytesMut;
@@ -105,6 +106,9 @@ impl<'a> ArrayCells<'a> {
 /// The length of the head that is written.
 const HEAD_LEN: usize = 20;
 
+/// Where in the head the flags stand.
+const FLAGS_AT: usize = 4;
+
 /// The length of a length prefix.
 const PREFIX_LEN: usize = 4;
 
@@ -131,8 +135,11 @@ pub fn array_to_sql(
         return Err(Fault::Transmit);
     }
     out.reserve(HEAD_LEN + PREFIX_LEN * lens.len() + scratch.len())?;
-    extend_by_head(lower_bound, oid, lens, out);
-    extend_by_frames(scratch, lens, out);
+    let start = out.len();
+    extend_by_head(lower_bound, oid, lens.len(), out);
+    // The flags are put right after the frames, so that one pass over the lengths does for both.
+    let has_null = extend_by_frames(scratch, lens, out);
+    set_number(start + FLAGS_AT, u32::from(has_null), out);
     Ok(())
 }
 
@@ -152,41 +159,35 @@ fn has_long(total: usize, lens: &[Option<usize>]) -> bool
     false
 }
 
-/// Appends the head. There is room for it.
-fn extend_by_head(lower_bound: i32, oid: Oid, lens: &[Option<usize>], out: &mut BytesMut)
-    requires few { length lens.now ≤ max_length }
+/// Appends the head of so many cells, of which none is NULL. There is room for it.
+fn extend_by_head(lower_bound: i32, oid: Oid, count: usize, out: &mut BytesMut)
+    requires few { count ≤ max_length }
     requires room { 20 ≤ out.now.spare }
-    ensures { (bytes : List ℕ) → Extends (array_head lower_bound oid (cells_of bytes lens.now)) out.old out.new }
+    ensures { Extends (Some (head_bytes (pos 0) lower_bound oid (be w32 (pos count)))) out.old out.new }
 {
     out.extend_reserved(&1i32.to_be_bytes());
-    out.extend_reserved(&flags_of(lens).to_be_bytes());
+    out.extend_reserved(&0i32.to_be_bytes());
     out.extend_reserved(&oid.to_be_bytes());
-    out.extend_reserved(&(lens.len() as i32).to_be_bytes());
+    out.extend_reserved(&(count as i32).to_be_bytes());
     out.extend_reserved(&lower_bound.to_be_bytes());
 }
 
-/// The flags of an array of cells of these lengths.
-fn flags_of(lens: &[Option<usize>]) -> i32
-    ensures { result ≡ (if has_none lens.now then pos 1 else pos 0) }
-{
-    for len in lens {
-        if len.is_none() {
-            return 1;
-        }
-    }
-    0
-}
-
-/// Appends the frames of the cells. Each has one, and there is room for them.
-fn extend_by_frames(scratch: &[u8], lens: &[Option<usize>], out: &mut BytesMut)
+/// Appends the frames of the cells, and says whether one of them is NULL. Each has a frame, and there is
+/// room for them.
+fn extend_by_frames(scratch: &[u8], lens: &[Option<usize>], out: &mut BytesMut) -> bool
     requires whole { total_len lens.now ≡ length scratch.now }
     requires room { HasRoomFor (frames (cells_of scratch.now lens.now)) out.now.spare }
-    ensures { Extends (frames (cells_of scratch.now lens.now)) out.old out.new }
+    ensures frames { Extends (frames (cells_of scratch.now lens.now)) out.old out.new }
+    ensures null { result ≡ has_none lens.now }
 {
     let mut rest = scratch;
+    let mut has_null = false;
     for len in lens {
         match *len {
-            None => extend_by_frame(None, out),
+            None => {
+                extend_by_frame(None, out);
+                has_null = true;
+            }
             Some(len) => {
                 let (cell, after) = rest.split_at(len);
                 extend_by_frame(Some(cell), out);
@@ -194,4 +195,5 @@ fn extend_by_frames(scratch: &[u8], lens: &[Option<usize>], out: &mut BytesMut)
             }
         }
     }
+    has_null
 }

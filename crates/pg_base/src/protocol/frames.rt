@@ -1,5 +1,6 @@
 //! Frames.
-ghost use Rattle.std.specs.Prelude.{◌≤◌, ◌+◌, IfOk};
+ghost use Rattle.std.specs.Prelude.{◌≡◌, ◌≤◌, ◌+◌, ◌++◌, IfOk, drop, length, take};
+ghost use Rattle.std.specs.Int.{to_be_bytes, w32};
 ghost use Rattle.pg_base.specs.Cells.{cell_of, frame, max_length};
 ghost use Rattle.pg_base.specs.Counts.{number_width};
 ghost use Rattle.pg_base.specs.Appending.{Appends, Extends, HasRoomFor, Measures};
@@ -49,4 +50,14 @@ pub(super) fn extend_by_frame(cell: Option<&[u8]>, out: &mut BytesMut)
             out.extend_reserved(bytes);
         }
     }
+}
+
+/// Writes the number over the 4 bytes from that place on, big-endian.
+pub fn set_number(at: usize, number: u32, out: &mut BytesMut)
+    requires { at + number_width ≤ length out.old.items }
+    ensures items { out.new.items
+        ≡ take at out.old.items ++ (to_be_bytes w32 number ++ drop (at + number_width) out.old.items) }
+    ensures spare { out.new.spare ≡ out.old.spare }
+{
+    out.as_mut_slice()[at..at + 4].copy_from_slice(&number.to_be_bytes());
 }
