@@ -7,7 +7,7 @@ use Rattle.std.proofs.lemmas.Bool.Decides.{nat_tests}
 use Rattle.std.proofs.Math.Bool.{or-true, or-false}
 use Rattle.std.proofs.Math.Seq.{take-append_seam}
 use Rattle.std.proofs.lemmas.List.{drop_all, drop_at, drop_more, length-take-le, length-drop}
-use Rattle.std.specs.Int.{w32, to_be_bytes}
+use Rattle.std.specs.Int.{w32}
 use Rattle.bytes.specs.Filled.{Filled}
 use Rattle.pg_base.specs.Appending.{Extends, HasRoomFor}
 use Rattle.pg_base.specs.Arrays.{array_bytes, array_head, cells_of, flags_of, has_long, has_none, has_null, head_bytes, total_len}

@@ -10,7 +10,7 @@ ghost use Rattle.pg_write.specs.Writing.{Writes, checked};
 use bytes::{BufMut, BytesMut};
 use pg_base::fault::Fault;
 use pg_base::format::IsNull;
-use pg_base::protocol::MAX_LEN;
+use pg_base::protocol::{MAX_LEN, set_number};
 use pg_base::types::PgType;
 use pg_write::to_sql::ToSql;
 use std::alloc::Global;
@@ -116,17 +116,8 @@ fn frame_from(start: usize, out: &mut BytesMut) -> Result<(), Fault>
     if len > MAX_LEN {
         return Err(Fault::Transmit);
     }
-    set_len(start, len as u32, out);
+    set_number(start, len as u32, out);
     Ok(())
-}
-
-/// Writes the length at `start` over the 4 bytes there.
-fn set_len(start: usize, len: u32, out: &mut BytesMut)
-    requires { start + LEN ≤ length out.old.items }
-    ensures { out.new.items
-        ≡ take start out.old.items ++ (to_be_bytes w32 len ++ drop (start + LEN) out.old.items) }
-{
-    out.as_mut_slice()[start..start + LEN].copy_from_slice(&len.to_be_bytes());
 }
 
 /// Checked writing of the boxed value.

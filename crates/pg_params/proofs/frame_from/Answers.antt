@@ -25,4 +25,4 @@ returns c =
     let same : len ≡ length cell = omega
     (arith, c.len.ensures.value, length-drop (c.args.start + number_width) c.args.out.now.items) in
     let few : length cell ≤ max_length = omega (arith, same, c.if-len-gt-MAX_LEN.false) in
-    (_, frame_bytes cell len few same, c.set_len.ensures)
+    (_, frame_bytes cell len few same, c.set_number.ensures.items)

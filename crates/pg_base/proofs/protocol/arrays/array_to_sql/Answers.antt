@@ -6,9 +6,9 @@ use Rattle.std.proofs.lemmas.Int.{to_z-of_z}
 use Rattle.std.proofs.lemmas.Result.{err_from_is_err_and}
 use Rattle.std.specs.Int.{w32, to_be_bytes}
 use Rattle.pg_base.specs.Appending.{Extends, HasRoomFor}
-use Rattle.pg_base.specs.Arrays.{array_bytes, array_head, cells_of, flags_of, has_none, head_bytes}
-use Rattle.pg_base.specs.Cells.{be, concat, frames}
-use Rattle.pg_base.proofs.Concat.{appends_reserved, extends_both}
+use Rattle.pg_base.specs.Arrays.{array_bytes, cells_of, flags_of, has_none, head_bytes}
+use Rattle.pg_base.specs.Cells.{be, concat}
+use Rattle.pg_base.proofs.Concat.{extends_both}
 use Rattle.pg_base.proofs.CellsByLength.{array_by_length, framed_by_length, short_head, long_cell, long_count, null_by_length, put_right}
 use Rattle.pg_base.proofs.protocol.arrays.array_to_sql.Goals.{then-lens-gt-MAX_LEN-via-then-lens-gt-MAX_LEN}
 use Rattle.pg_base.proofs.protocol.arrays.array_to_sql.Goals.{then-lens-gt-MAX_LEN-via-else-lens-gt-MAX_LEN+then-has_long}
