@@ -228,7 +228,11 @@ fn elements_to_sql<T: ToSql>(
 {
     let mut start = scratch.len();
     for value in values {
-        let is_null = value.to_sql(alloc, element, scratch)?;
+        // A match moves the fault of a refusal alone, where `?` would move each answer.
+        let is_null = match value.to_sql(alloc, element, scratch) {
+            Ok(is_null) => is_null,
+            Err(fault) => return Err(fault),
+        };
         let end = scratch.len();
         let Some(len) = frame_len(is_null, end - start) else {
             return Err(Fault::Transmit);
