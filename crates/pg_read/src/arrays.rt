@@ -114,8 +114,15 @@ fn read_list<'a, T: FromSql<'a>>(
     let mut cells = array_from_sql(alloc, raw)?;
     let mut values = Vec::new(alloc);
     while let Some(cell) = cells.next() {
-        let cell = cell?;
-        let value: T = from_sql_nullable(alloc, element, cell)?;
+        // A match moves the fault of a refusal alone, where `?` would move each answer.
+        let cell = match cell {
+            Ok(cell) => cell,
+            Err(fault) => return Err(fault),
+        };
+        let value: T = match from_sql_nullable(alloc, element, cell) {
+            Ok(value) => value,
+            Err(fault) => return Err(fault),
+        };
         values.push(value)?;
     }
     Ok(values)
