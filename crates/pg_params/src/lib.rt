@@ -100,7 +100,7 @@ fn param_to_sql(
     let start = out.len();
     // The frame of NULL, whose length is put right once a cell stands after it.
     out.put_i32(-1)?;
-    match write_boxed(alloc, param, ty, out) {
+    match param.to_sql_checked(alloc, ty, out) {
         Ok(IsNull::Yes) => Ok(()),
         Ok(IsNull::No) => frame_from(start, out),
         Err(fault) => Err(fault),
@@ -118,18 +118,4 @@ fn frame_from(start: usize, out: &mut BytesMut) -> Result<(), Fault>
     }
     set_number(start, len as u32, out);
     Ok(())
-}
-
-/// Checked writing of the boxed value.
-fn write_boxed(
-    alloc: Global,
-    param: &Box<dyn ToSql>,
-    ty: &PgType,
-    out: &mut BytesMut,
-) -> Result<IsNull, Fault>
-    ensures { Writes (checked (ToSql-box param.now).ToSql.accepted (ToSql-box param.now).ToSql.name
-        (ToSql-box param.now).ToSql.wire (content ty.now) param.now.value)
-        out.old.items out.new.items result }
-{
-    param.to_sql_checked(alloc, ty, out)
 }
