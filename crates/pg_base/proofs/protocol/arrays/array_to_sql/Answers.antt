@@ -79,7 +79,7 @@ returns c =
     ∙ put_right with_room.items one zero flags (rest ++ f.0) framed.items refl refl both.0
     ∙ ap (λ y. with_room.items ++ (one ++ (y ++ (rest ++ f.0)))) right
     ∙ ap (λ s. s ++ (whole ++ f.0)) c.in_ok-reserve.ensures.items in
-    subst (λ b. Extends b c.args.out.now c.set_number.new.out) 
+    subst (λ b. Extends b c.args.out.now c.set_number.new.out)
     (sym (ap₂ concat (short_head c.args.lower_bound c.args.oid scratch lens c.if-lens-gt-MAX_LEN.false) f.1)) (
       is,
       omega (
