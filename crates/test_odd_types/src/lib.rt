@@ -1,4 +1,4 @@
-//! The conversions of the module `odd`, in every wrapper.
+//! The conversions of the module `odd`, in every wrapper, and the types of docs/OWN-TYPES.md.
 #![tactic(auto)]
 
 #[cfg(test)]

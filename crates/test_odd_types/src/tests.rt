@@ -1,6 +1,8 @@
 //! The tests, by what a conversion has of its own.
 
 mod nulls;
+mod percentages;
 mod refusals;
 mod timestamps;
+mod user_defined;
 mod wrappers;
