@@ -7,7 +7,7 @@ use Rattle.pg_types.specs.declared.fault.Fault.{Fault}
 use Rattle.pg_types.specs.declared.fault.Fault.TheVariants.{Memory, WasNull, WrongType, Size, Utf8, Count}
 use Rattle.pg_types.specs.declared.fault.Fault.TheVariants.{KeyLength, Dimensions, TooFew, Excess, Decode, Transmit}
 use Rattle.pg_types.specs.declared.fault.Fault.TheVariants.{JsonVersion, TextVersion, JsonText, JsonNumber, Family}
-use Rattle.pg_types.specs.declared.fault.Fault.TheVariants.{Netmask, AddressLength, HostBits, User}
+use Rattle.pg_types.specs.declared.fault.Fault.TheVariants.{Netmask, AddressLength, HostBits, User, FieldCount, FieldOid}
 
 -- a fault other than Memory, as plain data: which one it is, and the content of its fields
 pub data Refusal : Type 0 where
@@ -31,6 +31,8 @@ pub data Refusal : Type 0 where
   address_length : Refusal
   host_bits : Refusal
   user : List ℕ → Refusal
+  field_count : Refusal
+  field_oid : Refusal
 
 -- the number of a fault
 abbrev pub number_of : Refusal → ℕ
@@ -54,6 +56,8 @@ number_of netmask = 18
 number_of address_length = 19
 number_of host_bits = 20
 number_of (user text) = 21
+number_of field_count = 22
+number_of field_oid = 23
 
 -- a fault as plain data; Memory is none, since it says nothing of the cell or the value
 abbrev pub refusal_of : Fault → Option Refusal
@@ -78,6 +82,8 @@ refusal_of Netmask = Some netmask
 refusal_of AddressLength = Some address_length
 refusal_of HostBits = Some host_bits
 refusal_of (User text) = Some (user text.bytes)
+refusal_of FieldCount = Some field_count
+refusal_of FieldOid = Some field_oid
 
 -- the number of a fault: that of its refusal, and 1 for Memory
 abbrev pub code_of : Fault → ℕ

@@ -150,13 +150,19 @@ pub enum Fault {
     /// The refusal of a user's own conversion, by its text; see [`user`](Fault::user).
     #[error("{0}")]
     User(Reason),
+    /// A record has another number of fields than its type.
+    #[error("invalid field count")]
+    FieldCount,
+    /// A record's field has another type than its type says.
+    #[error("unexpected field type")]
+    FieldOid,
 }
 
 impl Fault {
     ghost use Rattle.std.specs.Prelude.{Some};
     ghost use Rattle.pg_types.specs.Faults.{code_of, refusal_of, user};
 
-    /// The number of the fault, from 1 for `Memory` to 21 for `User`.
+    /// The number of the fault, from 1 for `Memory` to 23 for `FieldOid`.
     pub fn code(&self) -> u32
         ensures { result ≡ code_of self.now }
     {
@@ -182,6 +188,8 @@ impl Fault {
             Fault::AddressLength => 19,
             Fault::HostBits => 20,
             Fault::User(_) => 21,
+            Fault::FieldCount => 22,
+            Fault::FieldOid => 23,
         }
     }
 
