@@ -81,16 +81,25 @@ module _ {A : Type 0} (wire : A → Wire) where
     next_refusal cs None so_far next = tt
     next_refusal cs (Some r) so_far next = next_fault cs r so_far next
 
--- what a list is written as, where its elements have cells
-pub list_written : {A : Type 0} (wire : Content → A → Wire) (ty element : Content) (vs : List A) (cs : List Cell)
-    → element_of ty ≡ Some element → length vs ≤ max_length → element_cells (wire element) vs ≡ Ok cs
-    → wire_list wire ty vs ≡ wire_of (array_bytes (lower_bound_of ty) (oid_of element) cs)
-list_written wire ty element vs cs element_is few cells =
-    let fits : fits_prefix (length vs) ≡ true = grind (arith, nat_tests) in
-    ap (λ m. wire_by_element wire ty m vs) element_is
-    ∙ ap (λ t. cond t (wire_array (lower_bound_of ty) (oid_of element) (element_cells (wire element) vs))
-    (Err transmit)) fits
-    ∙ ap (wire_array (lower_bound_of ty) (oid_of element)) cells
+module _ {A : Type 0} (wire : Content → A → Wire) (ty element : Content) (vs : List A)
+    (element_is : element_of ty ≡ Some element) (few : length vs ≤ max_length) where
+  list_cells : wire_list wire ty vs ≡ wire_array (lower_bound_of ty) (oid_of element) (element_cells (wire element) vs)
+  list_cells =
+      let fits : fits_prefix (length vs) ≡ true = grind (arith, nat_tests) in
+      ap (λ m. wire_by_element wire ty m vs) element_is
+      ∙ ap (λ t. cond t (wire_array (lower_bound_of ty) (oid_of element) (element_cells (wire element) vs))
+      (Err transmit)) fits
+
+  -- what a list is written as, where its elements have cells
+  pub list_written : (cs : List Cell) → element_cells (wire element) vs ≡ Ok cs
+      → wire_list wire ty vs ≡ wire_of (array_bytes (lower_bound_of ty) (oid_of element) cs)
+  list_written cs cells = list_cells ∙ ap (wire_array (lower_bound_of ty) (oid_of element)) cells
+
+  -- and where they are refused, unless memory ran out
+  pub list_refused : (o : Option Refusal) → IfSome o (λ r. element_cells (wire element) vs ≡ Err r)
+      → IfSome o (λ r. wire_list wire ty vs ≡ Err r)
+  list_refused None cells = tt
+  list_refused (Some r) cells = list_cells ∙ ap (wire_array (lower_bound_of ty) (oid_of element)) cells
 
 -- an appender that did not refuse had bytes to append
 pub had_bytes : {u : ⊤} (w : Option (List ℕ)) (old new : Filled) → Appends w old new (Ok u) → (b : List ℕ)
