@@ -51,7 +51,7 @@ value_from_outcome form first_fault b (Err r) h e = absurd (no_fault (first_faul
 
 -- ---- types over another
 
-through_gives_single : {A B : Type 0} (inside : B → A) (same : A → A → Type 0) (gives : Outcome A → Type 0)
+pub through_gives_single : {A B : Type 0} (inside : B → A) (same : A → A → Type 0) (gives : Outcome A → Type 0)
     → GivesSingle same gives → GivesSingle (λ v w. same (inside v) (inside w)) (Through inside gives)
 through_gives_single inside same gives single (Ok v) (Ok w) h k = single (Ok (inside v)) (Ok (inside w)) h k
 through_gives_single inside same gives single (Ok v) (Err s) h k = single (Ok (inside v)) (Err s) h k

@@ -1,2 +1,4 @@
 -- The lemmas of this crate's proofs.
+mod FieldNames
+mod RecordSteps
 mod RewritingLemmas

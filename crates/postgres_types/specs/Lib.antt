@@ -2,6 +2,8 @@
 pub mod ArrayBackLaws
 pub mod BackLaws
 pub mod BoxBackLaws
+pub mod CompositeFields
+pub mod Composites
 pub mod Conversion
 pub mod FormatBackLaws
 pub mod HstoreBackLaws
@@ -9,6 +11,8 @@ pub mod Odd
 pub mod OptionBackLaws
 pub mod PlainLaws
 pub mod ReadingBack
+pub mod RecordLaws
+pub mod Records
 pub mod RelatedListLaws
 pub mod Rewriting
 pub mod SpecialBackLaws

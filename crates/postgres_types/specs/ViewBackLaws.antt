@@ -12,7 +12,7 @@ use Rattle.postgres_types.specs.ReadingBack.{IsLawful, KeepsFinite, WrittenAsByt
 -- ---- values that show one of another type inside
 module _ {A B : Type 0} (inside : B → A) where
   -- what is said of the value inside may be replaced
-  through_map : (P Q : Outcome A → Type 0) → ((o : Outcome A) → P o → Q o) → (o : Outcome B) → Through inside P o
+  pub through_map : (P Q : Outcome A → Type 0) → ((o : Outcome A) → P o → Q o) → (o : Outcome B) → Through inside P o
       → Through inside Q o
   through_map P Q f (Ok v) h = f (Ok (inside v)) h
   through_map P Q f (Err r) h = f (Err r) h

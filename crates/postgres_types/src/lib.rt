@@ -6,6 +6,7 @@
 #![tactic(auto)]
 
 mod acceptance;
+pub mod composite;
 pub mod odd;
 mod paired;
 mod rewriting;

@@ -1,0 +1,210 @@
+//! The fields of a composite type in a row.
+ghost use Rattle.std.specs.Prelude.{◌≡◌, ℕ, List, Bool, IsTrue, [], Ok};
+ghost use Rattle.pg_types.specs.Content.{FieldsContent, fields_content};
+ghost use Rattle.pg_types.specs.Faults.{Answers, Outcome};
+ghost use Rattle.pg_base.specs.Sameness.{IsEquivalence};
+ghost use Rattle.pg_read.specs.Reading.{GivesSingle};
+ghost use Rattle.postgres_types.specs.CompositeFields.{BackAnd, BackEnd, ReadsAnd, ReadsEnd, SameAnd, accepts_and};
+ghost use Rattle.postgres_types.specs.CompositeFields.{and_equivalence, and_lawful, and_single, bytes_and};
+ghost use Rattle.postgres_types.specs.CompositeFields.{ends_equivalence, ends_lawful, ends_single, no_fields};
+ghost use Rattle.postgres_types.specs.RecordLaws.{AreLawful};
+ghost use Rattle.postgres_types.specs.Records.{AppendsBytes, Bytes};
+
+use super::reading::{read_end, read_field};
+use super::writing::field_to_sql;
+use crate::paired::Paired;
+use bytes::BytesMut;
+use pg_base::fault::Fault;
+use pg_base::types::Field;
+use pg_read::from_sql::FromSql;
+use pg_write::to_sql::ToSql;
+use std::alloc::Global;
+
+/// The value of a field before those of others.
+#[derive(Debug, PartialEq, Eq, Drop)]
+pub struct And<A, B>(pub A, pub B);
+
+/// No further field.
+#[derive(Debug, PartialEq, Eq, Drop)]
+pub struct End;
+
+/// The values of fields that are read: [`End`], or [`And`] of a type that is read and of others.
+pub trait FromFields<'a>: Sized + Drop {
+    /// Two values have the same content.
+    ghost same: { Self → Self → Type 0 };
+
+    /// The fields' types are accepted.
+    ghost accepted: { FieldsContent → Bool };
+
+    /// The fields' bytes have that outcome.
+    ghost reads: { FieldsContent → List ℕ → Outcome Self → Type 0 };
+
+    /// Reads the fields, one after another, and then the record's end: the first fault of a field,
+    /// or `Size` where bytes trail the last one, or `Memory`. The types must be accepted.
+    fn from_fields(alloc: Global, fields: &[Field], raw: &'a [u8]) -> Result<Self, Fault>
+        requires { IsTrue (accepted (fields_content fields.now)) }
+        ensures { Answers (reads (fields_content fields.now) raw.entry.now) result };
+
+    /// Whether so many fields, of these types, are read. Their names don't matter.
+    fn accepts(fields: &[Field]) -> bool
+        ensures { result ≡ accepted (fields_content fields.now) };
+
+    /// Law: sameness is an equivalence.
+    ghost equivalence: { IsEquivalence same };
+
+    /// Law: the fields' bytes have at most one outcome.
+    ghost single: { (fields : FieldsContent) → IsTrue (accepted fields) → (s : List ℕ)
+        → GivesSingle same (reads fields s) };
+}
+
+/// The values of fields that are written: [`End`], or [`And`] of a type that is written and of
+/// others. References to the values are written as they are.
+pub trait ToFields: Drop {
+    /// The fields' types are accepted.
+    ghost accepted: { FieldsContent → Bool };
+
+    /// What the values are written as.
+    ghost bytes: { FieldsContent → Self → Bytes };
+
+    /// Appends the fields, one after another. The types must be accepted. A refusal is that of the
+    /// first field that is refused, and leaves the buffer's bytes as they were, `Memory` too.
+    fn to_fields(&self, alloc: Global, fields: &[Field], out: &mut BytesMut) -> Result<(), Fault>
+        requires { IsTrue (accepted (fields_content fields.now)) }
+        ensures { AppendsBytes (bytes (fields_content fields.now) self.now) out.old.items out.new.items result };
+
+    /// Whether so many fields, of these types, are written. Their names don't matter.
+    fn accepts(fields: &[Field]) -> bool
+        ensures { result ≡ accepted (fields_content fields.now) };
+}
+
+/// The values of fields that are read back as they are written.
+///
+/// It has no function of its own, as [`Paired`] has none.
+pub trait PairedFields<'a>: FromFields<'a> + ToFields {
+    /// What the bytes of written values are read back as.
+    ghost back: { FieldsContent → Self → Outcome Self → Type 0 };
+
+    /// Law: both directions accept the same types.
+    ghost types: { (fields : FieldsContent) → Self.FromFields.accepted fields ≡ Self.ToFields.accepted fields };
+
+    /// Law: reading, writing and reading back belong together.
+    ghost lawful: { (fields : FieldsContent) → IsTrue (Self.FromFields.accepted fields)
+        → AreLawful Self.same (Self.reads fields) (Self.bytes fields) (back fields) };
+}
+
+impl<'a> FromFields<'a> for End {
+    ghost same = { λ _ _. Unit {0} };
+
+    ghost accepted = { no_fields };
+
+    ghost reads = { ReadsEnd };
+
+    ghost equivalence = { ends_equivalence };
+
+    ghost single = { λ fields _. ends_single fields };
+
+    fn from_fields(_alloc: Global, _fields: &[Field], raw: &'a [u8]) -> Result<End, Fault> {
+        read_end(raw)?;
+        Ok(End)
+    }
+
+    fn accepts(fields: &[Field]) -> bool {
+        fields.is_empty()
+    }
+}
+
+impl ToFields for End {
+    ghost accepted = { no_fields };
+
+    ghost bytes = { λ _ _. Ok [] };
+
+    fn to_fields(
+        &self,
+        _alloc: Global,
+        _fields: &[Field],
+        _out: &mut BytesMut,
+    ) -> Result<(), Fault> {
+        Ok(())
+    }
+
+    fn accepts(fields: &[Field]) -> bool {
+        fields.is_empty()
+    }
+}
+
+impl<'a> PairedFields<'a> for End {
+    ghost use Rattle.std.specs.Prelude.{refl};
+
+    ghost back = { BackEnd };
+
+    ghost types = { λ _. refl };
+
+    ghost lawful = { λ fields _. ends_lawful fields };
+}
+
+impl<'a, A: FromSql<'a>, B: FromFields<'a>> FromFields<'a> for And<A, B> {
+    ghost same = { SameAnd A.same B.same };
+
+    ghost accepted = { accepts_and A.accepted B.accepted };
+
+    ghost reads = { ReadsAnd A.reads B.reads };
+
+    ghost equivalence = { and_equivalence A.same B.same A.equivalence B.equivalence };
+
+    ghost single = { and_single A.same A.accepted A.reads B.same B.accepted B.reads A.single B.single };
+
+    fn from_fields(alloc: Global, fields: &[Field], raw: &'a [u8]) -> Result<And<A, B>, Fault> {
+        let Some((field, fields)) = fields.split_first() else {
+            unreachable!()
+        };
+        let mut buf = raw;
+        let value: A = read_field(alloc, field.type_(), &mut buf)?;
+        let others = B::from_fields(alloc, fields, buf)?;
+        Ok(And(value, others))
+    }
+
+    fn accepts(fields: &[Field]) -> bool {
+        match fields.split_first() {
+            Some((field, fields)) => A::accepts(field.type_()) && B::accepts(fields),
+            None => false,
+        }
+    }
+}
+
+impl<A: ToSql, B: ToFields> ToFields for And<A, B> {
+    ghost accepted = { accepts_and A.accepted B.accepted };
+
+    ghost bytes = { bytes_and A.wire B.bytes };
+
+    fn to_fields(&self, alloc: Global, fields: &[Field], out: &mut BytesMut) -> Result<(), Fault> {
+        let Some((field, fields)) = fields.split_first() else {
+            unreachable!()
+        };
+        let start = out.len();
+        field_to_sql(alloc, &self.0, field.type_(), out)?;
+        let outcome = self.1.to_fields(alloc, fields, out);
+        if outcome.is_err() {
+            out.truncate(start);
+        }
+        outcome
+    }
+
+    fn accepts(fields: &[Field]) -> bool {
+        match fields.split_first() {
+            Some((field, fields)) => A::accepts(field.type_()) && B::accepts(fields),
+            None => false,
+        }
+    }
+}
+
+impl<'a, A: Paired<'a>, B: PairedFields<'a>> PairedFields<'a> for And<A, B> {
+    ghost use Rattle.postgres_types.specs.CompositeFields.{and_types};
+
+    ghost back = { BackAnd A.back B.back };
+
+    ghost types = { and_types A.FromSql.accepted A.ToSql.accepted B.FromFields.accepted B.ToFields.accepted
+        A.types B.types };
+
+    ghost lawful = { and_lawful A.same A.FromSql.accepted A.reads B.same B.FromFields.accepted B.reads A.wire A.back
+        B.bytes B.back A.lawful B.lawful };
+}

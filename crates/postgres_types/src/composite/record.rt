@@ -1,0 +1,204 @@
+//! Structs as the values of a composite type.
+ghost use Rattle.std.specs.Prelude.{◌≡◌, ◌≤◌, List, Bool, IsTrue, length, map, nat_le, ℕ};
+ghost use Rattle.pg_types.specs.Content.{content, fields_content, kind_of};
+ghost use Rattle.pg_base.proofs.SamenessLaws.{inside_equivalence};
+ghost use Rattle.pg_read.specs.ReadingLaws.{through_single};
+ghost use Rattle.pg_read.specs.Views.{ReadsThrough, Through};
+ghost use Rattle.postgres_types.specs.Composites.{accepts_record, are_named, composite_lawful, composite_single};
+ghost use Rattle.postgres_types.specs.Composites.{composite_types, is_composite, is_record, reads_record, record_cell};
+ghost use Rattle.postgres_types.specs.Records.{AppendsBytes, fields_of_kind, record_bytes};
+ghost use Rattle.postgres_types.specs.ViewBackLaws.{through_lawful};
+
+use super::fields::{FromFields, PairedFields, ToFields};
+use super::reading::{fields_of, read_field_count};
+use super::writing::field_count_to_sql;
+use crate::acceptance::check_type;
+use crate::paired::Paired;
+use bytes::BytesMut;
+use pg_base::fault::Fault;
+use pg_base::format::{Format, IsNull};
+use pg_base::types::{Field, KindRef, PgType};
+use pg_read::from_sql::FromSql;
+use pg_write::to_sql::ToSql;
+use std::alloc::Global;
+use std::fmt;
+
+/// A struct whose fields are those of a composite type.
+///
+/// [`Composite`] around it is read and written. The struct says what the type and its fields are
+/// called, and how its own fields stand in a row; that it is read, written and read back as it
+/// should be follows from the types of the fields.
+pub trait Record: Sized + fmt::Debug + Drop {
+    /// Its fields in a row: `And<String, And<i32, End>>` for a text and an integer.
+    type Fields: ToFields;
+
+    /// The name of the composite type, without its schema.
+    ghost type_name: { List ℕ };
+
+    /// The names of its fields, in their order.
+    ghost names: { List (List ℕ) };
+
+    /// The values of its fields.
+    ghost inside: { Self → Self.Fields };
+
+    /// The name of the composite type, without its schema: at most 64 bytes.
+    fn name() -> &'static str
+        ensures { result.now ≡ type_name };
+
+    /// The names of the type's fields, in their order.
+    fn field_names() -> &'static [&'static str]
+        ensures { map (λ name. name.now) result.now ≡ names };
+
+    /// The struct of these fields.
+    fn from_row(row: Self::Fields) -> Self
+        ensures { inside result ≡ row };
+
+    /// Appends its fields, as [`ToFields::to_fields`] does, of references to them in a row.
+    fn row_to_sql(&self, alloc: Global, fields: &[Field], out: &mut BytesMut) -> Result<(), Fault>
+        requires { IsTrue (Self.Fields.accepted (fields_content fields.now)) }
+        ensures { AppendsBytes (Self.Fields.bytes (fields_content fields.now) (inside self.now))
+            out.old.items out.new.items result };
+
+    /// Law: the name is short enough for a `WrongType`.
+    ghost short: { IsTrue (nat_le (length type_name) 64) };
+}
+
+/// The value of a composite type that is a struct.
+///
+/// It accepts a composite type of the struct's name, with fields of the struct's names in their
+/// order, of types that the struct's fields accept. Its cell is a record: see
+/// [the module](super::composite). NULL is `WasNull`; in a `WrongType` its name is the type's.
+///
+/// In reading, fewer than 4 bytes are `Size`, and another number of fields is `FieldCount`. Then,
+/// field by field: a truncated OID is `Size`, another OID than that of the field's type `FieldOid`,
+/// a truncated cell `Size`, and a cell that the field's type refuses has its fault. Trailing bytes
+/// are `Size`. In writing, the first field that is refused gives the fault, which is `Transmit`
+/// where its cell passes 2,147,483,647 bytes. A refusal leaves the buffer's bytes as they were.
+#[derive(Debug, PartialEq, Eq, Drop)]
+pub struct Composite<T>(pub T);
+
+/// Whether the fields have these names, in this order.
+fn are_named(names: &[&str], fields: &[Field]) -> bool
+    ensures { result ≡ are_named (map (λ name. name.now) names.now) (fields_content fields.now) }
+{
+    if names.len() != fields.len() {
+        return false;
+    }
+    for place in 0..names.len() {
+        if fields[place].name() != names[place] {
+            return false;
+        }
+    }
+    true
+}
+
+/// Whether it is a composite type.
+fn is_composite(ty: &PgType) -> bool
+    ensures { result ≡ is_composite (kind_of (content ty.now)) }
+{
+    matches!(ty.kind(), KindRef::Composite(_))
+}
+
+/// Whether it is a composite type of that name, whose fields have these names.
+fn is_record(name: &str, names: &[&str], ty: &PgType) -> bool
+    ensures { result ≡ is_record name.now (map (λ name. name.now) names.now) (content ty.now) }
+{
+    ty.name() == name && is_composite(ty) && are_named(names, fields_of(ty))
+}
+
+impl<'a, T: Record> FromSql<'a> for Composite<T>
+where
+    T::Fields: FromFields<'a>,
+{
+    ghost same = { λ v w. T.Fields.same (T.inside v.0) (T.inside w.0) };
+
+    ghost accepted = { accepts_record T.type_name T.names T.Fields.FromFields.accepted };
+
+    ghost reads = { λ ty. ReadsThrough (λ v. T.inside v.0) (reads_record T.Fields.reads ty) };
+
+    ghost equivalence = { inside_equivalence (λ v. T.inside v.0) T.Fields.same T.Fields.equivalence };
+
+    ghost single = { λ ty ok. through_single (λ v. T.inside v.0) T.Fields.same (reads_record T.Fields.reads ty)
+        (composite_single T.type_name T.names T.Fields.FromFields.accepted T.Fields.same T.Fields.reads T.Fields.single ty ok) };
+
+    fn from_sql(alloc: Global, ty: &PgType, raw: &'a [u8]) -> Result<Composite<T>, Fault> {
+        let fields = fields_of(ty);
+        let mut buf = raw;
+        read_field_count(fields.len(), &mut buf)?;
+        let row = T::Fields::from_fields(alloc, fields, buf)?;
+        Ok(Composite(T::from_row(row)))
+    }
+
+    fn from_sql_null(_alloc: Global, _ty: &PgType) -> Result<Composite<T>, Fault> {
+        Err(Fault::WasNull)
+    }
+
+    fn accepts(ty: &PgType) -> bool {
+        is_record(T::name(), T::field_names(), ty)
+            && <T::Fields as FromFields<'a>>::accepts(fields_of(ty))
+    }
+}
+
+/// Appends the record. A refusal leaves the buffer's bytes as they were.
+fn record_to_sql<T: Record>(
+    alloc: Global,
+    value: &T,
+    fields: &[Field],
+    out: &mut BytesMut,
+) -> Result<(), Fault>
+    requires { IsTrue (T.Fields.accepted (fields_content fields.now)) }
+    ensures { AppendsBytes (record_bytes (length fields.now)
+        (T.Fields.bytes (fields_content fields.now) (T.inside value.now)))
+        out.old.items out.new.items result }
+{
+    let start = out.len();
+    field_count_to_sql(fields.len(), out)?;
+    let outcome = value.row_to_sql(alloc, fields, out);
+    if outcome.is_err() {
+        out.truncate(start);
+    }
+    outcome
+}
+
+impl<T: Record> ToSql for Composite<T> {
+    ghost accepted = { accepts_record T.type_name T.names T.Fields.accepted };
+
+    ghost name = { T.type_name };
+
+    ghost wire = { λ ty v. record_cell T.Fields.bytes ty (T.inside v.0) };
+
+    fn to_sql(&self, alloc: Global, ty: &PgType, out: &mut BytesMut) -> Result<IsNull, Fault> {
+        record_to_sql(alloc, &self.0, fields_of(ty), out)?;
+        Ok(IsNull::No)
+    }
+
+    fn accepts(ty: &PgType) -> bool {
+        is_record(T::name(), T::field_names(), ty) && T::Fields::accepts(fields_of(ty))
+    }
+
+    fn to_sql_checked(
+        &self,
+        alloc: Global,
+        ty: &PgType,
+        out: &mut BytesMut,
+    ) -> Result<IsNull, Fault> {
+        check_type(<Self as ToSql>::accepts(ty), ty, T::name())?;
+        self.to_sql(alloc, ty, out)
+    }
+
+    fn encode_format(&self, _ty: &PgType) -> Format {
+        Format::Binary
+    }
+}
+
+impl<'a, T: Record> Paired<'a> for Composite<T>
+where
+    T::Fields: PairedFields<'a>,
+{
+    ghost back = { λ ty v. Through (λ w. T.inside w.0) (T.Fields.back (fields_of_kind (kind_of ty)) (T.inside v.0)) };
+
+    ghost types = { λ ty. composite_types T.type_name T.names T.Fields.FromFields.accepted T.Fields.ToFields.accepted T.Fields.types ty };
+
+    ghost lawful = { λ ty ok. through_lawful (λ v. T.inside v.0) (reads_record T.Fields.reads ty) T.Fields.same (record_cell T.Fields.bytes ty)
+        (T.Fields.back (fields_of_kind (kind_of ty))) (composite_lawful T.type_name T.names T.Fields.FromFields.accepted T.Fields.same T.Fields.reads T.Fields.bytes T.Fields.back T.Fields.lawful ty ok) };
+}

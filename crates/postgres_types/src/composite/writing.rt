@@ -1,0 +1,49 @@
+//! Writing a record.
+ghost use Rattle.std.specs.Prelude.{◌≡◌, IsTrue};
+ghost use Rattle.pg_types.specs.Content.{content, oid_of};
+ghost use Rattle.pg_base.specs.Counts.{count_bytes};
+ghost use Rattle.postgres_types.specs.Records.{AppendsBytes, field_bytes, or_transmit};
+
+use bytes::{BufMut, BytesMut};
+use pg_base::fault::Fault;
+use pg_base::protocol::MAX_LEN;
+use pg_base::types::PgType;
+use pg_params::frame_value;
+use pg_write::to_sql::ToSql;
+use std::alloc::Global;
+
+/// Appends the number of a record's fields, in 4 bytes; `Transmit` where it passes 2,147,483,647.
+/// A refusal leaves the buffer's bytes as they were, `Memory` too.
+pub fn field_count_to_sql(count: usize, out: &mut BytesMut) -> Result<(), Fault>
+    ensures { AppendsBytes (or_transmit (count_bytes count)) out.old.items out.new.items result }
+{
+    if count > MAX_LEN {
+        return Err(Fault::Transmit);
+    }
+    out.put_i32(count as i32)?;
+    Ok(())
+}
+
+/// Appends a record's field of that type: the OID of the type, in 4 bytes, and the frame of the
+/// value's cell. The type must be accepted.
+///
+/// A refusal is that of the value's writing, or `Transmit` where its cell passes 2,147,483,647
+/// bytes. It leaves the buffer's bytes as they were, `Memory` too.
+pub fn field_to_sql<T: ToSql>(
+    alloc: Global,
+    value: &T,
+    ty: &PgType,
+    out: &mut BytesMut,
+) -> Result<(), Fault>
+    requires { IsTrue (T.accepted (content ty.now)) }
+    ensures { AppendsBytes (field_bytes (oid_of (content ty.now)) (T.wire (content ty.now) value.now))
+        out.old.items out.new.items result }
+{
+    let start = out.len();
+    out.put_u32(ty.oid())?;
+    let outcome = frame_value(alloc, value, ty, out);
+    if outcome.is_err() {
+        out.truncate(start);
+    }
+    outcome
+}
