@@ -1,4 +1,4 @@
 -- The lemmas of this crate's proofs.
-mod FieldNames
-mod RecordSteps
+pub mod FieldNames
+pub mod RecordSteps
 mod RewritingLemmas

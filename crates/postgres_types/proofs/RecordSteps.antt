@@ -1,9 +1,10 @@
 -- The steps of reading and writing a record, one after another.
-use Rattle.std.proofs.Common.{◌≡◌, ◌<◌, ◌++◌, ◌+◌, ℕ, List, [], ◌∷◌, length, take, Option, Some, None, Result, Ok, Err, IfSome}
-use Rattle.std.proofs.Common.{refl, sym, ap, subst, ◌∙◌, append_assoc, inl, inr, nat_eq, suc, arith}
+use Rattle.std.proofs.Common.{◌≡◌, ◌<◌, ◌++◌, ◌+◌, ℕ, List, [], ◌∷◌, length, take, drop, Option, Some, None, Result, Ok, Err, IfSome}
+use Rattle.std.proofs.Common.{refl, sym, ap, subst, ◌∙◌, append_assoc, append-nil, inl, inr, nat_eq, suc, arith}
 use Rattle.std.specs.Bool.{⊤}
 use Rattle.std.proofs.lemmas.Bool.Decides.{nat_tests}
 use Rattle.std.proofs.Math.Seq.{take-append_seam}
+use Rattle.std.proofs.lemmas.List.{take-append-drop, take_all}
 use Rattle.std.proofs.lemmas.Option.{IfSome_then}
 use Rattle.pg_types.specs.Content.{Content, FieldsContent, FieldAnd, content, field_name, field_type}
 use Rattle.pg_types.specs.Content.{fields_content, oid_of}
@@ -18,7 +19,7 @@ use Rattle.pg_read.specs.FrameReading.{BeginsWithCells, ReadsFirst}
 use Rattle.pg_params.specs.ParamWriting.{AppendsFrame}
 use Rattle.pg_write.specs.ArrayWriting.{element_frame_cell, with_frame}
 use Rattle.postgres_types.specs.CompositeFields.{ReadsAnd, and, no_fields}
-use Rattle.postgres_types.specs.Records.{AnswersRefusal, AppendsBytes, Both, Bytes, CellThen, CountThen, FieldThen}
+use Rattle.postgres_types.specs.Records.{AppendsBytes, AppendsBytesOrPart, Both, Bytes, CellThen, CountThen, FieldThen}
 use Rattle.postgres_types.specs.Records.{FrameThen, IsRefused, ReadsNext, TakesNumber, Unless, append_bytes}
 use Rattle.postgres_types.specs.Records.{concat_bytes, count_fault, count_of, field_bytes, frame_bytes, oid_fault}
 use Rattle.postgres_types.specs.Records.{or_transmit}
@@ -56,6 +57,33 @@ module _ (first others : Bytes) (old : List ℕ) where
     is ∙ ap (take (length old)) (q.0 ∙ p.2) ∙ take-append_seam old p.0,
     IfSome_then (refusal_of f) q.1 (λ r e. ap (λ x. concat_bytes x others) p.1 ∙ ap (append_bytes p.0) e),
   )
+
+  -- the first, and then others or a part of them
+  pub then_part : {u : ⊤} (mid new : List ℕ) (result : Result ⊤ Fault) → AppendsBytes first old mid (Ok u)
+      → AppendsBytesOrPart others mid new result → AppendsBytesOrPart (concat_bytes first others) old new result
+  then_part mid new (Ok done) p q = both_appended mid new p q
+  then_part mid new (Err f) p q =
+      let rest = drop (length mid) new in
+      let is : new ≡ old ++ (p.0 ++ rest) = sym (take-append-drop (length mid) new)
+      ∙ ap (λ s. s ++ rest) (q.0 ∙ p.2) ∙ append_assoc old p.0 rest in (
+        ap (take (length old)) is ∙ take-append_seam old (p.0 ++ rest),
+        IfSome_then (refusal_of f) q.1 (λ r e. ap (λ x. concat_bytes x others) p.1 ∙ ap (append_bytes p.0) e),
+      )
+
+  -- the first are refused, so that no part is there
+  pub first_refused_part : (new : List ℕ) (f : Fault) → AppendsBytes first old new (Err f)
+      → AppendsBytesOrPart (concat_bytes first others) old new (Err f)
+  first_refused_part new f p = (
+    ap (take (length old)) p.0 ∙ take_all (length old) old (omega arith),
+    IfSome_then (refusal_of f) p.1 (λ r e. ap (λ x. concat_bytes x others) e),
+  )
+
+-- the last bytes, before none
+pub last_appended : (last : Bytes) (old new : List ℕ) (result : Result ⊤ Fault) → AppendsBytes last old new result
+    → AppendsBytesOrPart (concat_bytes last (Ok [])) old new result
+last_appended last old new (Ok done) p =
+    (p.0, ap (λ x. concat_bytes x (Ok [])) p.1 ∙ ap Ok (append-nil p.0), p.2)
+last_appended last old new (Err f) p = first_refused_part last (Ok []) old new f p
 
 -- a cell that is refused as a frame's has the same refusal
 no_frame : (c : Cell) (x : Option (List ℕ)) (r : Refusal) → with_frame c x ≡ Err r → or_transmit x ≡ Err r

@@ -1,6 +1,6 @@
 -- Records, the cells of composite types (record_recv, record_send): the number of the fields in four bytes, and then of
 -- each field the OID of its type in four bytes and the frame of its cell.
-use Rattle.std.specs.Prelude.{◌≡◌, ◌==◌, ◌⊎◌, ◌++◌, Bool, ℕ, suc, pos, List, [], ◌∷◌, take, Option, Some, None, Result, Ok, Err, ⊤}
+use Rattle.std.specs.Prelude.{◌≡◌, ◌==◌, ◌⊎◌, ◌++◌, Bool, ℕ, suc, pos, List, [], ◌∷◌, length, take, Option, Some, None, Result, Ok, Err, ⊤}
 use Rattle.std.specs.Prelude.{IfSome, IsOk}
 use Rattle.std.specs.Cmp.Lexicographic.{pointwise}
 use Rattle.std.specs.Int.{w32, to_be_bytes}
@@ -164,3 +164,8 @@ ReadsNext (Some r) reads memory_free old result new = AnswersRefusal r result ×
 abbrev pub AppendsBytes : Bytes → List ℕ → List ℕ → Result ⊤ Fault → Type 0
 AppendsBytes w old new (Ok done) = (b : List ℕ) × (w ≡ Ok b) × (new ≡ old ++ b)
 AppendsBytes w old new (Err f) = (new ≡ old) × IfSome (refusal_of f) (λ r. w ≡ Err r)
+
+-- the same, but after a refusal what was appended so far follows the old bytes
+abbrev pub AppendsBytesOrPart : Bytes → List ℕ → List ℕ → Result ⊤ Fault → Type 0
+AppendsBytesOrPart w old new (Ok done) = AppendsBytes w old new (Ok done)
+AppendsBytesOrPart w old new (Err f) = (take (length old) new ≡ old) × IfSome (refusal_of f) (λ r. w ≡ Err r)

@@ -15,5 +15,5 @@ mod writing;
 
 pub use fields::{And, End, FromFields, PairedFields, ToFields};
 pub use reading::{fields_of, read_end, read_field, read_field_count};
-pub use record::{Composite, Record};
+pub use record::{Composite, Record, is_record};
 pub use writing::{field_count_to_sql, field_to_sql};

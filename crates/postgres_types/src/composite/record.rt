@@ -99,8 +99,9 @@ fn is_composite(ty: &PgType) -> bool
     matches!(ty.kind(), KindRef::Composite(_))
 }
 
-/// Whether it is a composite type of that name, whose fields have these names.
-fn is_record(name: &str, names: &[&str], ty: &PgType) -> bool
+/// Whether the type is a composite one of that name, without its schema, whose fields have these
+/// names in this order. Their types are not looked at.
+pub fn is_record(name: &str, names: &[&str], ty: &PgType) -> bool
     ensures { result ≡ is_record name.now (map (λ name. name.now) names.now) (content ty.now) }
 {
     ty.name() == name && is_composite(ty) && are_named(names, fields_of(ty))
