@@ -1,6 +1,7 @@
 -- The steps of reading and writing a record, one after another.
 use Rattle.std.proofs.Common.{◌≡◌, ◌<◌, ◌++◌, ◌+◌, ℕ, List, [], ◌∷◌, length, take, drop, Option, Some, None, Result, Ok, Err, IfSome}
-use Rattle.std.proofs.Common.{refl, sym, ap, subst, ◌∙◌, append_assoc, append-nil, inl, inr, nat_eq, suc, arith}
+use Rattle.std.proofs.Common.{refl, sym, ap, subst, ◌∙◌, append_assoc, append-nil, inl, inr, nat_eq, suc, arith, true}
+use Rattle.std.specs.Result.{is_err}
 use Rattle.std.specs.Bool.{⊤}
 use Rattle.std.proofs.lemmas.Bool.Decides.{nat_tests}
 use Rattle.std.proofs.Math.Seq.{take-append_seam}
@@ -14,13 +15,14 @@ use Rattle.pg_types.specs.declared.types.PgType.{PgType}
 use Rattle.pg_types.specs.declared.types.kind.Field.{Field}
 use Rattle.pg_base.specs.Appending.{Wire}
 use Rattle.pg_base.specs.Cells.{Cell, frame}
-use Rattle.pg_base.specs.Counts.{after_number}
+use Rattle.pg_base.specs.Counts.{after_number, no_trailing}
+use Rattle.pg_base.specs.Formats.{first_fault_of}
 use Rattle.pg_read.specs.FrameReading.{BeginsWithCells, ReadsFirst}
 use Rattle.pg_params.specs.ParamWriting.{AppendsFrame}
 use Rattle.pg_write.specs.ArrayWriting.{element_frame_cell, with_frame}
 use Rattle.postgres_types.specs.CompositeFields.{ReadsAnd, and, no_fields}
-use Rattle.postgres_types.specs.Records.{AppendsBytes, AppendsBytesOrPart, Both, Bytes, CellThen, CountThen, FieldThen}
-use Rattle.postgres_types.specs.Records.{FrameThen, IsRefused, ReadsNext, TakesNumber, Unless, append_bytes}
+use Rattle.postgres_types.specs.Records.{AppendsBytes, AppendsBytesOrPart, AtEnd, Both, Bytes, CellThen, CountThen, FieldThen}
+use Rattle.postgres_types.specs.Records.{Ends, FrameThen, IsDone, IsRefused, ReadsNext, TakesNumber, Unless, append_bytes}
 use Rattle.postgres_types.specs.Records.{concat_bytes, count_fault, count_of, field_bytes, frame_bytes, oid_fault}
 use Rattle.postgres_types.specs.Records.{or_transmit}
 use Rattle.postgres_types.specs.declared.composite.fields.And.{And}
@@ -85,6 +87,13 @@ last_appended last old new (Ok done) p =
     (p.0, ap (λ x. concat_bytes x (Ok [])) p.1 ∙ ap Ok (append-nil p.0), p.2)
 last_appended last old new (Err f) p = first_refused_part last (Ok []) old new f p
 
+-- a refusal of which the part is taken back
+pub part_taken_back : (w : Bytes) (old low new : List ℕ) (result : Result ⊤ Fault)
+    → AppendsBytesOrPart w old low result → is_err result ≡ true → new ≡ take (length old) low
+    → AppendsBytes w old new result
+part_taken_back w old low new (Ok done) h e is = let no : ⊥ = cc in absurd no
+part_taken_back w old low new (Err f) h e is = (is ∙ h.0, h.1)
+
 -- a cell that is refused as a frame's has the same refusal
 no_frame : (c : Cell) (x : Option (List ℕ)) (r : Refusal) → with_frame c x ≡ Err r → or_transmit x ≡ Err r
 no_frame c None r e = cc
@@ -128,6 +137,23 @@ module _ {A : Type 0} (n : ℕ) (fields : List ℕ → Outcome A → Type 0) (s 
   pub count_passed : {u : ⊤} (o : Outcome A) → TakesNumber (count_fault n s) s (Ok u) new → fields new o
       → CountThen n fields s o
   count_passed = passed_by (count_fault n s)
+
+end_refused_by : (x : Option Refusal) (f : Fault) → Ends x (Err f) → IfSome (refusal_of f) (λ r. Unless x IsDone (Err r))
+end_refused_by None f h = let no : ⊥ = cc in absurd no
+end_refused_by (Some r) f h = answers_refused (Unit {0}) r (refusal_of f) h
+
+end_passed_by : {u : ⊤} (x : Option Refusal) → Ends x (Ok u) → Unless x IsDone (Ok tt)
+end_passed_by None h = tt
+end_passed_by (Some r) h = absurd h
+
+-- bytes trail the last field
+pub end_refused : (s : List ℕ) (f : Fault) → Ends (first_fault_of (no_trailing s ∷ [])) (Err f)
+    → IfSome (refusal_of f) (λ r. AtEnd s (Err r))
+end_refused s = end_refused_by (first_fault_of (no_trailing s ∷ []))
+
+-- none do
+pub end_passed : {u : ⊤} (s : List ℕ) → Ends (first_fault_of (no_trailing s ∷ [])) (Ok u) → AtEnd s (Ok tt)
+end_passed s = end_passed_by (first_fault_of (no_trailing s ∷ []))
 
 module _ {A B : Type 0} (reads : Cell → Outcome A → Type 0) (free : Cell → Type 0) (others : List ℕ → Outcome B → Type 0)
     (new : List ℕ) where

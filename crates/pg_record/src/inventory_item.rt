@@ -1,0 +1,205 @@
+//! A composite type, read and written by hand.
+ghost use Rattle.std.specs.Prelude.{◌≡◌, [], ◌∷◌, IsTrue, Some, codes, refl};
+ghost use Rattle.pg_types.specs.Content.{content, field_type, fields_content, is_row, kind_of};
+ghost use Rattle.pg_types.specs.Faults.{Answers};
+ghost use Rattle.pg_types.specs.declared.types.built_in.BuiltIn.TheVariants.{Int4, Int8};
+ghost use Rattle.pg_base.specs.Texts.{accepted_text};
+ghost use Rattle.pg_record.specs.InventoryItems.{SameItem, accepts_item, back_item, item_bytes, item_equivalence};
+ghost use Rattle.pg_record.specs.InventoryItems.{accepts_row, item_lawful, item_single, reads_item, wire_item};
+ghost use Rattle.postgres_types.specs.Records.{AppendsBytes, AppendsBytesOrPart, fields_of_kind};
+
+use postgres_types::composite::{
+    field_count_to_sql, field_to_sql, fields_of, is_record, read_end, read_field, read_field_count,
+};
+use postgres_types::private::BytesMut;
+use postgres_types::{Fault, Field, Format, FromSql, IsNull, Paired, ToSql, Type, check_type};
+use std::alloc::Global;
+
+/// The names of the type's fields, in their order.
+const FIELDS: &[&str] = &["name", "supplier_id", "price"];
+
+/// A row of an inventory: the composite type `InventoryItem` with the fields `name`, a text,
+/// `supplier_id`, an INT4, and `price`, an INT8.
+///
+/// It accepts a composite type of that name, with fields of these names in this order, of types
+/// that [`String`], `i32` and `Option<i64>` accept. Its cell is a record (`record_recv`,
+/// `record_send`): the number 3 in 4 bytes, and then, of each field, the OID of its type in 4 bytes
+/// and the frame of its cell, big-endian. NULL is `WasNull`.
+///
+/// In reading, fewer than 4 bytes are `Size`, and another number is `FieldCount`; a truncated OID
+/// is `Size`, and another one `FieldOid`; a truncated cell is `Size`, and a cell that a field's
+/// type refuses has its fault; trailing bytes are `Size`. In writing, the first field that is
+/// refused gives the fault, `Transmit` where its cell passes 2,147,483,647 bytes. A refusal leaves
+/// the buffer's bytes as they were.
+#[derive(Debug, PartialEq, Eq, Drop)]
+pub struct InventoryItem {
+    pub name: String,
+    pub supplier_id: i32,
+    /// NULL is `None`.
+    pub price: Option<i64>,
+}
+
+/// Whether the type is `InventoryItem`, of fields whose types are accepted.
+fn is_item(ty: &Type) -> bool
+    ensures { result ≡ accepts_item (content ty.now) }
+{
+    if !is_record("InventoryItem", FIELDS, ty) {
+        return false;
+    }
+    match fields_of(ty) {
+        [name, supplier_id, price] => {
+            <String as FromSql>::accepts(name.type_())
+                && <i32 as FromSql>::accepts(supplier_id.type_())
+                && <Option<i64> as FromSql>::accepts(price.type_())
+        }
+        _ => unreachable!(),
+    }
+}
+
+/// Reads the record of these fields, whose types are accepted.
+fn read_fields(
+    alloc: Global,
+    name: &Field,
+    supplier_id: &Field,
+    price: &Field,
+    raw: &[u8],
+) -> Result<InventoryItem, Fault>
+    requires name { IsTrue (accepted_text (content (field_type name.now))) }
+    requires supplier_id { IsTrue (is_row Int4 (content (field_type supplier_id.now))) }
+    requires price { IsTrue (is_row Int8 (content (field_type price.now))) }
+    ensures { Answers (reads_item (fields_content (name.now ∷ supplier_id.now ∷ price.now ∷ [])) (Some raw.now)) result }
+{
+    let mut buf = raw;
+    read_field_count(3, &mut buf)?;
+    let name: String = read_field(alloc, name.type_(), &mut buf)?;
+    let supplier_id: i32 = read_field(alloc, supplier_id.type_(), &mut buf)?;
+    let price: Option<i64> = read_field(alloc, price.type_(), &mut buf)?;
+    read_end(buf)?;
+    Ok(InventoryItem {
+        name,
+        supplier_id,
+        price,
+    })
+}
+
+/// Reads the record of the fields, whose types are accepted.
+#[tactic(auto, using(crate::proofs::ItemFields::three_of_list))]
+fn read_item(alloc: Global, fields: &[Field], raw: &[u8]) -> Result<InventoryItem, Fault>
+    requires { IsTrue (accepts_row (fields_content fields.now)) }
+    ensures { Answers (reads_item (fields_content fields.now) (Some raw.now)) result }
+{
+    let [name, supplier_id, price] = fields else {
+        unreachable!()
+    };
+    read_fields(alloc, name, supplier_id, price, raw)
+}
+
+/// Appends the record of these fields, whose types are accepted. A refusal leaves what was appended
+/// so far.
+fn append_fields(
+    alloc: Global,
+    item: &InventoryItem,
+    name: &Field,
+    supplier_id: &Field,
+    price: &Field,
+    out: &mut BytesMut,
+) -> Result<(), Fault>
+    requires name { IsTrue (accepted_text (content (field_type name.now))) }
+    requires supplier_id { IsTrue (is_row Int4 (content (field_type supplier_id.now))) }
+    requires price { IsTrue (is_row Int8 (content (field_type price.now))) }
+    ensures { AppendsBytesOrPart
+        (item_bytes (fields_content (name.now ∷ supplier_id.now ∷ price.now ∷ [])) item.now)
+        out.old.items out.new.items result }
+{
+    field_count_to_sql(3, out)?;
+    field_to_sql(alloc, &item.name, name.type_(), out)?;
+    field_to_sql(alloc, &item.supplier_id, supplier_id.type_(), out)?;
+    field_to_sql(alloc, &item.price, price.type_(), out)
+}
+
+/// Appends the record of the fields, whose types are accepted. A refusal leaves the buffer's bytes
+/// as they were.
+#[tactic(auto, using(crate::proofs::ItemFields::three_of_list))]
+fn item_to_sql(
+    alloc: Global,
+    item: &InventoryItem,
+    fields: &[Field],
+    out: &mut BytesMut,
+) -> Result<(), Fault>
+    requires { IsTrue (accepts_row (fields_content fields.now)) }
+    ensures { AppendsBytes (item_bytes (fields_content fields.now) item.now) out.old.items out.new.items result }
+{
+    let [name, supplier_id, price] = fields else {
+        unreachable!()
+    };
+    let start = out.len();
+    let outcome = append_fields(alloc, item, name, supplier_id, price, out);
+    if outcome.is_err() {
+        out.truncate(start);
+    }
+    outcome
+}
+
+impl<'a> FromSql<'a> for InventoryItem {
+    ghost same = { SameItem };
+
+    ghost accepted = { accepts_item };
+
+    ghost reads = { λ ty. reads_item (fields_of_kind (kind_of ty)) };
+
+    ghost equivalence = { item_equivalence };
+
+    ghost single = { item_single };
+
+    fn from_sql(alloc: Global, ty: &Type, raw: &'a [u8]) -> Result<InventoryItem, Fault> {
+        read_item(alloc, fields_of(ty), raw)
+    }
+
+    fn from_sql_null(_alloc: Global, _ty: &Type) -> Result<InventoryItem, Fault> {
+        Err(Fault::WasNull)
+    }
+
+    fn accepts(ty: &Type) -> bool {
+        is_item(ty)
+    }
+}
+
+impl ToSql for InventoryItem {
+    ghost accepted = { accepts_item };
+
+    ghost name = { codes "InventoryItem" };
+
+    ghost wire = { λ ty. wire_item (fields_of_kind (kind_of ty)) };
+
+    fn to_sql(&self, alloc: Global, ty: &Type, out: &mut BytesMut) -> Result<IsNull, Fault> {
+        item_to_sql(alloc, self, fields_of(ty), out)?;
+        Ok(IsNull::No)
+    }
+
+    fn accepts(ty: &Type) -> bool {
+        is_item(ty)
+    }
+
+    fn to_sql_checked(
+        &self,
+        alloc: Global,
+        ty: &Type,
+        out: &mut BytesMut,
+    ) -> Result<IsNull, Fault> {
+        check_type(<InventoryItem as ToSql>::accepts(ty), ty, "InventoryItem")?;
+        self.to_sql(alloc, ty, out)
+    }
+
+    fn encode_format(&self, _ty: &Type) -> Format {
+        Format::Binary
+    }
+}
+
+/// An item is read back as itself.
+impl<'a> Paired<'a> for InventoryItem {
+    ghost back = { λ ty. back_item (fields_of_kind (kind_of ty)) };
+
+    ghost types = { λ _. refl };
+
+    ghost lawful = { item_lawful };
+}
