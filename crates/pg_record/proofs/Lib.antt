@@ -1,2 +1,3 @@
 -- The lemmas of this crate's proofs.
 mod ItemFields
+pub mod Labels

@@ -1,2 +1,5 @@
 -- The words of this crate's types.
 pub mod InventoryItems
+pub mod MoodLaws
+pub mod Moods
+pub mod SessionIds

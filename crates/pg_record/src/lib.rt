@@ -3,5 +3,11 @@
 #![tactic(auto)]
 
 mod inventory_item;
+mod mood;
+mod session_id;
+#[cfg(test)]
+mod tests;
 
 pub use inventory_item::InventoryItem;
+pub use mood::Mood;
+pub use session_id::SessionId;

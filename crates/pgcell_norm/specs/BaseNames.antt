@@ -1,6 +1,6 @@
 -- The table of base names: what each stands for.
 use Rattle.std.specs.Prelude.{ℕ, Bool, false, List, Option, Some, None, codes, cond, map, String, Vec}
-use Rattle.postgres_types.specs.Content.{Content, BuiltInType, UserDefinedType, SimpleKind}
+use Rattle.postgres_types.specs.Content.{Content, BuiltInType}
 use Prim.Native.String.{String as Literal}
 use Rattle.std.specs.Int.{w8, w16, w32, w64}
 use Rattle.std.specs.Global.{Global}
@@ -39,7 +39,10 @@ use Rattle.pg_types.specs.declared.types.built_in.BuiltIn.TheVariants.{Timestamp
 use Rattle.pg_types.specs.declared.types.built_in.BuiltIn.TheVariants.{TimestamptzArray, Unknown as UnknownRow}
 use Rattle.pg_types.specs.declared.types.built_in.BuiltIn.TheVariants.{Int2Vector as Int2VectorRow}
 use Rattle.pg_types.specs.declared.types.built_in.BuiltIn.TheVariants.{OidVector as OidVectorRow}
+use Rattle.pg_record.specs.Moods.{ReadsMood, wire_mood}
+use Rattle.pg_record.specs.SessionIds.{ReadsSessionId, wire_session_id}
 use Rattle.pgcell_norm.specs.Forms.{has_type, same_word}
+use Rattle.pgcell_norm.specs.UserTypes.{mood_type, session_id_type, simple_type}
 use Rattle.pgcell_norm.specs.Rewritten.{ReadsVec, wire_vec, Rewriting, RewrittenAs, RewrittenPlain, RewrittenText}
 use Rattle.pgcell_norm.specs.declared.names.Form.{Form}
 
@@ -60,10 +63,6 @@ built_in own arrays = entry (BuiltInType own) (Some (BuiltInType arrays))
 -- a base name without arrays
 abbrev pub no_arrays : Content → Rewriting → Entry
 no_arrays own = entry own None
-
--- a user-defined type of that name, of kind Simple and in the schema public
-abbrev pub user_type : Literal → ℕ → Content
-user_type name oid = UserDefinedType (codes name) oid SimpleKind (codes "public")
 
 -- a map of texts
 abbrev pub Map : Type 0
@@ -92,8 +91,10 @@ other_entry_of base =
     (RewrittenAs (ReadsVec (λ _. ReadsSigned w16)) (wire_vec (λ _. wire_signed w16)))
     else if base is "oidvector" then no_arrays (BuiltInType OidVectorRow)
     (RewrittenAs (ReadsVec (λ _. ReadsUnsigned w32)) (wire_vec (λ _. wire_unsigned w32)))
-    else if base is "hstore" then no_arrays (user_type "hstore" 100002)
+    else if base is "hstore" then no_arrays (simple_type "hstore" 100002)
     (RewrittenPlain {A = Map} ReadsHstore (λ m. wire_hstore (map owned_entry m.entries)))
+    else if base is "mood" then no_arrays mood_type (RewrittenPlain ReadsMood wire_mood)
+    else if base is "session" then no_arrays session_id_type (RewrittenPlain ReadsSessionId wire_session_id)
     else no_entry
 
 -- the same, also of a date, a time or a timestamp
@@ -130,5 +131,5 @@ entry_of base =
     else if base is "bpchar" then built_in BpcharRow BpcharArray RewrittenText
     else if base is "name" then built_in NameRow NameArray RewrittenText
     else if base is "unknown" then no_arrays (BuiltInType UnknownRow) RewrittenText
-    else if base is "ltree" then no_arrays (user_type "ltree" 100001) RewrittenText
+    else if base is "ltree" then no_arrays (simple_type "ltree" 100001) RewrittenText
     else timestamp_entry_of base

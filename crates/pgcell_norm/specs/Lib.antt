@@ -4,3 +4,4 @@ pub mod Forms
 pub mod Names
 pub mod Norm
 pub mod Rewritten
+pub mod UserTypes

@@ -20,7 +20,7 @@ macro_rules! numbers_and_texts {
             "bpchar" => $row!($args String, BPCHAR, BPCHAR_ARRAY),
             "name" => $row!($args String, NAME, NAME_ARRAY),
             "unknown" => $row!($args String, UNKNOWN),
-            "ltree" => $row!($args String, user_type("ltree", 100_001)),
+            "ltree" => $row!($args String, simple_type("ltree", 100_001)),
             _ => $other,
         }
     };
@@ -58,7 +58,9 @@ macro_rules! others {
             "pg_lsn" => $row!($args PgLsn, PG_LSN, PG_LSN_ARRAY),
             "int2vector" => $row!($args Vec<i16>, INT2_VECTOR),
             "oidvector" => $row!($args Vec<u32>, OID_VECTOR),
-            "hstore" => $row!($args Map, user_type("hstore", 100_002)),
+            "hstore" => $row!($args Map, simple_type("hstore", 100_002)),
+            "mood" => $row!($args Mood, mood_type()),
+            "session" => $row!($args SessionId, session_id_type()),
             _ => $other,
         }
     };

@@ -7,3 +7,4 @@
 mod base_names;
 pub mod names;
 pub mod norm;
+mod user_types;

@@ -1,7 +1,7 @@
 //! The answer to `norm NAME CELL`.
-ghost use Rattle.std.specs.Prelude.{◌≡◌, ◌++◌, ℕ, List, IsTrue, OnOk, OnErr, IfOk, IfSome, Some, Ok, codes, option_map};
+ghost use Rattle.std.specs.Prelude.{◌≡◌, ◌++◌, ℕ, List, IsTrue, OnOk, OnErr, IfSome, Some, Ok, option_map};
 ghost use Rattle.hex.specs.Hex.{encode_lower};
-ghost use Rattle.postgres_types.specs.Content.{UserDefinedType, SimpleKind, content};
+ghost use Rattle.postgres_types.specs.Content.{content};
 ghost use Rattle.postgres_types.specs.Cells.{cell_of};
 ghost use Rattle.postgres_types.specs.Faults.{refusal_of};
 ghost use Rattle.postgres_types.specs.ArrayTypes.{accepted_list};
@@ -12,11 +12,13 @@ ghost use Rattle.pgcell_norm.specs.Rewritten.{RewrittenAs, accepted_as};
 
 use crate::base_names::{dates_and_times, numbers_and_texts, others};
 use crate::names::{Form, Name};
+use crate::user_types::{mood_type, session_id_type, simple_type};
 use bytes::BytesMut;
 use jiff::civil;
+use pg_record::{Mood, SessionId};
 use postgres_types::{
-    BitVec, Date, Fault, IpCidr, IpInet, IsNull, Kind, MacAddress, Oid, Paired, PgLsn, Timestamp,
-    Type, UnixTime, rewrite,
+    BitVec, Date, Fault, IpCidr, IpInet, IsNull, MacAddress, Paired, PgLsn, Timestamp, Type,
+    UnixTime, rewrite,
 };
 use std::alloc::{AllocError, Global};
 use std::collections::HashMap;
@@ -30,9 +32,9 @@ type Map = HashMap<String, Option<String>>;
 macro_rules! norm_as {
     (
         ($alloc:ident, $name:ident, $cell:ident, $pending:ident)
-        $rust:ty, user_type($ty:literal, $oid:literal)
+        $rust:ty, $own:ident($($part:literal),*)
     ) => {{
-        let own = user_type($alloc, $ty, $oid)?;
+        let own = $own($alloc $(, $part)*)?;
         norm_as::<$rust>($alloc, $name.form, own, None, $cell, $pending)
     }};
     (($alloc:ident, $name:ident, $cell:ident, $pending:ident) $rust:ty, $own:ident) => {
@@ -107,15 +109,6 @@ fn norm_other(
         norm_as(alloc, name, cell, pending),
         unreachable!()
     )
-}
-
-/// A user-defined type of that name, of kind Simple and in the schema public.
-fn user_type(alloc: Global, name: &str, oid: Oid) -> Result<Type, AllocError>
-    ensures { IfOk result (λ ty. content ty ≡ UserDefinedType name.now oid SimpleKind (codes "public")) }
-{
-    let name = String::from_str(alloc, name)?;
-    let schema = String::from_str(alloc, "public")?;
-    Type::new(alloc, name, oid, Kind::Simple, schema).map_err(|_| AllocError)
 }
 
 /// The same as a `T` in that form, by the Postgres type or the type of its arrays.

@@ -1,0 +1,22 @@
+-- The user-defined types of the table of base names, in the schema public.
+use Rattle.std.specs.Prelude.{ℕ, [], ◌∷◌, codes}
+use Prim.Native.String.{String as Literal}
+use Rattle.postgres_types.specs.Content.{Content, BuiltInType, UserDefinedType, KindContent, SimpleKind, EnumKind}
+use Rattle.postgres_types.specs.Content.{DomainKind}
+use Rattle.pg_types.specs.declared.types.built_in.BuiltIn.TheVariants.{Bytea as ByteaRow}
+
+-- a type of that name, OID and kind
+abbrev pub user_type : Literal → ℕ → KindContent → Content
+user_type name oid kind = UserDefinedType (codes name) oid kind (codes "public")
+
+-- a type of that name and OID, of kind Simple
+abbrev pub simple_type : Literal → ℕ → Content
+simple_type name oid = user_type name oid SimpleKind
+
+-- the enumerated type Mood
+abbrev pub mood_type : Content
+mood_type = user_type "Mood" 100005 (EnumKind (codes "Sad" ∷ codes "Ok" ∷ codes "Happy" ∷ []))
+
+-- the domain SessionId over BYTEA
+abbrev pub session_id_type : Content
+session_id_type = user_type "SessionId" 100006 (DomainKind (BuiltInType ByteaRow))
