@@ -1,6 +1,6 @@
 -- The table of base names: what each stands for.
 use Rattle.std.specs.Prelude.{ℕ, Bool, false, List, Option, Some, None, codes, cond, map, String, Vec}
-use Rattle.postgres_types.specs.Content.{Content, BuiltInType}
+use Rattle.postgres_types.specs.Content.{Content, BuiltInType, kind_of}
 use Prim.Native.String.{String as Literal}
 use Rattle.std.specs.Int.{w8, w16, w32, w64}
 use Rattle.std.specs.Global.{Global}
@@ -39,10 +39,12 @@ use Rattle.pg_types.specs.declared.types.built_in.BuiltIn.TheVariants.{Timestamp
 use Rattle.pg_types.specs.declared.types.built_in.BuiltIn.TheVariants.{TimestamptzArray, Unknown as UnknownRow}
 use Rattle.pg_types.specs.declared.types.built_in.BuiltIn.TheVariants.{Int2Vector as Int2VectorRow}
 use Rattle.pg_types.specs.declared.types.built_in.BuiltIn.TheVariants.{OidVector as OidVectorRow}
+use Rattle.postgres_types.specs.Records.{fields_of_kind}
+use Rattle.pg_record.specs.InventoryItems.{reads_item, wire_item}
 use Rattle.pg_record.specs.Moods.{ReadsMood, wire_mood}
 use Rattle.pg_record.specs.SessionIds.{ReadsSessionId, wire_session_id}
 use Rattle.pgcell_norm.specs.Forms.{has_type, same_word}
-use Rattle.pgcell_norm.specs.UserTypes.{mood_type, session_id_type, simple_type}
+use Rattle.pgcell_norm.specs.UserTypes.{item_array_type, item_type, mood_type, session_id_type, simple_type}
 use Rattle.pgcell_norm.specs.Rewritten.{ReadsVec, wire_vec, Rewriting, RewrittenAs, RewrittenPlain, RewrittenText}
 use Rattle.pgcell_norm.specs.declared.names.Form.{Form}
 
@@ -67,6 +69,10 @@ no_arrays own = entry own None
 -- a map of texts
 abbrev pub Map : Type 0
 Map = HashMap (String Global) (Option (String Global)) (BuildHasherDefault FoldHasher)
+
+-- an item is rewritten by the fields of the type
+abbrev pub RewrittenItem : Rewriting
+RewrittenItem = RewrittenAs (λ ty. reads_item (fields_of_kind (kind_of ty))) (λ ty. wire_item (fields_of_kind (kind_of ty)))
 
 -- the entry of one base name, and that of the others
 infix 5 if◌is◌then◌else◌
@@ -93,6 +99,7 @@ other_entry_of base =
     (RewrittenAs (ReadsVec (λ _. ReadsUnsigned w32)) (wire_vec (λ _. wire_unsigned w32)))
     else if base is "hstore" then no_arrays (simple_type "hstore" 100002)
     (RewrittenPlain {A = Map} ReadsHstore (λ m. wire_hstore (map owned_entry m.entries)))
+    else if base is "item" then entry item_type (Some item_array_type) RewrittenItem
     else if base is "mood" then no_arrays mood_type (RewrittenPlain ReadsMood wire_mood)
     else if base is "session" then no_arrays session_id_type (RewrittenPlain ReadsSessionId wire_session_id)
     else no_entry

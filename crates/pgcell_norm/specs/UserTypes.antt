@@ -2,8 +2,9 @@
 use Rattle.std.specs.Prelude.{ℕ, [], ◌∷◌, codes}
 use Prim.Native.String.{String as Literal}
 use Rattle.postgres_types.specs.Content.{Content, BuiltInType, UserDefinedType, KindContent, SimpleKind, EnumKind}
-use Rattle.postgres_types.specs.Content.{DomainKind}
-use Rattle.pg_types.specs.declared.types.built_in.BuiltIn.TheVariants.{Bytea as ByteaRow}
+use Rattle.postgres_types.specs.Content.{ArrayKind, CompositeKind, DomainKind, FieldAnd, NoFields}
+use Rattle.pg_types.specs.declared.types.built_in.BuiltIn.TheVariants.{Bytea as ByteaRow, Int4 as Int4Row}
+use Rattle.pg_types.specs.declared.types.built_in.BuiltIn.TheVariants.{Int8 as Int8Row, Text as TextRow}
 
 -- a type of that name, OID and kind
 abbrev pub user_type : Literal → ℕ → KindContent → Content
@@ -12,6 +13,15 @@ user_type name oid kind = UserDefinedType (codes name) oid kind (codes "public")
 -- a type of that name and OID, of kind Simple
 abbrev pub simple_type : Literal → ℕ → Content
 simple_type name oid = user_type name oid SimpleKind
+
+-- the composite type InventoryItem, with fields of TEXT, INT4 and INT8
+abbrev pub item_type : Content
+item_type = user_type "InventoryItem" 100003 (CompositeKind (FieldAnd (codes "name") (BuiltInType TextRow)
+    (FieldAnd (codes "supplier_id") (BuiltInType Int4Row) (FieldAnd (codes "price") (BuiltInType Int8Row) NoFields))))
+
+-- the type of its arrays
+abbrev pub item_array_type : Content
+item_array_type = user_type "_InventoryItem" 100004 (ArrayKind item_type)
 
 -- the enumerated type Mood
 abbrev pub mood_type : Content

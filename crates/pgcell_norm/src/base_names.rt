@@ -59,6 +59,7 @@ macro_rules! others {
             "int2vector" => $row!($args Vec<i16>, INT2_VECTOR),
             "oidvector" => $row!($args Vec<u32>, OID_VECTOR),
             "hstore" => $row!($args Map, simple_type("hstore", 100_002)),
+            "item" => $row!($args InventoryItem, item_type(), item_array_type()),
             "mood" => $row!($args Mood, mood_type()),
             "session" => $row!($args SessionId, session_id_type()),
             _ => $other,
@@ -73,6 +74,9 @@ pub(crate) use others;
 /// Of a line of the table, whether a name may have that form.
 macro_rules! has_form {
     (($form:ident) $rust:ty, $own:ident, $arrays:ident) => {
+        true
+    };
+    (($form:ident) $rust:ty, $own:ident(), $arrays:ident()) => {
         true
     };
     (($form:ident) $rust:ty, $($own:tt)*) => {

@@ -12,10 +12,10 @@ ghost use Rattle.pgcell_norm.specs.Rewritten.{RewrittenAs, accepted_as};
 
 use crate::base_names::{dates_and_times, numbers_and_texts, others};
 use crate::names::{Form, Name};
-use crate::user_types::{mood_type, session_id_type, simple_type};
+use crate::user_types::{item_array_type, item_type, mood_type, session_id_type, simple_type};
 use bytes::BytesMut;
 use jiff::civil;
-use pg_record::{Mood, SessionId};
+use pg_record::{InventoryItem, Mood, SessionId};
 use postgres_types::{
     BitVec, Date, Fault, IpCidr, IpInet, IsNull, MacAddress, Paired, PgLsn, Timestamp, Type,
     UnixTime, rewrite,
@@ -36,6 +36,14 @@ macro_rules! norm_as {
     ) => {{
         let own = $own($alloc $(, $part)*)?;
         norm_as::<$rust>($alloc, $name.form, own, None, $cell, $pending)
+    }};
+    (
+        ($alloc:ident, $name:ident, $cell:ident, $pending:ident)
+        $rust:ty, $own:ident(), $arrays:ident()
+    ) => {{
+        let own = $own($alloc)?;
+        let arrays = $arrays($alloc)?;
+        norm_as::<$rust>($alloc, $name.form, own, Some(arrays), $cell, $pending)
     }};
     (($alloc:ident, $name:ident, $cell:ident, $pending:ident) $rust:ty, $own:ident) => {
         norm_as::<$rust>($alloc, $name.form, Type::$own, None, $cell, $pending)

@@ -1,9 +1,9 @@
 //! The user-defined types of the table of base names, in the schema public.
 ghost use Rattle.std.specs.Prelude.{◌≡◌, IfOk, codes};
-ghost use Rattle.postgres_types.specs.Content.{SimpleKind, UserDefinedType, content, kind_content};
-ghost use Rattle.pgcell_norm.specs.UserTypes.{mood_type, session_id_type};
+ghost use Rattle.postgres_types.specs.Content.{SimpleKind, UserDefinedType, content, field_name, field_type, kind_content};
+ghost use Rattle.pgcell_norm.specs.UserTypes.{item_array_type, item_type, mood_type, session_id_type};
 
-use postgres_types::{Kind, Oid, Type};
+use postgres_types::{Field, Kind, Oid, Type};
 use std::alloc::{AllocError, Global};
 
 /// A type of that name, OID and kind.
@@ -20,6 +20,32 @@ pub fn simple_type(alloc: Global, name: &str, oid: Oid) -> Result<Type, AllocErr
     ensures { IfOk result (λ ty. content ty ≡ UserDefinedType name.now oid SimpleKind (codes "public")) }
 {
     user_type(alloc, name, oid, Kind::Simple)
+}
+
+/// A field of that name and type.
+fn field(alloc: Global, name: &str, type_: Type) -> Result<Field, AllocError>
+    ensures { IfOk result (λ field. (field_name field ≡ name.now) × (content (field_type field) ≡ content type_)) }
+{
+    Ok(Field::new(String::from_str(alloc, name)?, type_))
+}
+
+/// The composite type of [`InventoryItem`](pg_record::InventoryItem).
+pub fn item_type(alloc: Global) -> Result<Type, AllocError>
+    ensures { IfOk result (λ ty. content ty ≡ item_type) }
+{
+    let name = field(alloc, "name", Type::TEXT)?;
+    let supplier_id = field(alloc, "supplier_id", Type::INT4)?;
+    let price = field(alloc, "price", Type::INT8)?;
+    let fields = vec![in alloc; name, supplier_id, price]?;
+    user_type(alloc, "InventoryItem", 100_003, Kind::Composite(fields))
+}
+
+/// The type of its arrays.
+pub fn item_array_type(alloc: Global) -> Result<Type, AllocError>
+    ensures { IfOk result (λ ty. content ty ≡ item_array_type) }
+{
+    let element = item_type(alloc)?;
+    user_type(alloc, "_InventoryItem", 100_004, Kind::Array(element))
 }
 
 /// The enumerated type of [`Mood`](pg_record::Mood).

@@ -1,5 +1,6 @@
 -- The steps of reading and writing a record, one after another.
-use Rattle.std.proofs.Common.{◌≡◌, ◌<◌, ◌++◌, ◌+◌, ℕ, List, [], ◌∷◌, length, take, drop, Option, Some, None, Result, Ok, Err, IfSome}
+use Rattle.std.proofs.Common.{◌≡◌, ◌<◌, ◌++◌, ◌+◌, ℕ, List, [], ◌∷◌, length, take, drop, Option, Some, None}
+use Rattle.std.proofs.Common.{Result, Ok, Err, IfSome}
 use Rattle.std.proofs.Common.{refl, sym, ap, subst, ◌∙◌, append_assoc, append-nil, inl, inr, nat_eq, suc, arith, true}
 use Rattle.std.specs.Result.{is_err}
 use Rattle.std.specs.Bool.{⊤}
@@ -21,8 +22,8 @@ use Rattle.pg_read.specs.FrameReading.{BeginsWithCells, ReadsFirst}
 use Rattle.pg_params.specs.ParamWriting.{AppendsFrame}
 use Rattle.pg_write.specs.ArrayWriting.{element_frame_cell, with_frame}
 use Rattle.postgres_types.specs.CompositeFields.{ReadsAnd, and, no_fields}
-use Rattle.postgres_types.specs.Records.{AppendsBytes, AppendsBytesOrPart, AtEnd, Both, Bytes, CellThen, CountThen, FieldThen}
-use Rattle.postgres_types.specs.Records.{Ends, FrameThen, IsDone, IsRefused, ReadsNext, TakesNumber, Unless, append_bytes}
+use Rattle.postgres_types.specs.Records.{AppendsBytes, AppendsBytesOrPart, AtEnd, Both, Bytes, CellThen, CountThen}
+use Rattle.postgres_types.specs.Records.{Ends, FieldThen, FrameThen, IsDone, IsRefused, ReadsNext, TakesNumber, Unless, append_bytes}
 use Rattle.postgres_types.specs.Records.{concat_bytes, count_fault, count_of, field_bytes, frame_bytes, oid_fault}
 use Rattle.postgres_types.specs.Records.{or_transmit}
 use Rattle.postgres_types.specs.declared.composite.fields.And.{And}

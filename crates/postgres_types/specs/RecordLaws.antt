@@ -1,5 +1,6 @@
 -- Laws of records, of any number of fields, from the laws of the fields alone.
-use Rattle.std.specs.Prelude.{◌≡◌, ◌==◌, ◌++◌, ◌≤◌, ℕ, pos, List, [], ◌∷◌, length, true, Option, Some, None, Ok, Err, refl}
+use Rattle.std.specs.Prelude.{◌≡◌, ◌==◌, ◌++◌, ◌≤◌, ℕ, pos, List, [], ◌∷◌, length, true, Option, Some, None, Ok, Err}
+use Rattle.std.specs.Prelude.{refl}
 use Rattle.std.proofs.Common.{sym, ◌∙◌, ap, subst, arith, append_assoc, length-append, inl, inr}
 use Rattle.std.specs.Cmp.Lexicographic.{pointwise}
 use Rattle.std.proofs.lemmas.Bool.{eq-eqb}
@@ -50,7 +51,8 @@ module _ {A B : Type 0} (same : A → A → Type 0) (alike : B → B → Type 0)
 
   module _ (reads : Cell → Outcome A → Type 0) (others : List ℕ → Outcome B → Type 0) (one : ReadsSingle same reads)
       (two : (s : List ℕ) → GivesSingle alike (others s)) where
-    cell_then_single : (cs : List Cell) (rest : List ℕ) → GivesSingle (SamePair same alike) (CellThen reads others cs rest)
+    cell_then_single : (cs : List Cell) (rest : List ℕ)
+        → GivesSingle (SamePair same alike) (CellThen reads others cs rest)
     cell_then_single [] rest (Ok p) o h k = absurd h
     cell_then_single [] rest (Err r) (Ok q) h k = absurd k
     cell_then_single [] rest (Err r) (Err s) h k = h ∙ sym k
@@ -64,7 +66,8 @@ module _ {A B : Type 0} (same : A → A → Type 0) (alike : B → B → Type 0)
 
     -- a field in front of others
     pub field_single : (oid : ℕ) (s : List ℕ) → GivesSingle (SamePair same alike) (FieldThen oid reads others s)
-    field_single oid s = unless_single (SamePair same alike) (FrameThen reads others _) (frame_then_single _) (oid_fault oid s)
+    field_single oid s =
+        unless_single (SamePair same alike) (FrameThen reads others _) (frame_then_single _) (oid_fault oid s)
 
 done_single : GivesSingle (λ (u v : Unit {0}). Unit {0}) IsDone
 done_single (Ok v) (Ok w) h k = tt
@@ -120,18 +123,20 @@ past_check : {A : Type 0} (x : Option Refusal) (gives : Outcome A → Type 0) (o
     → Unless x gives o
 past_check x gives o e h = subst (λ y. Unless y gives o) (sym e) h
 
-from_check : {A : Type 0} (x : Option Refusal) (gives : Outcome A → Type 0) (o : Outcome A) → x ≡ None → Unless x gives o
-    → gives o
+from_check : {A : Type 0} (x : Option Refusal) (gives : Outcome A → Type 0) (o : Outcome A) → x ≡ None
+    → Unless x gives o → gives o
 from_check x gives o e h = subst (λ y. Unless y gives o) e h
 
 -- a value is given past a check alone
-value_given : {A : Type 0} (x : Option Refusal) (gives : Outcome A → Type 0) (v : A) → Unless x gives (Ok v) → gives (Ok v)
+value_given : {A : Type 0} (x : Option Refusal) (gives : Outcome A → Type 0) (v : A) → Unless x gives (Ok v)
+    → gives (Ok v)
 value_given None gives v h = h
 value_given (Some r) gives v h = absurd h
 
 -- ---- what bytes are written of
 
-appended_parts : (s : List ℕ) (x : Bytes) (t : List ℕ) → append_bytes s x ≡ Ok t → (b : List ℕ) × (x ≡ Ok b) × (t ≡ s ++ b)
+appended_parts : (s : List ℕ) (x : Bytes) (t : List ℕ) → append_bytes s x ≡ Ok t
+    → (b : List ℕ) × (x ≡ Ok b) × (t ≡ s ++ b)
 appended_parts s (Err r) t e = let no : ⊥ = cc in absurd no
 appended_parts s (Ok b) t e = (b, refl, cc)
 

@@ -1,7 +1,7 @@
 -- Records, the cells of composite types (record_recv, record_send): the number of the fields in four bytes, and then of
 -- each field the OID of its type in four bytes and the frame of its cell.
-use Rattle.std.specs.Prelude.{◌≡◌, ◌==◌, ◌⊎◌, ◌++◌, Bool, ℕ, suc, pos, List, [], ◌∷◌, length, take, Option, Some, None, Result, Ok, Err, ⊤}
-use Rattle.std.specs.Prelude.{IfSome, IsOk}
+use Rattle.std.specs.Prelude.{◌≡◌, ◌==◌, ◌⊎◌, ◌++◌, Bool, ℕ, suc, pos, List, [], ◌∷◌, length, take, Option, Some, None}
+use Rattle.std.specs.Prelude.{Result, Ok, Err, ⊤, IfSome, IsOk}
 use Rattle.std.specs.Cmp.Lexicographic.{pointwise}
 use Rattle.std.specs.Int.{w32, to_be_bytes}
 use Rattle.std.specs.Ordering.{int_eq}
@@ -143,8 +143,8 @@ abbrev pub AnswersRefusal : {A : Type 0} → Refusal → Result A Fault → Type
 AnswersRefusal r (Ok v) = ⊥
 AnswersRefusal r (Err f) = refusal_of f ≡ Some r
 
--- a number of four bytes was taken; where a check of it fails it is the fault, and the slice stands where it was if fewer
--- are left, and otherwise after them
+-- a number of four bytes was taken; where a check of it fails it is the fault, and the slice stands where it was if
+-- fewer are left, and otherwise after them
 abbrev pub TakesNumber : Option Refusal → List ℕ → Result ⊤ Fault → List ℕ → Type 0
 TakesNumber None old result new = IsOk result × (new ≡ after_number old)
 TakesNumber (Some r) old result new = AnswersRefusal r result × (new ≡ after_truncated old)
@@ -160,7 +160,8 @@ abbrev pub ReadsNext : {A : Type 0} → Option Refusal → (Cell → Outcome A �
 ReadsNext None reads memory_free old result new = ReadsFrame reads memory_free (after_number old) result new
 ReadsNext (Some r) reads memory_free old result new = AnswersRefusal r result × (new ≡ after_truncated old)
 
--- the bytes were appended; or they are refused with this fault, or memory ran out, and the buffer's bytes are as they were
+-- the bytes were appended; or they are refused with this fault, or memory ran out, and the buffer's bytes are as they
+-- were
 abbrev pub AppendsBytes : Bytes → List ℕ → List ℕ → Result ⊤ Fault → Type 0
 AppendsBytes w old new (Ok done) = (b : List ℕ) × (w ≡ Ok b) × (new ≡ old ++ b)
 AppendsBytes w old new (Err f) = (new ≡ old) × IfSome (refusal_of f) (λ r. w ≡ Err r)

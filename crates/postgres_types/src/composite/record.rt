@@ -120,7 +120,8 @@ where
     ghost equivalence = { inside_equivalence (λ v. T.inside v.0) T.Fields.same T.Fields.equivalence };
 
     ghost single = { λ ty ok. through_single (λ v. T.inside v.0) T.Fields.same (reads_record T.Fields.reads ty)
-        (composite_single T.type_name T.names T.Fields.FromFields.accepted T.Fields.same T.Fields.reads T.Fields.single ty ok) };
+        (composite_single T.type_name T.names T.Fields.FromFields.accepted T.Fields.same T.Fields.reads T.Fields.single
+        ty ok) };
 
     fn from_sql(alloc: Global, ty: &PgType, raw: &'a [u8]) -> Result<Composite<T>, Fault> {
         let fields = fields_of(ty);
@@ -198,8 +199,11 @@ where
 {
     ghost back = { λ ty v. Through (λ w. T.inside w.0) (T.Fields.back (fields_of_kind (kind_of ty)) (T.inside v.0)) };
 
-    ghost types = { λ ty. composite_types T.type_name T.names T.Fields.FromFields.accepted T.Fields.ToFields.accepted T.Fields.types ty };
+    ghost types = { composite_types T.type_name T.names T.Fields.FromFields.accepted T.Fields.ToFields.accepted
+        T.Fields.types };
 
-    ghost lawful = { λ ty ok. through_lawful (λ v. T.inside v.0) (reads_record T.Fields.reads ty) T.Fields.same (record_cell T.Fields.bytes ty)
-        (T.Fields.back (fields_of_kind (kind_of ty))) (composite_lawful T.type_name T.names T.Fields.FromFields.accepted T.Fields.same T.Fields.reads T.Fields.bytes T.Fields.back T.Fields.lawful ty ok) };
+    ghost lawful = { λ ty ok. through_lawful (λ v. T.inside v.0) (reads_record T.Fields.reads ty) T.Fields.same
+        (record_cell T.Fields.bytes ty) (T.Fields.back (fields_of_kind (kind_of ty)))
+        (composite_lawful T.type_name T.names T.Fields.FromFields.accepted T.Fields.same T.Fields.reads T.Fields.bytes
+        T.Fields.back T.Fields.lawful ty ok) };
 }

@@ -6,7 +6,7 @@ use std::alloc::Global;
 use std::test::Fail;
 
 /// The faults that a constant can hold: the number, the fault and its text.
-const FAULTS: [(u32, Fault, &str); 19] = [
+const FAULTS: [(u32, Fault, &str); 21] = [
     (code::MEMORY, Fault::Memory, "out of memory"),
     (
         code::WAS_NULL,
@@ -65,6 +65,16 @@ const FAULTS: [(u32, Fault, &str); 19] = [
         "invalid address length",
     ),
     (code::HOST_BITS, Fault::HostBits, "host bits are set"),
+    (
+        code::FIELD_COUNT,
+        Fault::FieldCount,
+        "invalid field count",
+    ),
+    (
+        code::FIELD_OID,
+        Fault::FieldOid,
+        "unexpected field type",
+    ),
 ];
 
 fn have_texts(alloc: Global, rows: &[(u32, Fault, &str)]) -> Result<(), Fail> {

@@ -61,8 +61,8 @@ returns-in_err-price c =
     (and_others_refused (λ ty. ReadsSigned w32) EveryCell reads_price c.read_field.new.buf.now c.read_field-2.new.buf.now
     (g ∷ h ∷ []) (h ∷ []) g c.type_-2.result.now refl c.type_-2.ensures
     c.in_ok-supplier_id.supplier_id c.in_ok-supplier_id.ensures (refusal_of fault)
-    (and_refused (λ ty. ReadsOption (ReadsSigned w64)) (NoneOr (λ b. EveryCell (Some b))) ReadsEnd c.read_field-2.new.buf.now
-    c.read_field-3.new.buf.now (h ∷ []) [] h c.type_-3.result.now refl c.type_-3.ensures
+    (and_refused (λ ty. ReadsOption (ReadsSigned w64)) (NoneOr (λ b. EveryCell (Some b))) ReadsEnd
+    c.read_field-2.new.buf.now c.read_field-3.new.buf.now (h ∷ []) [] h c.type_-3.result.now refl c.type_-3.ensures
     fault c.in_err-price.ensures)))
     (λ r. count_passed 3 (reads_row (fields_content (f ∷ g ∷ h ∷ []))) c.args.raw.now _ (Err r)
     c.in_ok-read_field_count.ensures))
@@ -81,8 +81,8 @@ returns-in_err-read_end c =
     (and_others_refused (λ ty. ReadsSigned w32) EveryCell reads_price c.read_field.new.buf.now c.read_field-2.new.buf.now
     (g ∷ h ∷ []) (h ∷ []) g c.type_-2.result.now refl c.type_-2.ensures
     c.in_ok-supplier_id.supplier_id c.in_ok-supplier_id.ensures (refusal_of fault)
-    (and_others_refused (λ ty. ReadsOption (ReadsSigned w64)) (NoneOr (λ b. EveryCell (Some b))) ReadsEnd c.read_field-2.new.buf.now
-    c.read_field-3.new.buf.now (h ∷ []) [] h c.type_-3.result.now refl c.type_-3.ensures
+    (and_others_refused (λ ty. ReadsOption (ReadsSigned w64)) (NoneOr (λ b. EveryCell (Some b))) ReadsEnd
+    c.read_field-2.new.buf.now c.read_field-3.new.buf.now (h ∷ []) [] h c.type_-3.result.now refl c.type_-3.ensures
     c.in_ok-price.price c.in_ok-price.ensures (refusal_of fault)
     (end_refused c.read_field-3.new.buf.now fault c.in_err-read_end.ensures))))
     (λ r. count_passed 3 (reads_row (fields_content (f ∷ g ∷ h ∷ []))) c.args.raw.now _ (Err r)
@@ -105,6 +105,6 @@ returns c =
     (and_read (λ ty. ReadsSigned w32) EveryCell reads_price c.read_field.new.buf.now c.read_field-2.new.buf.now
     (g ∷ h ∷ []) (h ∷ []) g c.type_-2.result.now refl c.type_-2.ensures
     _ c.in_ok-supplier_id.ensures _
-    (and_read (λ ty. ReadsOption (ReadsSigned w64)) (NoneOr (λ b. EveryCell (Some b))) ReadsEnd c.read_field-2.new.buf.now
-    c.read_field-3.new.buf.now (h ∷ []) [] h c.type_-3.result.now refl c.type_-3.ensures
+    (and_read (λ ty. ReadsOption (ReadsSigned w64)) (NoneOr (λ b. EveryCell (Some b))) ReadsEnd
+    c.read_field-2.new.buf.now c.read_field-3.new.buf.now (h ∷ []) [] h c.type_-3.result.now refl c.type_-3.ensures
     c.in_ok-price.price c.in_ok-price.ensures end (end_passed c.read_field-3.new.buf.now c.in_ok-read_end.ensures)))))

@@ -1,0 +1,242 @@
+//! The composite type `InventoryItem`, written by hand and as a view: both answer alike on every row.
+
+use super::view::Item;
+use crate::InventoryItem;
+use postgres_types::composite::Composite;
+use postgres_types::{Fault, Field, Kind, Paired, Type};
+use rows::code::{FIELD_COUNT, FIELD_OID, SIZE, UTF8, WAS_NULL};
+use rows::{accepts, reads, refuses, refuses_type, rewrites, spells, user_type, writes_null};
+use std::alloc::Global;
+use std::fmt::Debug;
+use std::test::Fail;
+
+/// What is made of the three values.
+trait OfFields<'a>: Paired<'a> + PartialEq + Debug {
+    fn of(name: String, supplier_id: i32, price: Option<i64>) -> Self;
+}
+
+impl<'a> OfFields<'a> for InventoryItem {
+    fn of(name: String, supplier_id: i32, price: Option<i64>) -> InventoryItem {
+        InventoryItem {
+            name,
+            supplier_id,
+            price,
+        }
+    }
+}
+
+impl<'a> OfFields<'a> for Composite<Item> {
+    fn of(name: String, supplier_id: i32, price: Option<i64>) -> Composite<Item> {
+        Composite(Item {
+            name,
+            supplier_id,
+            price,
+        })
+    }
+}
+
+fn field(alloc: Global, name: &str, type_: Type) -> Result<Field, Fault> {
+    Ok(Field::new(String::from_str(alloc, name)?, type_))
+}
+
+/// A composite type of that name, of fields of these names and types.
+fn composite(
+    alloc: Global,
+    name: &str,
+    names: [&str; 3],
+    types: [Type; 3],
+) -> Result<Type, Fault> {
+    let [a, b, c] = names;
+    let [r, s, t] = types;
+    let fields = vec![in alloc; field(alloc, a, r)?, field(alloc, b, s)?, field(alloc, c, t)?]?;
+    user_type(alloc, name, 100_003, Kind::Composite(fields), "public")
+}
+
+const NAMES: [&str; 3] = ["name", "supplier_id", "price"];
+
+fn item_type(alloc: Global) -> Result<Type, Fault> {
+    composite(
+        alloc,
+        "InventoryItem",
+        NAMES,
+        [Type::TEXT, Type::INT4, Type::INT8],
+    )
+}
+
+/// The cell of "nut", 7 and no price.
+const NUT: &[u8] =
+    b"\0\0\0\x03\0\0\0\x19\0\0\0\x03nut\0\0\0\x17\0\0\0\x04\0\0\0\x07\0\0\0\x14\xff\xff\xff\xff";
+
+/// The cell of "", -1 and the price 258.
+const NAMELESS: &[u8] =
+    b"\0\0\0\x03\0\0\0\x19\0\0\0\0\0\0\0\x17\0\0\0\x04\xff\xff\xff\xff\0\0\0\x14\0\0\0\x08\0\0\0\0\0\0\x01\x02";
+
+fn nut<'a, T: OfFields<'a>>(alloc: Global) -> Result<T, Fault> {
+    Ok(T::of(String::from_str(alloc, "nut")?, 7, None))
+}
+
+fn spells_items<'a, T: OfFields<'a>>(alloc: Global) -> Result<(), Fail> {
+    let ty = item_type(alloc)?;
+    let nameless = T::of(String::new(alloc), -1, Some(258));
+    spells(alloc, &ty, &[(nut::<T>(alloc)?, NUT), (nameless, NAMELESS)])
+}
+
+#[test]
+fn an_item_is_a_record_by_hand(rt: HostRuntime) -> Result<(), Fail> {
+    spells_items::<InventoryItem>(rt.alloc())
+}
+
+#[test]
+fn an_item_is_a_record_as_a_view(rt: HostRuntime) -> Result<(), Fail> {
+    spells_items::<Composite<Item>>(rt.alloc())
+}
+
+/// Refused cells of the count and of the fields' OIDs.
+const REFUSED: [(Option<&[u8]>, u32); 11] = [
+    (None, WAS_NULL),
+    (Some(b""), SIZE),
+    (Some(b"\0\0\x03"), SIZE),
+    (Some(b"\0\0\0\x02"), FIELD_COUNT),
+    (Some(b"\0\0\0\x04"), FIELD_COUNT),
+    (Some(b"\xff\xff\xff\xff"), FIELD_COUNT),
+    (Some(b"\0\0\0\x03"), SIZE),
+    (Some(b"\0\0\0\x03\0\0\x19"), SIZE),
+    (Some(b"\0\0\0\x03\0\0\0\x17"), FIELD_OID),
+    (
+        Some(b"\0\0\0\x03\0\0\0\x17\0\0\0\x03nut\0\0\0\x17\0\0\0\x04\0\0\0\x07\0\0\0\x14\xff\xff\xff\xff"),
+        FIELD_OID,
+    ),
+    (
+        Some(b"\0\0\0\x03\0\0\0\x19\0\0\0\x03nut\0\0\0\x17\0\0\0\x04\0\0\0\x07\0\0\0\x17\xff\xff\xff\xff"),
+        FIELD_OID,
+    ),
+];
+
+/// Refused cells of the fields and of what comes after them.
+const REFUSED_FIELDS: [(Option<&[u8]>, u32); 8] = [
+    (Some(b"\0\0\0\x03\0\0\0\x19"), SIZE),
+    (Some(b"\0\0\0\x03\0\0\0\x19\0\0\0\x04nut"), SIZE),
+    (Some(b"\0\0\0\x03\0\0\0\x19\0\0\0\x01\xff"), UTF8),
+    (Some(b"\0\0\0\x03\0\0\0\x19\xff\xff\xff\xff"), WAS_NULL),
+    (
+        Some(b"\0\0\0\x03\0\0\0\x19\0\0\0\x03nut\0\0\0\x17\0\0\0\x03\0\0\x07"),
+        SIZE,
+    ),
+    (
+        Some(b"\0\0\0\x03\0\0\0\x19\0\0\0\x03nut\0\0\0\x17\xff\xff\xff\xff"),
+        WAS_NULL,
+    ),
+    (
+        Some(b"\0\0\0\x03\0\0\0\x19\0\0\0\x03nut\0\0\0\x17\0\0\0\x04\0\0\0\x07\0\0\0\x14\0\0\0\x01\0"),
+        SIZE,
+    ),
+    (
+        Some(b"\0\0\0\x03\0\0\0\x19\0\0\0\x03nut\0\0\0\x17\0\0\0\x04\0\0\0\x07\0\0\0\x14\xff\xff\xff\xff\0"),
+        SIZE,
+    ),
+];
+
+fn refuses_items<'a, T: OfFields<'a>>(alloc: Global) -> Result<(), Fail> {
+    let ty = item_type(alloc)?;
+    refuses::<T>(alloc, &ty, &REFUSED)?;
+    refuses::<T>(alloc, &ty, &REFUSED_FIELDS)
+}
+
+#[test]
+fn damaged_records_are_refused_by_hand(rt: HostRuntime) -> Result<(), Fail> {
+    refuses_items::<InventoryItem>(rt.alloc())
+}
+
+#[test]
+fn damaged_records_are_refused_as_a_view(rt: HostRuntime) -> Result<(), Fail> {
+    refuses_items::<Composite<Item>>(rt.alloc())
+}
+
+fn accepts_items<'a, T: OfFields<'a>>(alloc: Global) -> Result<(), Fail> {
+    let [name, supplier_id, price] = NAMES;
+    let types = || [Type::TEXT, Type::INT4, Type::INT8];
+    let item = |names, types| composite(alloc, "InventoryItem", names, types);
+    let rows = [
+        (item_type(alloc)?, true),
+        (item(NAMES, [Type::VARCHAR, Type::INT4, Type::INT8])?, true),
+        (item(NAMES, [Type::INT4, Type::INT4, Type::INT8])?, false),
+        (item(NAMES, [Type::TEXT, Type::INT8, Type::INT8])?, false),
+        (item(NAMES, [Type::TEXT, Type::INT4, Type::INT4])?, false),
+        (item([supplier_id, name, price], types())?, false),
+        (item([name, supplier_id, "cost"], types())?, false),
+        (composite(alloc, "item", NAMES, types())?, false),
+        (
+            user_type(alloc, "InventoryItem", 7, Kind::Simple, "public")?,
+            false,
+        ),
+        (Type::TEXT, false),
+    ];
+    accepts::<T>(&rows)?;
+    refuses_type(alloc, &nut::<T>(alloc)?, &Type::TEXT, "InventoryItem")
+}
+
+#[test]
+fn types_are_accepted_by_hand(rt: HostRuntime) -> Result<(), Fail> {
+    accepts_items::<InventoryItem>(rt.alloc())
+}
+
+#[test]
+fn types_are_accepted_as_a_view(rt: HostRuntime) -> Result<(), Fail> {
+    accepts_items::<Composite<Item>>(rt.alloc())
+}
+
+#[test]
+fn other_numbers_of_fields_are_not_accepted(rt: HostRuntime) -> Result<(), Fail> {
+    let alloc = rt.alloc();
+    let mut fields = vec![in alloc;
+        field(alloc, "name", Type::TEXT)?,
+        field(alloc, "supplier_id", Type::INT4)?,
+    ]?;
+    let kind = Kind::Composite(fields);
+    let two = user_type(alloc, "InventoryItem", 100_003, kind.try_clone(alloc)?, "public")?;
+    let none = user_type(
+        alloc,
+        "InventoryItem",
+        100_003,
+        Kind::Composite(Vec::new(alloc)),
+        "public",
+    )?;
+    accepts::<InventoryItem>(&[
+        (two.try_clone()?, false),
+        (none.try_clone()?, false),
+    ])?;
+    accepts::<Composite<Item>>(&[(two, false), (none, false)])
+}
+
+/// The price's length is negative, as no server writes it.
+const OTHER_NULL: &[u8] =
+    b"\0\0\0\x03\0\0\0\x19\0\0\0\x03nut\0\0\0\x17\0\0\0\x04\0\0\0\x07\0\0\0\x14\x80\0\0\0";
+
+#[test]
+fn any_negative_length_is_null(rt: HostRuntime) -> Result<(), Fail> {
+    let alloc = rt.alloc();
+    let ty = item_type(alloc)?;
+    rewrites::<InventoryItem>(alloc, &ty, OTHER_NULL, NUT)?;
+    rewrites::<Composite<Item>>(alloc, &ty, OTHER_NULL, NUT)
+}
+
+/// The array of the one item.
+const NUTS: &[u8] = b"\0\0\0\x01\0\0\0\0\0\x01\x86\xa3\0\0\0\x01\0\0\0\x01\0\0\0\x23\0\0\0\x03\0\0\0\x19\0\0\0\x03nut\0\0\0\x17\0\0\0\x04\0\0\0\x07\0\0\0\x14\xff\xff\xff\xff";
+
+#[test]
+fn items_nest_in_wrappers(rt: HostRuntime) -> Result<(), Fail> {
+    let alloc = rt.alloc();
+    let ty = item_type(alloc)?;
+    let arrays = user_type(
+        alloc,
+        "_InventoryItem",
+        100_004,
+        Kind::Array(ty.try_clone()?),
+        "public",
+    )?;
+    rewrites::<Vec<InventoryItem>>(alloc, &arrays, NUTS, NUTS)?;
+    rewrites::<Vec<Composite<Item>>>(alloc, &arrays, NUTS, NUTS)?;
+    rewrites::<Box<InventoryItem>>(alloc, &ty, NUT, NUT)?;
+    writes_null(alloc, &None::<InventoryItem>, &ty)?;
+    reads(alloc, &ty, NUT, Some(nut::<InventoryItem>(alloc)?))
+}
