@@ -45,7 +45,11 @@ fn the_number_of_fields_is_read(_rt: HostRuntime) -> Result<(), Fail> {
 fn a_field_is_read_after_the_oid_of_its_type(rt: HostRuntime) -> Result<(), Fail> {
     let rows: [(&[u8], u32, &[u8]); 6] = [
         (b"\0\0\0\x17\0\0\0\x04\0\0\0\x07a", 0, b"a"),
-        (b"\0\0\0\x14\0\0\0\x04\0\0\0\x07", FIELD_OID, b"\0\0\0\x04\0\0\0\x07"),
+        (
+            b"\0\0\0\x14\0\0\0\x04\0\0\0\x07",
+            FIELD_OID,
+            b"\0\0\0\x04\0\0\0\x07",
+        ),
         (b"\0\0\x17", SIZE, b"\0\0\x17"),
         (b"\0\0\0\x17\0\0", SIZE, b"\0\0"),
         (b"\0\0\0\x17\0\0\0\x04\0\0", SIZE, b"\0\0"),
@@ -74,7 +78,10 @@ fn the_number_of_fields_and_a_field_are_appended(rt: HostRuntime) -> Result<(), 
     field_count_to_sql(2, &mut out)?;
     field_to_sql(alloc, &7, &Type::INT4, &mut out)?;
     field_to_sql(alloc, &None::<i64>, &Type::INT8, &mut out)?;
-    same(fault_code(field_count_to_sql(2_147_483_648, &mut out)), TRANSMIT)?;
+    same(
+        fault_code(field_count_to_sql(2_147_483_648, &mut out)),
+        TRANSMIT,
+    )?;
     let cell: &[u8] = b"\0\0\0\x02\0\0\0\x17\0\0\0\x04\0\0\0\x07\0\0\0\x14\xff\xff\xff\xff";
     same(out.as_slice(), cell)
 }

@@ -3,19 +3,18 @@
 use super::view::Item;
 use crate::InventoryItem;
 use postgres_types::composite::Composite;
-use postgres_types::{Fault, Field, Kind, Paired, Type};
+use postgres_types::{Fault, Field, Kind, ToSql, Type};
 use rows::code::{FIELD_COUNT, FIELD_OID, SIZE, UTF8, WAS_NULL};
 use rows::{accepts, reads, refuses, refuses_type, rewrites, spells, user_type, writes_null};
 use std::alloc::Global;
-use std::fmt::Debug;
 use std::test::Fail;
 
 /// What is made of the three values.
-trait OfFields<'a>: Paired<'a> + PartialEq + Debug {
+trait OfFields: ToSql + PartialEq {
     fn of(name: String, supplier_id: i32, price: Option<i64>) -> Self;
 }
 
-impl<'a> OfFields<'a> for InventoryItem {
+impl OfFields for InventoryItem {
     fn of(name: String, supplier_id: i32, price: Option<i64>) -> InventoryItem {
         InventoryItem {
             name,
@@ -25,7 +24,7 @@ impl<'a> OfFields<'a> for InventoryItem {
     }
 }
 
-impl<'a> OfFields<'a> for Composite<Item> {
+impl OfFields for Composite<Item> {
     fn of(name: String, supplier_id: i32, price: Option<i64>) -> Composite<Item> {
         Composite(Item {
             name,
@@ -40,15 +39,14 @@ fn field(alloc: Global, name: &str, type_: Type) -> Result<Field, Fault> {
 }
 
 /// A composite type of that name, of fields of these names and types.
-fn composite(
-    alloc: Global,
-    name: &str,
-    names: [&str; 3],
-    types: [Type; 3],
-) -> Result<Type, Fault> {
+fn composite(alloc: Global, name: &str, names: [&str; 3], types: [Type; 3]) -> Result<Type, Fault> {
     let [a, b, c] = names;
     let [r, s, t] = types;
-    let fields = vec![in alloc; field(alloc, a, r)?, field(alloc, b, s)?, field(alloc, c, t)?]?;
+    let fields = vec![in alloc;
+        field(alloc, a, r)?,
+        field(alloc, b, s)?,
+        field(alloc, c, t)?,
+    ]?;
     user_type(alloc, name, 100_003, Kind::Composite(fields), "public")
 }
 
@@ -71,24 +69,26 @@ const NUT: &[u8] =
 const NAMELESS: &[u8] =
     b"\0\0\0\x03\0\0\0\x19\0\0\0\0\0\0\0\x17\0\0\0\x04\xff\xff\xff\xff\0\0\0\x14\0\0\0\x08\0\0\0\0\0\0\x01\x02";
 
-fn nut<'a, T: OfFields<'a>>(alloc: Global) -> Result<T, Fault> {
+fn nut<T: OfFields>(alloc: Global) -> Result<T, Fault> {
     Ok(T::of(String::from_str(alloc, "nut")?, 7, None))
 }
 
-fn spells_items<'a, T: OfFields<'a>>(alloc: Global) -> Result<(), Fail> {
-    let ty = item_type(alloc)?;
+/// Items and their cells.
+fn items<T: OfFields>(alloc: Global) -> Result<[(T, &'static [u8]); 2], Fault> {
     let nameless = T::of(String::new(alloc), -1, Some(258));
-    spells(alloc, &ty, &[(nut::<T>(alloc)?, NUT), (nameless, NAMELESS)])
+    Ok([(nut::<T>(alloc)?, NUT), (nameless, NAMELESS)])
 }
 
 #[test]
 fn an_item_is_a_record_by_hand(rt: HostRuntime) -> Result<(), Fail> {
-    spells_items::<InventoryItem>(rt.alloc())
+    let alloc = rt.alloc();
+    spells(alloc, &item_type(alloc)?, &items::<InventoryItem>(alloc)?)
 }
 
 #[test]
 fn an_item_is_a_record_as_a_view(rt: HostRuntime) -> Result<(), Fail> {
-    spells_items::<Composite<Item>>(rt.alloc())
+    let alloc = rt.alloc();
+    spells(alloc, &item_type(alloc)?, &items::<Composite<Item>>(alloc)?)
 }
 
 /// Refused cells of the count and of the fields' OIDs.
@@ -103,11 +103,15 @@ const REFUSED: [(Option<&[u8]>, u32); 11] = [
     (Some(b"\0\0\0\x03\0\0\x19"), SIZE),
     (Some(b"\0\0\0\x03\0\0\0\x17"), FIELD_OID),
     (
-        Some(b"\0\0\0\x03\0\0\0\x17\0\0\0\x03nut\0\0\0\x17\0\0\0\x04\0\0\0\x07\0\0\0\x14\xff\xff\xff\xff"),
+        Some(
+            b"\0\0\0\x03\0\0\0\x17\0\0\0\x03nut\0\0\0\x17\0\0\0\x04\0\0\0\x07\0\0\0\x14\xff\xff\xff\xff",
+        ),
         FIELD_OID,
     ),
     (
-        Some(b"\0\0\0\x03\0\0\0\x19\0\0\0\x03nut\0\0\0\x17\0\0\0\x04\0\0\0\x07\0\0\0\x17\xff\xff\xff\xff"),
+        Some(
+            b"\0\0\0\x03\0\0\0\x19\0\0\0\x03nut\0\0\0\x17\0\0\0\x04\0\0\0\x07\0\0\0\x17\xff\xff\xff\xff",
+        ),
         FIELD_OID,
     ),
 ];
@@ -127,73 +131,121 @@ const REFUSED_FIELDS: [(Option<&[u8]>, u32); 8] = [
         WAS_NULL,
     ),
     (
-        Some(b"\0\0\0\x03\0\0\0\x19\0\0\0\x03nut\0\0\0\x17\0\0\0\x04\0\0\0\x07\0\0\0\x14\0\0\0\x01\0"),
+        Some(
+            b"\0\0\0\x03\0\0\0\x19\0\0\0\x03nut\0\0\0\x17\0\0\0\x04\0\0\0\x07\0\0\0\x14\0\0\0\x01\0",
+        ),
         SIZE,
     ),
     (
-        Some(b"\0\0\0\x03\0\0\0\x19\0\0\0\x03nut\0\0\0\x17\0\0\0\x04\0\0\0\x07\0\0\0\x14\xff\xff\xff\xff\0"),
+        Some(
+            b"\0\0\0\x03\0\0\0\x19\0\0\0\x03nut\0\0\0\x17\0\0\0\x04\0\0\0\x07\0\0\0\x14\xff\xff\xff\xff\0",
+        ),
         SIZE,
     ),
 ];
 
-fn refuses_items<'a, T: OfFields<'a>>(alloc: Global) -> Result<(), Fail> {
-    let ty = item_type(alloc)?;
-    refuses::<T>(alloc, &ty, &REFUSED)?;
-    refuses::<T>(alloc, &ty, &REFUSED_FIELDS)
-}
-
 #[test]
 fn damaged_records_are_refused_by_hand(rt: HostRuntime) -> Result<(), Fail> {
-    refuses_items::<InventoryItem>(rt.alloc())
+    let ty = item_type(rt.alloc())?;
+    refuses::<InventoryItem>(rt.alloc(), &ty, &REFUSED)?;
+    refuses::<InventoryItem>(rt.alloc(), &ty, &REFUSED_FIELDS)
 }
 
 #[test]
 fn damaged_records_are_refused_as_a_view(rt: HostRuntime) -> Result<(), Fail> {
-    refuses_items::<Composite<Item>>(rt.alloc())
+    let ty = item_type(rt.alloc())?;
+    refuses::<Composite<Item>>(rt.alloc(), &ty, &REFUSED)?;
+    refuses::<Composite<Item>>(rt.alloc(), &ty, &REFUSED_FIELDS)
 }
 
-fn accepts_items<'a, T: OfFields<'a>>(alloc: Global) -> Result<(), Fail> {
-    let [name, supplier_id, price] = NAMES;
-    let types = || [Type::TEXT, Type::INT4, Type::INT8];
-    let item = |names, types| composite(alloc, "InventoryItem", names, types);
-    let rows = [
+/// A type of the item's name and of the names of its fields.
+fn of_types(alloc: Global, types: [Type; 3]) -> Result<Type, Fault> {
+    composite(alloc, "InventoryItem", NAMES, types)
+}
+
+/// A type of the item's name and of the types of its fields.
+fn of_names(alloc: Global, names: [&str; 3]) -> Result<Type, Fault> {
+    composite(
+        alloc,
+        "InventoryItem",
+        names,
+        [Type::TEXT, Type::INT4, Type::INT8],
+    )
+}
+
+/// Types, and whether they are accepted.
+fn types(alloc: Global) -> Result<[(Type, bool); 10], Fault> {
+    Ok([
         (item_type(alloc)?, true),
-        (item(NAMES, [Type::VARCHAR, Type::INT4, Type::INT8])?, true),
-        (item(NAMES, [Type::INT4, Type::INT4, Type::INT8])?, false),
-        (item(NAMES, [Type::TEXT, Type::INT8, Type::INT8])?, false),
-        (item(NAMES, [Type::TEXT, Type::INT4, Type::INT4])?, false),
-        (item([supplier_id, name, price], types())?, false),
-        (item([name, supplier_id, "cost"], types())?, false),
-        (composite(alloc, "item", NAMES, types())?, false),
+        (
+            of_types(alloc, [Type::VARCHAR, Type::INT4, Type::INT8])?,
+            true,
+        ),
+        (
+            of_types(alloc, [Type::INT4, Type::INT4, Type::INT8])?,
+            false,
+        ),
+        (
+            of_types(alloc, [Type::TEXT, Type::INT8, Type::INT8])?,
+            false,
+        ),
+        (
+            of_types(alloc, [Type::TEXT, Type::INT4, Type::INT4])?,
+            false,
+        ),
+        (of_names(alloc, ["supplier_id", "name", "price"])?, false),
+        (of_names(alloc, ["name", "supplier_id", "cost"])?, false),
+        (
+            composite(alloc, "item", NAMES, [Type::TEXT, Type::INT4, Type::INT8])?,
+            false,
+        ),
         (
             user_type(alloc, "InventoryItem", 7, Kind::Simple, "public")?,
             false,
         ),
         (Type::TEXT, false),
-    ];
-    accepts::<T>(&rows)?;
-    refuses_type(alloc, &nut::<T>(alloc)?, &Type::TEXT, "InventoryItem")
+    ])
 }
 
 #[test]
 fn types_are_accepted_by_hand(rt: HostRuntime) -> Result<(), Fail> {
-    accepts_items::<InventoryItem>(rt.alloc())
+    let alloc = rt.alloc();
+    accepts::<InventoryItem>(&types(alloc)?)?;
+    refuses_type(
+        alloc,
+        &nut::<InventoryItem>(alloc)?,
+        &Type::TEXT,
+        "InventoryItem",
+    )
 }
 
 #[test]
 fn types_are_accepted_as_a_view(rt: HostRuntime) -> Result<(), Fail> {
-    accepts_items::<Composite<Item>>(rt.alloc())
+    let alloc = rt.alloc();
+    accepts::<Composite<Item>>(&types(alloc)?)?;
+    refuses_type(
+        alloc,
+        &nut::<Composite<Item>>(alloc)?,
+        &Type::TEXT,
+        "InventoryItem",
+    )
 }
 
 #[test]
 fn other_numbers_of_fields_are_not_accepted(rt: HostRuntime) -> Result<(), Fail> {
     let alloc = rt.alloc();
-    let mut fields = vec![in alloc;
+    let fields = vec![in alloc;
         field(alloc, "name", Type::TEXT)?,
         field(alloc, "supplier_id", Type::INT4)?,
     ]?;
     let kind = Kind::Composite(fields);
-    let two = user_type(alloc, "InventoryItem", 100_003, kind.try_clone(alloc)?, "public")?;
+    let two = user_type(
+        alloc,
+        "InventoryItem",
+        100_003,
+        kind.try_clone(alloc)?,
+        "public",
+    )?;
     let none = user_type(
         alloc,
         "InventoryItem",
@@ -201,10 +253,7 @@ fn other_numbers_of_fields_are_not_accepted(rt: HostRuntime) -> Result<(), Fail>
         Kind::Composite(Vec::new(alloc)),
         "public",
     )?;
-    accepts::<InventoryItem>(&[
-        (two.try_clone()?, false),
-        (none.try_clone()?, false),
-    ])?;
+    accepts::<InventoryItem>(&[(two.try_clone()?, false), (none.try_clone()?, false)])?;
     accepts::<Composite<Item>>(&[(two, false), (none, false)])
 }
 
@@ -221,7 +270,8 @@ fn any_negative_length_is_null(rt: HostRuntime) -> Result<(), Fail> {
 }
 
 /// The array of the one item.
-const NUTS: &[u8] = b"\0\0\0\x01\0\0\0\0\0\x01\x86\xa3\0\0\0\x01\0\0\0\x01\0\0\0\x23\0\0\0\x03\0\0\0\x19\0\0\0\x03nut\0\0\0\x17\0\0\0\x04\0\0\0\x07\0\0\0\x14\xff\xff\xff\xff";
+const NUTS: &[u8] =
+    b"\0\0\0\x01\0\0\0\0\0\x01\x86\xa3\0\0\0\x01\0\0\0\x01\0\0\0\x23\0\0\0\x03\0\0\0\x19\0\0\0\x03nut\0\0\0\x17\0\0\0\x04\0\0\0\x07\0\0\0\x14\xff\xff\xff\xff";
 
 #[test]
 fn items_nest_in_wrappers(rt: HostRuntime) -> Result<(), Fail> {

@@ -41,12 +41,7 @@ impl Record for Pair {
         Pair { first, second }
     }
 
-    fn row_to_sql(
-        &self,
-        alloc: Global,
-        fields: &[Field],
-        out: &mut BytesMut,
-    ) -> Result<(), Fault> {
+    fn row_to_sql(&self, alloc: Global, fields: &[Field], out: &mut BytesMut) -> Result<(), Fault> {
         And(&self.first, And(&self.second, End)).to_fields(alloc, fields, out)
     }
 

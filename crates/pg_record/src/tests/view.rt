@@ -42,17 +42,8 @@ impl Record for Item {
         }
     }
 
-    fn row_to_sql(
-        &self,
-        alloc: Global,
-        fields: &[Field],
-        out: &mut BytesMut,
-    ) -> Result<(), Fault> {
-        And(
-            &self.name,
-            And(&self.supplier_id, And(&self.price, End)),
-        )
-        .to_fields(alloc, fields, out)
+    fn row_to_sql(&self, alloc: Global, fields: &[Field], out: &mut BytesMut) -> Result<(), Fault> {
+        And(&self.name, And(&self.supplier_id, And(&self.price, End))).to_fields(alloc, fields, out)
     }
 
     ghost short = { refl };
