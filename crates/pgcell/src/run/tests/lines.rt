@@ -104,6 +104,21 @@ pub const TYPES: [(&[u8], &[u8]); 15] = [
     (b"type \xff", b"bad line"),
 ];
 
+/// An enumerated type and a domain.
+pub const SCHEMA_TYPES: [(&[u8], &[u8]); 11] = [
+    (b"norm mood 536164", b"ok 536164"),
+    (b"norm mood 4f6B", b"ok 4f6b"),
+    (b"norm mood 736164", b"refused 21"),
+    (b"norm mood -", b"refused 21"),
+    (b"norm mood ff", b"refused 5"),
+    (b"norm mood NULL", b"refused 2"),
+    (b"norm mood? NULL", b"null"),
+    (b"norm session -", b"ok -"),
+    (b"norm session DEad00ff", b"ok dead00ff"),
+    (b"norm session NULL", b"refused 2"),
+    (b"norm session? NULL", b"null"),
+];
+
 /// Bits, addresses, identifiers, log positions, timestamps and maps.
 pub const SMALL_TYPES: [(&[u8], &[u8]); 26] = [
     (b"norm bit 00000003BF", b"ok 00000003a0"),
@@ -181,7 +196,7 @@ pub const DATES_AND_TIMES: [(&[u8], &[u8]); 30] = [
 ];
 
 /// Arrays and the two vectors.
-pub const ARRAYS: [(&[u8], &[u8]); 24] = [
+pub const ARRAYS: [(&[u8], &[u8]); 26] = [
     (
         b"norm int4[] 000000000000000000000017",
         b"ok 0000000100000000000000170000000000000001",
@@ -226,6 +241,8 @@ pub const ARRAYS: [(&[u8], &[u8]); 24] = [
     (b"norm unknown[] -", b"bad line"),
     (b"norm int2vector[] -", b"bad line"),
     (b"norm oidvector?[] -", b"bad line"),
+    (b"norm mood[] -", b"bad line"),
+    (b"norm session?[] -", b"bad line"),
     (b"norm json 31", b"bad line"),
 ];
 
@@ -261,10 +278,12 @@ pub const WITH_ARRAYS: [(&[u8], &[u8]); 27] = [
 ];
 
 /// Each base name that has none, and a cell that it accepts.
-pub const WITHOUT_ARRAYS: [(&[u8], &[u8]); 5] = [
+pub const WITHOUT_ARRAYS: [(&[u8], &[u8]); 7] = [
     (b"unknown", b"c3a9"),
     (b"ltree", b"01612e62"),
     (b"hstore", b"00000002000000016100000001310000000161ffffffff"),
+    (b"mood", b"4861707079"),
+    (b"session", b"dead00ff"),
     (
         b"int2vector",
         b"0000000100000000000000150000000100000001000000020005",
