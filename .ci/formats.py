@@ -6,7 +6,7 @@ import subprocess
 from dataclasses import dataclass
 
 WAS_NULL, SIZE, UTF8, COUNT, KEY_LENGTH, DIMENSIONS = 2, 4, 5, 6, 7, 8
-DECODE, TEXT_VERSION, FAMILY, NETMASK, ADDRESS_LENGTH, HOST_BITS = 11, 14, 17, 18, 19, 20
+DECODE, TEXT_VERSION, FAMILY, NETMASK, ADDRESS_LENGTH, HOST_BITS, USER, FIELD_COUNT, FIELD_OID = 11, 14, 17, 18, 19, 20, 21, 22, 23
 
 # The front is read.
 READ = 0
@@ -70,6 +70,11 @@ FORMATS = {
                             has_arrays=False),
     "oidvector": all_short("00000001000000000000001a000000010000000000000004ffffffff", *VECTOR, has_arrays=False),
     "hstore": all_short("0000000200000001610000000162000000026363ffffffff", COUNT, KEY_LENGTH, UTF8, has_arrays=False),
+    "item": all_short("0000000300000019000000036e757400000017000000040000000700000014ffffffff", FIELD_COUNT, FIELD_OID, UTF8,
+                      WAS_NULL),
+    # No front of a label is a label.
+    "mood": Format(b"Happy", (USER,) * 5, frozenset([UTF8, USER]), USER, has_arrays=False),
+    "session": Format(b"\xde\xad\0\xff", (READ,) * 4, frozenset(), READ, has_arrays=False),
 }
 
 

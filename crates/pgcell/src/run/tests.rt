@@ -5,8 +5,8 @@ mod streams;
 
 use super::{BLOCK, RunFault, run};
 use lines::{
-    ARRAYS, DATES_AND_TIMES, NUMBERS_AND_TEXTS, POSITIONS, SMALL_TYPES, TYPES, WITH_ARRAYS,
-    WITHOUT_ARRAYS, WORDS,
+    ARRAYS, DATES_AND_TIMES, ITEMS, NUMBERS_AND_TEXTS, POSITIONS, SCHEMA_TYPES, SMALL_TYPES, TYPES,
+    WITH_ARRAYS, WITHOUT_ARRAYS, WORDS,
 };
 use rows::{hoard, holds, same};
 use std::alloc::Global;
@@ -168,6 +168,8 @@ fn each_line_has_its_answer(rt: HostRuntime) -> Result<(), Fail> {
     answers_rows(alloc, &NUMBERS_AND_TEXTS)?;
     answers_rows(alloc, &TYPES)?;
     answers_rows(alloc, &SMALL_TYPES)?;
+    answers_rows(alloc, &ITEMS)?;
+    answers_rows(alloc, &SCHEMA_TYPES)?;
     answers_rows(alloc, &DATES_AND_TIMES)?;
     answers_rows(alloc, &ARRAYS)?;
     answers_rows(alloc, &POSITIONS)

@@ -104,6 +104,59 @@ pub const TYPES: [(&[u8], &[u8]); 15] = [
     (b"type \xff", b"bad line"),
 ];
 
+/// A composite type.
+pub const ITEMS: [(&[u8], &[u8]); 10] = [
+    (
+        b"norm item 0000000300000019000000036e757400000017000000040000000700000014ffffffff",
+        b"ok 0000000300000019000000036e757400000017000000040000000700000014ffffffff",
+    ),
+    (
+        b"norm item 0000000200000019000000036e757400000017000000040000000700000014ffffffff",
+        b"refused 22",
+    ),
+    (
+        b"norm item ffffffff00000019000000036e757400000017000000040000000700000014ffffffff",
+        b"refused 22",
+    ),
+    (
+        b"norm item 0000000300000017000000036e757400000017000000040000000700000014ffffffff",
+        b"refused 23",
+    ),
+    (
+        b"norm item 0000000300000019000000036e757400000017000000040000000700000014ffffffff00",
+        b"refused 4",
+    ),
+    (
+        b"norm item 0000000300000019000000036e75740000001700000004000000070000001480000000",
+        b"ok 0000000300000019000000036e757400000017000000040000000700000014ffffffff",
+    ),
+    (
+        b"norm item 0000000300000019000000036e757400000017ffffffff",
+        b"refused 2",
+    ),
+    (
+        b"norm item[] 0000000100000000000186a30000000100000001000000230000000300000019000000036e757400000017000000040000000700000014ffffffff",
+        b"ok 0000000100000000000186a30000000100000001000000230000000300000019000000036e757400000017000000040000000700000014ffffffff",
+    ),
+    (b"norm item NULL", b"refused 2"),
+    (b"norm item? NULL", b"null"),
+];
+
+/// An enumerated type and a domain.
+pub const SCHEMA_TYPES: [(&[u8], &[u8]); 11] = [
+    (b"norm mood 536164", b"ok 536164"),
+    (b"norm mood 4f6B", b"ok 4f6b"),
+    (b"norm mood 736164", b"refused 21"),
+    (b"norm mood -", b"refused 21"),
+    (b"norm mood ff", b"refused 5"),
+    (b"norm mood NULL", b"refused 2"),
+    (b"norm mood? NULL", b"null"),
+    (b"norm session -", b"ok -"),
+    (b"norm session DEad00ff", b"ok dead00ff"),
+    (b"norm session NULL", b"refused 2"),
+    (b"norm session? NULL", b"null"),
+];
+
 /// Bits, addresses, identifiers, log positions, timestamps and maps.
 pub const SMALL_TYPES: [(&[u8], &[u8]); 26] = [
     (b"norm bit 00000003BF", b"ok 00000003a0"),
@@ -181,7 +234,7 @@ pub const DATES_AND_TIMES: [(&[u8], &[u8]); 30] = [
 ];
 
 /// Arrays and the two vectors.
-pub const ARRAYS: [(&[u8], &[u8]); 24] = [
+pub const ARRAYS: [(&[u8], &[u8]); 26] = [
     (
         b"norm int4[] 000000000000000000000017",
         b"ok 0000000100000000000000170000000000000001",
@@ -226,11 +279,17 @@ pub const ARRAYS: [(&[u8], &[u8]); 24] = [
     (b"norm unknown[] -", b"bad line"),
     (b"norm int2vector[] -", b"bad line"),
     (b"norm oidvector?[] -", b"bad line"),
+    (b"norm mood[] -", b"bad line"),
+    (b"norm session?[] -", b"bad line"),
     (b"norm json 31", b"bad line"),
 ];
 
 /// Each base name that has arrays, and a cell that it accepts.
-pub const WITH_ARRAYS: [(&[u8], &[u8]); 27] = [
+pub const WITH_ARRAYS: [(&[u8], &[u8]); 28] = [
+    (
+        b"item",
+        b"0000000300000019000000036e757400000017000000040000000700000014ffffffff",
+    ),
     (b"bool", b"02"),
     (b"char", b"ff"),
     (b"int2", b"fffe"),
@@ -261,10 +320,12 @@ pub const WITH_ARRAYS: [(&[u8], &[u8]); 27] = [
 ];
 
 /// Each base name that has none, and a cell that it accepts.
-pub const WITHOUT_ARRAYS: [(&[u8], &[u8]); 5] = [
+pub const WITHOUT_ARRAYS: [(&[u8], &[u8]); 7] = [
     (b"unknown", b"c3a9"),
     (b"ltree", b"01612e62"),
     (b"hstore", b"00000002000000016100000001310000000161ffffffff"),
+    (b"mood", b"4861707079"),
+    (b"session", b"dead00ff"),
     (
         b"int2vector",
         b"0000000100000000000000150000000100000001000000020005",
