@@ -30,6 +30,7 @@ fn field(alloc: Global, name: &str, type_: Type) -> Result<Field, AllocError>
 }
 
 /// The composite type of [`InventoryItem`](pg_record::InventoryItem).
+#[tactic(auto, using(pg_types::proofs::Fields::composite_content))]
 pub fn item_type(alloc: Global) -> Result<Type, AllocError>
     ensures { IfOk result (λ ty. content ty ≡ item_type) }
 {

@@ -3,36 +3,11 @@
 use super::view::Item;
 use crate::InventoryItem;
 use postgres_types::composite::Composite;
-use postgres_types::{Fault, Field, Kind, ToSql, Type};
+use postgres_types::{Fault, Field, Kind, Type};
 use rows::code::{FIELD_COUNT, FIELD_OID, SIZE, UTF8, WAS_NULL};
 use rows::{accepts, reads, refuses, refuses_type, rewrites, spells, user_type, writes_null};
 use std::alloc::Global;
 use std::test::Fail;
-
-/// What is made of the three values.
-trait OfFields: ToSql + PartialEq {
-    fn of(name: String, supplier_id: i32, price: Option<i64>) -> Self;
-}
-
-impl OfFields for InventoryItem {
-    fn of(name: String, supplier_id: i32, price: Option<i64>) -> InventoryItem {
-        InventoryItem {
-            name,
-            supplier_id,
-            price,
-        }
-    }
-}
-
-impl OfFields for Composite<Item> {
-    fn of(name: String, supplier_id: i32, price: Option<i64>) -> Composite<Item> {
-        Composite(Item {
-            name,
-            supplier_id,
-            price,
-        })
-    }
-}
 
 fn field(alloc: Global, name: &str, type_: Type) -> Result<Field, Fault> {
     Ok(Field::new(String::from_str(alloc, name)?, type_))
@@ -69,26 +44,52 @@ const NUT: &[u8] =
 const NAMELESS: &[u8] =
     b"\0\0\0\x03\0\0\0\x19\0\0\0\0\0\0\0\x17\0\0\0\x04\xff\xff\xff\xff\0\0\0\x14\0\0\0\x08\0\0\0\0\0\0\x01\x02";
 
-fn nut<T: OfFields>(alloc: Global) -> Result<T, Fault> {
-    Ok(T::of(String::from_str(alloc, "nut")?, 7, None))
+/// An item, and the same as a view.
+fn both(
+    alloc: Global,
+    name: &str,
+    supplier_id: i32,
+    price: Option<i64>,
+) -> Result<(InventoryItem, Composite<Item>), Fault> {
+    let item = InventoryItem {
+        name: String::from_str(alloc, name)?,
+        supplier_id,
+        price,
+    };
+    let view = Item {
+        name: String::from_str(alloc, name)?,
+        supplier_id,
+        price,
+    };
+    Ok((item, Composite(view)))
 }
 
-/// Items and their cells.
-fn items<T: OfFields>(alloc: Global) -> Result<[(T, &'static [u8]); 2], Fault> {
-    let nameless = T::of(String::new(alloc), -1, Some(258));
-    Ok([(nut::<T>(alloc)?, NUT), (nameless, NAMELESS)])
+fn nut(alloc: Global) -> Result<(InventoryItem, Composite<Item>), Fault> {
+    both(alloc, "nut", 7, None)
+}
+
+fn nameless(alloc: Global) -> Result<(InventoryItem, Composite<Item>), Fault> {
+    both(alloc, "", -1, Some(258))
 }
 
 #[test]
 fn an_item_is_a_record_by_hand(rt: HostRuntime) -> Result<(), Fail> {
     let alloc = rt.alloc();
-    spells(alloc, &item_type(alloc)?, &items::<InventoryItem>(alloc)?)
+    spells(
+        alloc,
+        &item_type(alloc)?,
+        &[(nut(alloc)?.0, NUT), (nameless(alloc)?.0, NAMELESS)],
+    )
 }
 
 #[test]
 fn an_item_is_a_record_as_a_view(rt: HostRuntime) -> Result<(), Fail> {
     let alloc = rt.alloc();
-    spells(alloc, &item_type(alloc)?, &items::<Composite<Item>>(alloc)?)
+    spells(
+        alloc,
+        &item_type(alloc)?,
+        &[(nut(alloc)?.1, NUT), (nameless(alloc)?.1, NAMELESS)],
+    )
 }
 
 /// Refused cells of the count and of the fields' OIDs.
@@ -211,24 +212,14 @@ fn types(alloc: Global) -> Result<[(Type, bool); 10], Fault> {
 fn types_are_accepted_by_hand(rt: HostRuntime) -> Result<(), Fail> {
     let alloc = rt.alloc();
     accepts::<InventoryItem>(&types(alloc)?)?;
-    refuses_type(
-        alloc,
-        &nut::<InventoryItem>(alloc)?,
-        &Type::TEXT,
-        "InventoryItem",
-    )
+    refuses_type(alloc, &nut(alloc)?.0, &Type::TEXT, "InventoryItem")
 }
 
 #[test]
 fn types_are_accepted_as_a_view(rt: HostRuntime) -> Result<(), Fail> {
     let alloc = rt.alloc();
     accepts::<Composite<Item>>(&types(alloc)?)?;
-    refuses_type(
-        alloc,
-        &nut::<Composite<Item>>(alloc)?,
-        &Type::TEXT,
-        "InventoryItem",
-    )
+    refuses_type(alloc, &nut(alloc)?.1, &Type::TEXT, "InventoryItem")
 }
 
 #[test]
@@ -288,5 +279,5 @@ fn items_nest_in_wrappers(rt: HostRuntime) -> Result<(), Fail> {
     rewrites::<Vec<Composite<Item>>>(alloc, &arrays, NUTS, NUTS)?;
     rewrites::<Box<InventoryItem>>(alloc, &ty, NUT, NUT)?;
     writes_null(alloc, &None::<InventoryItem>, &ty)?;
-    reads(alloc, &ty, NUT, Some(nut::<InventoryItem>(alloc)?))
+    reads(alloc, &ty, NUT, Some(nut(alloc)?.0))
 }
