@@ -19,7 +19,7 @@ use Rattle.pg_read.specs.Views.{ReadsThrough, Through}
 use Rattle.pg_write.specs.OptionWriting.{wire_option}
 use Rattle.postgres_types.specs.CompositeFields.{BackAnd, BackEnd, ReadsAnd, ReadsEnd, SameAnd, accepts_and, and}
 use Rattle.postgres_types.specs.CompositeFields.{and_equivalence, and_lawful, and_single, bytes_and, end}
-use Rattle.postgres_types.specs.CompositeFields.{ends_equivalence, ends_lawful, ends_single, no_fields}
+use Rattle.postgres_types.specs.CompositeFields.{no_fields_equivalence, no_fields_lawful, no_fields_single, no_fields}
 use Rattle.postgres_types.specs.Composites.{accepts_record, composite_lawful, composite_single, reads_record, record_cell}
 use Rattle.postgres_types.specs.Conversion.{int4_lawful, int4_single, int8_lawful, int8_single}
 use Rattle.postgres_types.specs.FormatBackLaws.{text_lawful}
@@ -115,7 +115,7 @@ back_item fs v = Through row_of (back_row fs (row_of v))
 pub item_equivalence : IsEquivalence SameItem
 item_equivalence = inside_equivalence row_of SameRow (and_equivalence SameText _ (content_equivalence string_bytes)
     (and_equivalence Equal _ equal_equivalence
-    (and_equivalence (SameOption Equal) _ (option_equivalence Equal equal_equivalence) ends_equivalence)))
+    (and_equivalence (SameOption Equal) _ (option_equivalence Equal equal_equivalence) no_fields_equivalence)))
 
 row_single : (fs : FieldsContent) → IsTrue (accepts_row fs) → (s : List ℕ) → GivesSingle SameRow (reads_row fs s)
 row_single = and_single SameText accepted_text reads_text _ _ _
@@ -123,7 +123,7 @@ row_single = and_single SameText accepted_text reads_text _ _ _
     (text_grammar string_bytes (has_version ty)))
     (and_single Equal (is_row Int4) (λ ty. ReadsSigned w32) _ _ _ (λ _ _. int4_single)
     (and_single (SameOption Equal) (is_row Int8) (λ ty. ReadsOption (ReadsSigned w64)) _ no_fields ReadsEnd
-    (λ _ _. option_single Equal (ReadsSigned w64) int8_single) (λ fs _. ends_single fs)))
+    (λ _ _. option_single Equal (ReadsSigned w64) int8_single) (λ fs _. no_fields_single fs)))
 
 pub item_single : (ty : Content) → IsTrue (accepts_item ty)
     → ReadsSingle SameItem (reads_item (fields_of_kind (kind_of ty)))
@@ -139,7 +139,7 @@ row_lawful = and_lawful SameText accepted_text reads_text _ _ _ text_cell (λ ty
     (and_lawful (SameOption Equal) (is_row Int8) (λ ty. ReadsOption (ReadsSigned w64)) _ no_fields ReadsEnd
     (λ ty. wire_option (wire_signed w64)) (λ ty. BackOption (wire_signed w64) (BackKept Equal)) _ BackEnd
     (λ _ _. option_lawful Equal (ReadsSigned w64) (wire_signed w64) (BackKept Equal) int8_lawful)
-    (λ fs _. ends_lawful fs)))
+    (λ fs _. no_fields_lawful fs)))
 
 pub item_lawful : (ty : Content) → IsTrue (accepts_item ty)
     → IsLawful SameItem (reads_item (fields_of_kind (kind_of ty))) (wire_item (fields_of_kind (kind_of ty)))

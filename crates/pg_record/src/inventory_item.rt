@@ -1,9 +1,10 @@
 //! A composite type, read and written by hand.
-ghost use Rattle.std.specs.Prelude.{◌≡◌, [], ◌∷◌, IsTrue, Some, codes, refl};
+ghost use Rattle.std.specs.Prelude.{◌≡◌, [], ◌∷◌, IsTrue, Some, codes, refl, true};
 ghost use Rattle.pg_types.specs.Content.{content, field_type, fields_content, is_row, kind_of};
 ghost use Rattle.pg_types.specs.Faults.{Answers};
 ghost use Rattle.pg_types.specs.declared.types.built_in.BuiltIn.TheVariants.{Int4, Int8};
 ghost use Rattle.pg_base.specs.Texts.{accepted_text};
+ghost use Rattle.pg_read.specs.Reading.{NullAlone};
 ghost use Rattle.pg_record.specs.InventoryItems.{SameItem, accepts_item, back_item, item_bytes, item_equivalence};
 ghost use Rattle.pg_record.specs.InventoryItems.{accepts_row, item_lawful, item_single, reads_item, wire_item};
 ghost use Rattle.postgres_types.specs.Records.{AppendsBytes, AppendsBytesOrPart, fields_of_kind};
@@ -18,12 +19,12 @@ use std::alloc::Global;
 /// The names of the type's fields, in their order.
 const FIELDS: &[&str] = &["name", "supplier_id", "price"];
 
-/// A row of an inventory: the composite type `InventoryItem` with the fields `name`, a text,
-/// `supplier_id`, an INT4, and `price`, an INT8.
+/// A value of the composite type that
+/// `CREATE TYPE "InventoryItem" AS (name text, supplier_id int4, price int8)` makes.
 ///
 /// It accepts a composite type of that name, with fields of these names in this order, of types
 /// that [`String`], `i32` and `Option<i64>` accept. Its cell is a record (`record_recv`,
-/// `record_send`): the number 3 in 4 bytes, and then, of each field, the OID of its type in 4 bytes
+/// `record_send`): the field count 3 in 4 bytes, and then, of each field, the OID of its type in 4 bytes
 /// and the frame of its cell, big-endian. NULL is `WasNull`.
 ///
 /// In reading, fewer than 4 bytes are `Size`, and another number is `FieldCount`; a truncated OID
@@ -111,7 +112,7 @@ fn append_fields(
         (item_bytes (fields_content (name.now ∷ supplier_id.now ∷ price.now ∷ [])) item.now)
         out.old.items out.new.items result }
 {
-    field_count_to_sql(3, out)?;
+    field_count_to_sql(alloc, 3, out)?;
     field_to_sql(alloc, &item.name, name.type_(), out)?;
     field_to_sql(alloc, &item.supplier_id, supplier_id.type_(), out)?;
     field_to_sql(alloc, &item.price, price.type_(), out)
@@ -147,6 +148,8 @@ impl<'a> FromSql<'a> for InventoryItem {
 
     ghost reads = { λ ty. reads_item (fields_of_kind (kind_of ty)) };
 
+    ghost memory_free = { NullAlone };
+
     ghost equivalence = { item_equivalence };
 
     ghost single = { item_single };
@@ -170,6 +173,8 @@ impl ToSql for InventoryItem {
     ghost name = { codes "InventoryItem" };
 
     ghost wire = { λ ty. wire_item (fields_of_kind (kind_of ty)) };
+
+    ghost refuses_memory_free = { true };
 
     fn to_sql(&self, alloc: Global, ty: &Type, out: &mut BytesMut) -> Result<IsNull, Fault> {
         item_to_sql(alloc, self, fields_of(ty), out)?;

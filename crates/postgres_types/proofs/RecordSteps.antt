@@ -23,7 +23,7 @@ use Rattle.pg_params.specs.ParamWriting.{AppendsFrame}
 use Rattle.pg_write.specs.ArrayWriting.{element_frame_cell, with_frame}
 use Rattle.postgres_types.specs.CompositeFields.{ReadsAnd, and, no_fields}
 use Rattle.postgres_types.specs.Records.{AppendsBytes, AppendsBytesOrPart, AtEnd, Both, Bytes, CellThen, CountThen}
-use Rattle.postgres_types.specs.Records.{Ends, FieldThen, FrameThen, IsDone, IsRefused, ReadsNext, TakesNumber, Unless, append_bytes}
+use Rattle.postgres_types.specs.Records.{PassesCheck, FieldThen, FrameThen, IsDone, IsRefused, ReadsNext, PassesNumber, Unless, append_bytes}
 use Rattle.postgres_types.specs.Records.{concat_bytes, count_fault, count_of, field_bytes, frame_bytes, oid_fault}
 use Rattle.postgres_types.specs.Records.{or_transmit}
 use Rattle.postgres_types.specs.declared.composite.fields.And.{And}
@@ -119,41 +119,41 @@ answers_refused A r None e = tt
 answers_refused A r (Some x) e = cc
 
 module _ {A : Type 0} (n : ℕ) (fields : List ℕ → Outcome A → Type 0) (s new : List ℕ) where
-  refused_by : (x : Option Refusal) (f : Fault) → TakesNumber x s (Err f) new
+  refused_by : (x : Option Refusal) (f : Fault) → PassesNumber x s (Err f) new
       → IfSome (refusal_of f) (λ r. Unless x (fields (after_number s)) (Err r))
   refused_by None f h = let no : ⊥ = cc in absurd no
   refused_by (Some r) f h = answers_refused A r (refusal_of f) h.0
 
-  passed_by : {u : ⊤} (x : Option Refusal) (o : Outcome A) → TakesNumber x s (Ok u) new → fields new o
+  passed_by : {u : ⊤} (x : Option Refusal) (o : Outcome A) → PassesNumber x s (Ok u) new → fields new o
       → Unless x (fields (after_number s)) o
   passed_by None o h k = subst (λ t. fields t o) h.1 k
   passed_by (Some r) o h k = absurd h.0
 
   -- the number of fields is refused
-  pub count_refused : (f : Fault) → TakesNumber (count_fault n s) s (Err f) new
+  pub count_refused : (f : Fault) → PassesNumber (count_fault n s) s (Err f) new
       → IfSome (refusal_of f) (λ r. CountThen n fields s (Err r))
   count_refused = refused_by (count_fault n s)
 
   -- it is read, and then the fields are
-  pub count_passed : {u : ⊤} (o : Outcome A) → TakesNumber (count_fault n s) s (Ok u) new → fields new o
+  pub count_passed : {u : ⊤} (o : Outcome A) → PassesNumber (count_fault n s) s (Ok u) new → fields new o
       → CountThen n fields s o
   count_passed = passed_by (count_fault n s)
 
-end_refused_by : (x : Option Refusal) (f : Fault) → Ends x (Err f) → IfSome (refusal_of f) (λ r. Unless x IsDone (Err r))
+end_refused_by : (x : Option Refusal) (f : Fault) → PassesCheck x (Err f) → IfSome (refusal_of f) (λ r. Unless x IsDone (Err r))
 end_refused_by None f h = let no : ⊥ = cc in absurd no
 end_refused_by (Some r) f h = answers_refused (Unit {0}) r (refusal_of f) h
 
-end_passed_by : {u : ⊤} (x : Option Refusal) → Ends x (Ok u) → Unless x IsDone (Ok tt)
+end_passed_by : {u : ⊤} (x : Option Refusal) → PassesCheck x (Ok u) → Unless x IsDone (Ok tt)
 end_passed_by None h = tt
 end_passed_by (Some r) h = absurd h
 
 -- bytes trail the last field
-pub end_refused : (s : List ℕ) (f : Fault) → Ends (first_fault_of (no_trailing s ∷ [])) (Err f)
+pub end_refused : (s : List ℕ) (f : Fault) → PassesCheck (first_fault_of (no_trailing s ∷ [])) (Err f)
     → IfSome (refusal_of f) (λ r. AtEnd s (Err r))
 end_refused s = end_refused_by (first_fault_of (no_trailing s ∷ []))
 
 -- none do
-pub end_passed : {u : ⊤} (s : List ℕ) → Ends (first_fault_of (no_trailing s ∷ [])) (Ok u) → AtEnd s (Ok tt)
+pub end_passed : {u : ⊤} (s : List ℕ) → PassesCheck (first_fault_of (no_trailing s ∷ [])) (Ok u) → AtEnd s (Ok tt)
 end_passed s = end_passed_by (first_fault_of (no_trailing s ∷ []))
 
 module _ {A B : Type 0} (reads : Cell → Outcome A → Type 0) (free : Cell → Type 0) (others : List ℕ → Outcome B → Type 0)

@@ -91,15 +91,15 @@ through_are_lawful inside same reads bytes back laws = record {
   reads_back = λ v b o e. through_map inside (reads b) (back (inside v)) (λ x. laws.reads_back (inside v) b x e) o;
 }
 
-pub ends_equivalence : IsEquivalence (λ (v w : End). Unit {0})
-ends_equivalence = record { reflexive = λ v. tt; symmetric = λ v w h. tt; transitive = λ u v w h k. tt }
+pub no_fields_equivalence : IsEquivalence (λ (v w : End). Unit {0})
+no_fields_equivalence = record { reflexive = λ v. tt; symmetric = λ v w h. tt; transitive = λ u v w h k. tt }
 
-pub ends_single : (fs : FieldsContent) (s : List ℕ) → GivesSingle (λ (v w : End). Unit {0}) (ReadsEnd fs s)
-ends_single fs s = through_gives_single nothing_in (λ u v. Unit {0}) (AtEnd s) (end_single s)
+pub no_fields_single : (fs : FieldsContent) (s : List ℕ) → GivesSingle (λ (v w : End). Unit {0}) (ReadsEnd fs s)
+no_fields_single fs s = through_gives_single nothing_in (λ u v. Unit {0}) (AtEnd s) (end_single s)
 
-pub ends_lawful : (fs : FieldsContent)
+pub no_fields_lawful : (fs : FieldsContent)
     → AreLawful (λ (v w : End). Unit {0}) (ReadsEnd fs) (λ v. Ok []) (BackEnd fs)
-ends_lawful fs = through_are_lawful nothing_in (λ u v. Unit {0}) AtEnd (λ u. Ok []) (λ u. IsDone) end_lawful
+no_fields_lawful fs = through_are_lawful nothing_in (λ u v. Unit {0}) AtEnd (λ u. Ok []) (λ u. IsDone) end_lawful
 
 pub and_equivalence : {A B : Type 0} (same : A → A → Type 0) (alike : B → B → Type 0) → IsEquivalence same
     → IsEquivalence alike → IsEquivalence (SameAnd same alike)

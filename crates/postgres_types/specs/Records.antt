@@ -145,14 +145,14 @@ AnswersRefusal r (Err f) = refusal_of f ≡ Some r
 
 -- a number of four bytes was taken; where a check of it fails it is the fault, and the slice stands where it was if
 -- fewer are left, and otherwise after them
-abbrev pub TakesNumber : Option Refusal → List ℕ → Result ⊤ Fault → List ℕ → Type 0
-TakesNumber None old result new = IsOk result × (new ≡ after_number old)
-TakesNumber (Some r) old result new = AnswersRefusal r result × (new ≡ after_truncated old)
+abbrev pub PassesNumber : Option Refusal → List ℕ → Result ⊤ Fault → List ℕ → Type 0
+PassesNumber None old result new = IsOk result × (new ≡ after_number old)
+PassesNumber (Some r) old result new = AnswersRefusal r result × (new ≡ after_truncated old)
 
 -- Ok, or the fault of the check that fails
-abbrev pub Ends : Option Refusal → Result ⊤ Fault → Type 0
-Ends None result = IsOk result
-Ends (Some r) result = AnswersRefusal r result
+abbrev pub PassesCheck : Option Refusal → Result ⊤ Fault → Type 0
+PassesCheck None result = IsOk result
+PassesCheck (Some r) result = AnswersRefusal r result
 
 -- the framed cell after a number was read; where a check of the number fails it is the fault
 abbrev pub ReadsNext : {A : Type 0} → Option Refusal → (Cell → Outcome A → Type 0) → (Cell → Type 0) → List ℕ

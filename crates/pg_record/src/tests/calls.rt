@@ -75,11 +75,11 @@ fn nothing_follows_the_last_field(_rt: HostRuntime) -> Result<(), Fail> {
 fn the_number_of_fields_and_a_field_are_appended(rt: HostRuntime) -> Result<(), Fail> {
     let alloc = rt.alloc();
     let mut out = BytesMut::new(alloc);
-    field_count_to_sql(2, &mut out)?;
+    field_count_to_sql(alloc, 2, &mut out)?;
     field_to_sql(alloc, &7, &Type::INT4, &mut out)?;
     field_to_sql(alloc, &None::<i64>, &Type::INT8, &mut out)?;
     same(
-        fault_code(field_count_to_sql(2_147_483_648, &mut out)),
+        fault_code(field_count_to_sql(alloc, 2_147_483_648, &mut out)),
         TRANSMIT,
     )?;
     let cell: &[u8] = b"\0\0\0\x02\0\0\0\x17\0\0\0\x04\0\0\0\x07\0\0\0\x14\xff\xff\xff\xff";

@@ -93,7 +93,13 @@ fn an_item_is_a_record_as_a_view(rt: HostRuntime) -> Result<(), Fail> {
 }
 
 /// Refused cells of the count and of the fields' OIDs.
-const REFUSED: [(Option<&[u8]>, u32); 11] = [
+const REFUSED: [(Option<&[u8]>, u32); 14] = [
+    (Some(b"\0\0\0\x02\0\0\0\x17"), FIELD_COUNT),
+    (
+        Some(b"\0\0\0\x03\0\0\0\x19\0\0\0\x03nut\0\0\0\x14"),
+        FIELD_OID,
+    ),
+    (Some(b"\0\0\0\x03\0\0\0\x19\0\0\0\x03nut\0\0\x17"), SIZE),
     (None, WAS_NULL),
     (Some(b""), SIZE),
     (Some(b"\0\0\x03"), SIZE),
@@ -118,7 +124,11 @@ const REFUSED: [(Option<&[u8]>, u32); 11] = [
 ];
 
 /// Refused cells of the fields and of what comes after them.
-const REFUSED_FIELDS: [(Option<&[u8]>, u32); 8] = [
+const REFUSED_FIELDS: [(Option<&[u8]>, u32); 9] = [
+    (
+        Some(b"\0\0\0\x03\0\0\0\x19\0\0\0\x03nut\0\0\0\x17\0\0\0\x04\0\0\0\x07\0\0\0\x14\0\0\0\0"),
+        SIZE,
+    ),
     (Some(b"\0\0\0\x03\0\0\0\x19"), SIZE),
     (Some(b"\0\0\0\x03\0\0\0\x19\0\0\0\x04nut"), SIZE),
     (Some(b"\0\0\0\x03\0\0\0\x19\0\0\0\x01\xff"), UTF8),

@@ -6,7 +6,7 @@ ghost use Rattle.pg_base.specs.Sameness.{IsEquivalence};
 ghost use Rattle.pg_read.specs.Reading.{GivesSingle};
 ghost use Rattle.postgres_types.specs.CompositeFields.{BackAnd, BackEnd, ReadsAnd, ReadsEnd, SameAnd, accepts_and};
 ghost use Rattle.postgres_types.specs.CompositeFields.{and_equivalence, and_lawful, and_single, bytes_and};
-ghost use Rattle.postgres_types.specs.CompositeFields.{ends_equivalence, ends_lawful, ends_single, no_fields};
+ghost use Rattle.postgres_types.specs.CompositeFields.{no_fields_equivalence, no_fields_lawful, no_fields_single, no_fields};
 ghost use Rattle.postgres_types.specs.RecordLaws.{AreLawful};
 ghost use Rattle.postgres_types.specs.Records.{AppendsBytes, Bytes};
 
@@ -99,9 +99,9 @@ impl<'a> FromFields<'a> for End {
 
     ghost reads = { ReadsEnd };
 
-    ghost equivalence = { ends_equivalence };
+    ghost equivalence = { no_fields_equivalence };
 
-    ghost single = { λ fields _. ends_single fields };
+    ghost single = { λ fields _. no_fields_single fields };
 
     fn from_fields(_alloc: Global, _fields: &[Field], raw: &'a [u8]) -> Result<End, Fault> {
         read_end(raw)?;
@@ -139,7 +139,7 @@ impl<'a> PairedFields<'a> for End {
 
     ghost types = { λ _. refl };
 
-    ghost lawful = { λ fields _. ends_lawful fields };
+    ghost lawful = { λ fields _. no_fields_lawful fields };
 }
 
 impl<'a, A: FromSql<'a>, B: FromFields<'a>> FromFields<'a> for And<A, B> {

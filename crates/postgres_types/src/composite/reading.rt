@@ -3,7 +3,7 @@ ghost use Rattle.std.specs.Prelude.{◌≡◌, [], ◌∷◌, IsTrue, length};
 ghost use Rattle.pg_types.specs.Content.{content, fields_content, kind_of, oid_of};
 ghost use Rattle.pg_base.specs.Counts.{no_trailing};
 ghost use Rattle.pg_base.specs.Formats.{first_fault_of};
-ghost use Rattle.postgres_types.specs.Records.{Ends, ReadsNext, TakesNumber, count_fault, count_of};
+ghost use Rattle.postgres_types.specs.Records.{PassesCheck, ReadsNext, PassesNumber, count_fault, count_of};
 ghost use Rattle.postgres_types.specs.Records.{fields_of_kind, oid_fault};
 
 use pg_base::fault::Fault;
@@ -30,7 +30,7 @@ pub fn fields_of(ty: &PgType) -> &[Field]
 /// Where fewer bytes are left it answers `Size`, and the slice stays. Another number, a negative
 /// one too, is `FieldCount`, and the slice stands after it.
 pub fn read_field_count(count: usize, buf: &mut &[u8]) -> Result<(), Fault>
-    ensures { TakesNumber (count_fault count buf.old.now) buf.old.now result buf.new.now }
+    ensures { PassesNumber (count_fault count buf.old.now) buf.old.now result buf.new.now }
 {
     let found = read_be_i32(buf)?;
     if found >= 0 && found as usize == count {
@@ -42,7 +42,7 @@ pub fn read_field_count(count: usize, buf: &mut &[u8]) -> Result<(), Fault>
 
 /// Reads the OID of a field's type, in 4 bytes.
 fn read_field_oid(ty: &PgType, buf: &mut &[u8]) -> Result<(), Fault>
-    ensures { TakesNumber (oid_fault (oid_of (content ty.now)) buf.old.now) buf.old.now result buf.new.now }
+    ensures { PassesNumber (oid_fault (oid_of (content ty.now)) buf.old.now) buf.old.now result buf.new.now }
 {
     let bytes = *buf;
     if bytes.len() < 4 {
@@ -77,7 +77,7 @@ pub fn read_field<'a, T: FromSql<'a>>(
 
 /// Answers `Size` where bytes trail a record's last field.
 pub fn read_end(raw: &[u8]) -> Result<(), Fault>
-    ensures { Ends (first_fault_of (no_trailing raw.now ∷ [])) result }
+    ensures { PassesCheck (first_fault_of (no_trailing raw.now ∷ [])) result }
 {
     if raw.is_empty() {
         Ok(())

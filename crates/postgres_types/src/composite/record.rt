@@ -1,7 +1,8 @@
 //! Structs as the values of a composite type.
-ghost use Rattle.std.specs.Prelude.{◌≡◌, ◌≤◌, List, Bool, IsTrue, length, map, nat_le, ℕ};
+ghost use Rattle.std.specs.Prelude.{◌≡◌, ◌≤◌, List, Bool, IsTrue, length, map, nat_le, true, ℕ};
 ghost use Rattle.pg_types.specs.Content.{content, fields_content, kind_of};
 ghost use Rattle.pg_base.proofs.SamenessLaws.{inside_equivalence};
+ghost use Rattle.pg_read.specs.Reading.{NullAlone};
 ghost use Rattle.pg_read.specs.ReadingLaws.{through_single};
 ghost use Rattle.pg_read.specs.Views.{ReadsThrough, Through};
 ghost use Rattle.postgres_types.specs.Composites.{accepts_record, are_named, composite_lawful, composite_single};
@@ -41,7 +42,8 @@ pub trait Record: Sized + fmt::Debug + Drop {
     /// The values of its fields.
     ghost inside: { Self → Self.Fields };
 
-    /// The name of the composite type, without its schema: at most 64 bytes.
+    /// The name of the composite type, without its schema, byte for byte: at most 64 bytes. SQL makes a
+    /// name that is not quoted one of lower case.
     fn name() -> &'static str
         ensures { result.now ≡ type_name };
 
@@ -117,6 +119,8 @@ where
 
     ghost reads = { λ ty. ReadsThrough (λ v. T.inside v.0) (reads_record T.Fields.reads ty) };
 
+    ghost memory_free = { NullAlone };
+
     ghost equivalence = { inside_equivalence (λ v. T.inside v.0) T.Fields.same T.Fields.equivalence };
 
     ghost single = { λ ty ok. through_single (λ v. T.inside v.0) T.Fields.same (reads_record T.Fields.reads ty)
@@ -154,7 +158,7 @@ fn record_to_sql<T: Record>(
         out.old.items out.new.items result }
 {
     let start = out.len();
-    field_count_to_sql(fields.len(), out)?;
+    field_count_to_sql(alloc, fields.len(), out)?;
     let outcome = value.row_to_sql(alloc, fields, out);
     if outcome.is_err() {
         out.truncate(start);
@@ -168,6 +172,8 @@ impl<T: Record> ToSql for Composite<T> {
     ghost name = { T.type_name };
 
     ghost wire = { λ ty v. record_cell T.Fields.bytes ty (T.inside v.0) };
+
+    ghost refuses_memory_free = { true };
 
     fn to_sql(&self, alloc: Global, ty: &PgType, out: &mut BytesMut) -> Result<IsNull, Fault> {
         record_to_sql(alloc, &self.0, fields_of(ty), out)?;

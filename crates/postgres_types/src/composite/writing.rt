@@ -14,7 +14,7 @@ use std::alloc::Global;
 
 /// Appends the number of a record's fields, in 4 bytes; `Transmit` where it passes 2,147,483,647.
 /// A refusal leaves the buffer's bytes as they were, `Memory` too.
-pub fn field_count_to_sql(count: usize, out: &mut BytesMut) -> Result<(), Fault>
+pub fn field_count_to_sql(_alloc: Global, count: usize, out: &mut BytesMut) -> Result<(), Fault>
     ensures { AppendsBytes (or_transmit (count_bytes count)) out.old.items out.new.items result }
 {
     if count > MAX_LEN {
