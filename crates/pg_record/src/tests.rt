@@ -1,4 +1,4 @@
-//! Tests of the types of a schema's own.
+//! Tests of user-defined types.
 
 mod calls;
 mod inventory_items;
