@@ -41,3 +41,7 @@ pub const ADDRESS_LENGTH: u32 = 19;
 pub const HOST_BITS: u32 = 20;
 
 pub const USER: u32 = 21;
+
+pub const FIELD_COUNT: u32 = 22;
+
+pub const FIELD_OID: u32 = 23;
