@@ -17,3 +17,27 @@ pub use fields::{And, End, FromFields, PairedFields, ToFields};
 pub use reading::{fields_of, read_end, read_field, read_field_count};
 pub use record::{Composite, Record, is_record};
 pub use writing::{field_count_to_sql, field_to_sql};
+
+/// Fields in a row, by their names: `row!(name, price)` is `And(name, And(price, End))`, and
+/// `row!(self => name, price)` is `And(&self.name, And(&self.price, End))`.
+#[macro_export]
+macro_rules! row {
+    () => { $crate::composite::End };
+    ($of:ident =>) => { $crate::composite::End };
+    ($of:ident => $first:ident $(, $other:ident)*) => {
+        $crate::composite::And(&$of.$first, $crate::row!($of => $($other),*))
+    };
+    ($first:ident $(, $other:ident)*) => {
+        $crate::composite::And($first, $crate::row!($($other),*))
+    };
+}
+
+/// The struct of the fields of a row: `from_row!(row => Item { name, price })` is
+/// `let And(name, And(price, End)) = row; Item { name, price }`.
+#[macro_export]
+macro_rules! from_row {
+    ($row:ident => $name:ident { $($field:ident),+ $(,)? }) => {{
+        let $crate::row!($($field),+) = $row;
+        $name { $($field),+ }
+    }};
+}

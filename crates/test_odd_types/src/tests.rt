@@ -1,5 +1,6 @@
 //! The tests, by what a conversion has of its own.
 
+mod composites;
 mod nulls;
 mod percentages;
 mod refusals;

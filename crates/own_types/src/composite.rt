@@ -1,0 +1,59 @@
+//! A composite type of eight fields, of which one is a composite and one an array of composites.
+ghost use Rattle.std.specs.Prelude.{[], ◌∷◌};
+ghost use Rattle.postgres_types.specs.CompositeFields.{and, end};
+ghost use Rattle.postgres_types.specs.Conversion.{codes, refl};
+
+use pg_record::InventoryItem;
+use postgres_types::composite::{And, End, Record, ToFields};
+use postgres_types::private::BytesMut;
+use postgres_types::{Fault, Field, UnixTime, from_row, row};
+use std::alloc::Global;
+
+/// `CREATE TYPE purchase AS (id int8, customer text, paid bool, placed timestamptz, discount int4,
+/// tags text[], gift "InventoryItem", items "InventoryItem"[])`.
+#[derive(Debug, PartialEq, Drop)]
+pub struct Purchase {
+    pub id: i64,
+    pub customer: String,
+    pub paid: bool,
+    pub placed: UnixTime,
+    pub discount: Option<i32>,
+    pub tags: Vec<String>,
+    pub gift: InventoryItem,
+    pub items: Vec<InventoryItem>,
+}
+
+type Goods = And<Vec<String>, And<InventoryItem, And<Vec<InventoryItem>, End>>>;
+
+impl Record for Purchase {
+    type Fields = And<i64, And<String, And<bool, And<UnixTime, And<Option<i32>, Goods>>>>>;
+
+    ghost type_name = { codes "purchase" };
+
+    ghost names = { codes "id" ∷ codes "customer" ∷ codes "paid" ∷ codes "placed" ∷ codes "discount"
+        ∷ codes "tags" ∷ codes "gift" ∷ codes "items" ∷ [] };
+
+    ghost inside = { λ v. and v.id (and v.customer (and v.paid (and v.placed (and v.discount
+        (and v.tags (and v.gift (and v.items end))))))) };
+
+    ghost short = { refl };
+
+    fn name() -> &'static str {
+        "purchase"
+    }
+
+    fn field_names() -> &'static [&'static str] {
+        &[
+            "id", "customer", "paid", "placed", "discount", "tags", "gift", "items",
+        ]
+    }
+
+    fn from_row(row: Self::Fields) -> Purchase {
+        from_row!(row => Purchase { id, customer, paid, placed, discount, tags, gift, items })
+    }
+
+    fn row_to_sql(&self, alloc: Global, fields: &[Field], out: &mut BytesMut) -> Result<(), Fault> {
+        let row = row!(self => id, customer, paid, placed, discount, tags, gift, items);
+        row.to_fields(alloc, fields, out)
+    }
+}

@@ -1,0 +1,80 @@
+//! A composite type with a composite and an array of composites, each of them a struct.
+ghost use Rattle.std.specs.Prelude.{[], ◌∷◌};
+ghost use Rattle.postgres_types.specs.CompositeFields.{and, end};
+ghost use Rattle.postgres_types.specs.Conversion.{codes, refl};
+
+use postgres_types::composite::{And, Composite, End, Record, ToFields};
+use postgres_types::private::BytesMut;
+use postgres_types::{Fault, Field, from_row, row};
+use std::alloc::Global;
+
+/// `CREATE TYPE address AS (street text, city text)`.
+#[derive(Debug, PartialEq, Drop)]
+pub struct Address {
+    pub street: String,
+    pub city: String,
+}
+
+impl Record for Address {
+    type Fields = And<String, And<String, End>>;
+
+    ghost type_name = { codes "address" };
+
+    ghost names = { codes "street" ∷ codes "city" ∷ [] };
+
+    ghost inside = { λ v. and v.street (and v.city end) };
+
+    ghost short = { refl };
+
+    fn name() -> &'static str {
+        "address"
+    }
+
+    fn field_names() -> &'static [&'static str] {
+        &["street", "city"]
+    }
+
+    fn from_row(row: Self::Fields) -> Address {
+        from_row!(row => Address { street, city })
+    }
+
+    fn row_to_sql(&self, alloc: Global, fields: &[Field], out: &mut BytesMut) -> Result<(), Fault> {
+        row!(self => street, city).to_fields(alloc, fields, out)
+    }
+}
+
+/// `CREATE TYPE parcel AS (number int8, bill_to address, ship_to address[])`.
+#[derive(Debug, PartialEq, Drop)]
+pub struct Parcel {
+    pub number: i64,
+    pub bill_to: Composite<Address>,
+    pub ship_to: Vec<Composite<Address>>,
+}
+
+impl Record for Parcel {
+    type Fields = And<i64, And<Composite<Address>, And<Vec<Composite<Address>>, End>>>;
+
+    ghost type_name = { codes "parcel" };
+
+    ghost names = { codes "number" ∷ codes "bill_to" ∷ codes "ship_to" ∷ [] };
+
+    ghost inside = { λ v. and v.number (and v.bill_to (and v.ship_to end)) };
+
+    ghost short = { refl };
+
+    fn name() -> &'static str {
+        "parcel"
+    }
+
+    fn field_names() -> &'static [&'static str] {
+        &["number", "bill_to", "ship_to"]
+    }
+
+    fn from_row(row: Self::Fields) -> Parcel {
+        from_row!(row => Parcel { number, bill_to, ship_to })
+    }
+
+    fn row_to_sql(&self, alloc: Global, fields: &[Field], out: &mut BytesMut) -> Result<(), Fault> {
+        row!(self => number, bill_to, ship_to).to_fields(alloc, fields, out)
+    }
+}
