@@ -43,22 +43,22 @@ impl Record for Address {
     }
 }
 
-/// `CREATE TYPE parcel AS (number int8, bill_to address, ship_to address[])`.
+/// `CREATE TYPE parcel AS (label text, bill_to address, ship_to address[])`.
 #[derive(Debug, PartialEq, Drop)]
 pub struct Parcel {
-    pub number: i64,
+    pub label: String,
     pub bill_to: Composite<Address>,
     pub ship_to: Vec<Composite<Address>>,
 }
 
 impl Record for Parcel {
-    type Fields = And<i64, And<Composite<Address>, And<Vec<Composite<Address>>, End>>>;
+    type Fields = And<String, And<Composite<Address>, And<Vec<Composite<Address>>, End>>>;
 
     ghost type_name = { codes "parcel" };
 
-    ghost names = { codes "number" ∷ codes "bill_to" ∷ codes "ship_to" ∷ [] };
+    ghost names = { codes "label" ∷ codes "bill_to" ∷ codes "ship_to" ∷ [] };
 
-    ghost inside = { λ v. and v.number (and v.bill_to (and v.ship_to end)) };
+    ghost inside = { λ v. and v.label (and v.bill_to (and v.ship_to end)) };
 
     ghost short = { refl };
 
@@ -67,14 +67,14 @@ impl Record for Parcel {
     }
 
     fn field_names() -> &'static [&'static str] {
-        &["number", "bill_to", "ship_to"]
+        &["label", "bill_to", "ship_to"]
     }
 
     fn from_row(row: Self::Fields) -> Parcel {
-        from_row!(row => Parcel { number, bill_to, ship_to })
+        from_row!(row => Parcel { label, bill_to, ship_to })
     }
 
     fn row_to_sql(&self, alloc: Global, fields: &[Field], out: &mut BytesMut) -> Result<(), Fault> {
-        row!(self => number, bill_to, ship_to).to_fields(alloc, fields, out)
+        row!(self => label, bill_to, ship_to).to_fields(alloc, fields, out)
     }
 }

@@ -39,11 +39,11 @@ const PURCHASE: [&[u8]; 13] = [
     NUT,
 ];
 
-/// A parcel: 7, the address, and an array of it and of Oak 2, Ulm. The OID of `address` is 0x4002,
+/// A parcel: A, the address, and an array of it and of Oak 2, Ulm. The OID of `address` is 0x4002,
 /// and that of its arrays 0x4001.
 const PARCEL: [&[u8]; 10] = [
     b"\0\0\0\x03",
-    b"\0\0\0\x14\0\0\0\x08\0\0\0\0\0\0\0\x07",
+    b"\0\0\0\x19\0\0\0\x01A",
     b"\0\0\x40\x02\0\0\0\x1d",
     ADDRESS,
     b"\0\0\x40\x01\0\0\0\x55",
@@ -95,7 +95,7 @@ fn address_array(alloc: Global) -> Result<Type, Fault> {
 
 fn parcel_type(alloc: Global) -> Result<Type, Fault> {
     let fields = vec![in alloc;
-        field(alloc, "number", Type::INT8)?,
+        field(alloc, "label", Type::TEXT)?,
         field(alloc, "bill_to", address_type(alloc)?)?,
         field(alloc, "ship_to", address_array(alloc)?)?,
     ]?;
@@ -173,7 +173,7 @@ fn parcel(alloc: Global) -> Result<Composite<Parcel>, Fault> {
     let elm = address(alloc, "Elm 1", "Bonn")?;
     let oak = address(alloc, "Oak 2", "Ulm")?;
     Ok(Composite(Parcel {
-        number: 7,
+        label: String::from_str(alloc, "A")?,
         bill_to: address(alloc, "Elm 1", "Bonn")?,
         ship_to: vec![in alloc; elm, oak]?,
     }))
@@ -282,7 +282,7 @@ fn faults_of_nested_fields_are_those_of_the_record(rt: HostRuntime) -> Result<()
     refuses_part(alloc, 7, three, FIELD_COUNT)?;
     let number = b"\0\0\0\x02\0\0\0\x17\0\0\0\x05Oak 2\0\0\0\x19\0\0\0\x03Ulm";
     refuses_part(alloc, 9, number, FIELD_OID)?;
-    refuses_part(alloc, 1, b"\0\0\0\x14\xff\xff\xff\xff", WAS_NULL)
+    refuses_part(alloc, 1, b"\0\0\0\x19\xff\xff\xff\xff", WAS_NULL)
 }
 
 #[test]
