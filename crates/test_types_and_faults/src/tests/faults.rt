@@ -65,16 +65,8 @@ const FAULTS: [(u32, Fault, &str); 21] = [
         "invalid address length",
     ),
     (code::HOST_BITS, Fault::HostBits, "host bits are set"),
-    (
-        code::FIELD_COUNT,
-        Fault::FieldCount,
-        "invalid field count",
-    ),
-    (
-        code::FIELD_OID,
-        Fault::FieldOid,
-        "unexpected field type",
-    ),
+    (code::FIELD_COUNT, Fault::FieldCount, "invalid field count"),
+    (code::FIELD_OID, Fault::FieldOid, "unexpected field type"),
 ];
 
 fn have_texts(alloc: Global, rows: &[(u32, Fault, &str)]) -> Result<(), Fail> {
