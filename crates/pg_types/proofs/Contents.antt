@@ -7,9 +7,8 @@ use denote.Enum.Bare.{same_true, true_same}
 use Rattle.pg_types.specs.contracts.types.built_in.BuiltIn.{the_type}
 use Rattle.pg_types.specs.contracts.types.built_in.BuiltInPartialEq.TheImpl.{ghosts as rows}
 use Rattle.pg_types.specs.declared.types.built_in.BuiltIn.{BuiltIn as Row}
-use Rattle.pg_types.specs.declared.types.built_in.BuiltIn.TheVariants.{Bool}
+use Rattle.pg_types.specs.declared.types.built_in.BuiltIn.TheVariants as row
 use Rattle.pg_types.specs.BuiltInRows.{row_oid}
-use Rattle.pg_types.specs.Constants.{all_rows}
 use Rattle.pg_types.specs.Content.{Content, BuiltInType, UserDefinedType, KindContent, SimpleKind, EnumKind}
 use Rattle.pg_types.specs.Content.{PseudoKind, ArrayKind, RangeKind, MultirangeKind, DomainKind, CompositeKind}
 use Rattle.pg_types.specs.Content.{FieldsContent, NoFields, FieldAnd, same_type, same_kind_content, same_fields}
@@ -34,20 +33,31 @@ texts-same (x ∷ xs) (y ∷ ys) h =
     let e = bytes-same x y p.0 in
     let f = texts-same xs ys p.1 in cc
 
+-- each row
+abbrev all_rows : List Row
+all_rows =
+    row.Bool ∷ row.Bytea ∷ row.Char ∷ row.Name ∷ row.Int8 ∷ row.Int2 ∷ row.Int2Vector ∷ row.Int4 ∷ row.Text ∷
+    row.Oid ∷ row.OidVector ∷ row.Json ∷ row.JsonArray ∷ row.Cidr ∷ row.CidrArray ∷ row.Unknown ∷ row.Macaddr ∷
+    row.Inet ∷ row.BoolArray ∷ row.ByteaArray ∷ row.CharArray ∷ row.NameArray ∷ row.Int2Array ∷ row.Int4Array ∷
+    row.TextArray ∷ row.BpcharArray ∷ row.VarcharArray ∷ row.Int8Array ∷ row.OidArray ∷ row.MacaddrArray ∷
+    row.InetArray ∷ row.Bpchar ∷ row.Varchar ∷ row.Date ∷ row.Time ∷ row.Timestamp ∷ row.TimestampArray ∷
+    row.DateArray ∷ row.TimeArray ∷ row.Timestamptz ∷ row.TimestamptzArray ∷ row.Bit ∷ row.BitArray ∷ row.Varbit ∷
+    row.VarbitArray ∷ row.Uuid ∷ row.UuidArray ∷ row.PgLsn ∷ row.PgLsnArray ∷ row.Jsonb ∷ row.JsonbArray ∷ []
+
 -- the first of these rows that has the OID, or else the last argument
 row-of : List Row → ℕ → Row → Row
 row-of [] oid else_row = else_row
 row-of (r ∷ rs) oid else_row = if row_oid r == oid then r else row-of rs oid else_row
 
 -- each row is found by its OID
-row-found : (a : Row) → row-of all_rows (row_oid a) Bool ≡ a
+row-found : (a : Row) → row-of all_rows (row_oid a) row.Bool ≡ a
 unfolding row-of
-row-found Bool = refl
+row-found row.Bool = refl
 row-found a = refl
 
 -- the same of rows
 row-same : (a b : Row) → (row_oid a == row_oid b) ≡ true → a ≡ b
-row-same a b h = sym (row-found a) ∙ ap (λ oid. row-of all_rows oid Bool) (eqb-true (row_oid a) (row_oid b) h)
+row-same a b h = sym (row-found a) ∙ ap (λ oid. row-of all_rows oid row.Bool) (eqb-true (row_oid a) (row_oid b) h)
     ∙ row-found b
 
 -- two tests that hold together are one

@@ -1,153 +1,85 @@
--- The table of the built-in types, row by row.
+-- The table of the built-in types, as in the server's catalog pg_type.
 use Rattle.std.specs.Prelude.{ℕ, List, codes, Option, Some, None}
+use Prim.Native.String.{String as Literal}
 use Rattle.pg_types.specs.declared.types.built_in.BuiltIn.{BuiltIn as Row}
-use Rattle.pg_types.specs.declared.types.built_in.BuiltIn.TheVariants.{Bool, Bytea, Char, Name, Int8, Int2}
-use Rattle.pg_types.specs.declared.types.built_in.BuiltIn.TheVariants.{Int2Vector, Int4, Text, Oid, OidVector, Json}
-use Rattle.pg_types.specs.declared.types.built_in.BuiltIn.TheVariants.{JsonArray, Cidr, CidrArray, Unknown, Macaddr}
-use Rattle.pg_types.specs.declared.types.built_in.BuiltIn.TheVariants.{Inet, BoolArray, ByteaArray, CharArray}
-use Rattle.pg_types.specs.declared.types.built_in.BuiltIn.TheVariants.{NameArray, Int2Array, Int4Array, TextArray}
-use Rattle.pg_types.specs.declared.types.built_in.BuiltIn.TheVariants.{BpcharArray, VarcharArray, Int8Array}
-use Rattle.pg_types.specs.declared.types.built_in.BuiltIn.TheVariants.{OidArray, MacaddrArray, InetArray, Bpchar}
-use Rattle.pg_types.specs.declared.types.built_in.BuiltIn.TheVariants.{Varchar, Date, Time, Timestamp}
-use Rattle.pg_types.specs.declared.types.built_in.BuiltIn.TheVariants.{TimestampArray, DateArray, TimeArray}
-use Rattle.pg_types.specs.declared.types.built_in.BuiltIn.TheVariants.{Timestamptz, TimestamptzArray, Bit, BitArray}
-use Rattle.pg_types.specs.declared.types.built_in.BuiltIn.TheVariants.{Varbit, VarbitArray, Uuid, UuidArray, PgLsn}
-use Rattle.pg_types.specs.declared.types.built_in.BuiltIn.TheVariants.{PgLsnArray, Jsonb, JsonbArray}
+use Rattle.pg_types.specs.declared.types.built_in.BuiltIn.TheVariants as row
+
+-- what the catalog says of a type: its OID, its name without the schema, and of an array the type of its elements
+pub record CatalogRow : Type 0 where
+  pub oid : ℕ
+  pub name : List ℕ
+  pub element : Option Row
+
+-- a type that is no array
+abbrev pub simple : ℕ → Literal → CatalogRow
+simple oid name = record { oid = oid; name = codes name; element = None }
+
+-- an array of such elements
+abbrev pub array : ℕ → Literal → Row → CatalogRow
+array oid name element = record { oid = oid; name = codes name; element = Some element }
+
+-- the table, in the order of the OIDs
+abbrev pub catalog : Row → CatalogRow
+catalog row.Bool = simple 16 "bool"
+catalog row.Bytea = simple 17 "bytea"
+catalog row.Char = simple 18 "char"
+catalog row.Name = simple 19 "name"
+catalog row.Int8 = simple 20 "int8"
+catalog row.Int2 = simple 21 "int2"
+catalog row.Int2Vector = array 22 "int2vector" row.Int2
+catalog row.Int4 = simple 23 "int4"
+catalog row.Text = simple 25 "text"
+catalog row.Oid = simple 26 "oid"
+catalog row.OidVector = array 30 "oidvector" row.Oid
+catalog row.Json = simple 114 "json"
+catalog row.JsonArray = array 199 "_json" row.Json
+catalog row.Cidr = simple 650 "cidr"
+catalog row.CidrArray = array 651 "_cidr" row.Cidr
+catalog row.Unknown = simple 705 "unknown"
+catalog row.Macaddr = simple 829 "macaddr"
+catalog row.Inet = simple 869 "inet"
+catalog row.BoolArray = array 1000 "_bool" row.Bool
+catalog row.ByteaArray = array 1001 "_bytea" row.Bytea
+catalog row.CharArray = array 1002 "_char" row.Char
+catalog row.NameArray = array 1003 "_name" row.Name
+catalog row.Int2Array = array 1005 "_int2" row.Int2
+catalog row.Int4Array = array 1007 "_int4" row.Int4
+catalog row.TextArray = array 1009 "_text" row.Text
+catalog row.BpcharArray = array 1014 "_bpchar" row.Bpchar
+catalog row.VarcharArray = array 1015 "_varchar" row.Varchar
+catalog row.Int8Array = array 1016 "_int8" row.Int8
+catalog row.OidArray = array 1028 "_oid" row.Oid
+catalog row.MacaddrArray = array 1040 "_macaddr" row.Macaddr
+catalog row.InetArray = array 1041 "_inet" row.Inet
+catalog row.Bpchar = simple 1042 "bpchar"
+catalog row.Varchar = simple 1043 "varchar"
+catalog row.Date = simple 1082 "date"
+catalog row.Time = simple 1083 "time"
+catalog row.Timestamp = simple 1114 "timestamp"
+catalog row.TimestampArray = array 1115 "_timestamp" row.Timestamp
+catalog row.DateArray = array 1182 "_date" row.Date
+catalog row.TimeArray = array 1183 "_time" row.Time
+catalog row.Timestamptz = simple 1184 "timestamptz"
+catalog row.TimestamptzArray = array 1185 "_timestamptz" row.Timestamptz
+catalog row.Bit = simple 1560 "bit"
+catalog row.BitArray = array 1561 "_bit" row.Bit
+catalog row.Varbit = simple 1562 "varbit"
+catalog row.VarbitArray = array 1563 "_varbit" row.Varbit
+catalog row.Uuid = simple 2950 "uuid"
+catalog row.UuidArray = array 2951 "_uuid" row.Uuid
+catalog row.PgLsn = simple 3220 "pg_lsn"
+catalog row.PgLsnArray = array 3221 "_pg_lsn" row.PgLsn
+catalog row.Jsonb = simple 3802 "jsonb"
+catalog row.JsonbArray = array 3807 "_jsonb" row.Jsonb
 
 -- the OID of a row
 abbrev pub row_oid : Row → ℕ
-row_oid Bool = 16
-row_oid Bytea = 17
-row_oid Char = 18
-row_oid Name = 19
-row_oid Int8 = 20
-row_oid Int2 = 21
-row_oid Int2Vector = 22
-row_oid Int4 = 23
-row_oid Text = 25
-row_oid Oid = 26
-row_oid OidVector = 30
-row_oid Json = 114
-row_oid JsonArray = 199
-row_oid Cidr = 650
-row_oid CidrArray = 651
-row_oid Unknown = 705
-row_oid Macaddr = 829
-row_oid Inet = 869
-row_oid BoolArray = 1000
-row_oid ByteaArray = 1001
-row_oid CharArray = 1002
-row_oid NameArray = 1003
-row_oid Int2Array = 1005
-row_oid Int4Array = 1007
-row_oid TextArray = 1009
-row_oid BpcharArray = 1014
-row_oid VarcharArray = 1015
-row_oid Int8Array = 1016
-row_oid OidArray = 1028
-row_oid MacaddrArray = 1040
-row_oid InetArray = 1041
-row_oid Bpchar = 1042
-row_oid Varchar = 1043
-row_oid Date = 1082
-row_oid Time = 1083
-row_oid Timestamp = 1114
-row_oid TimestampArray = 1115
-row_oid DateArray = 1182
-row_oid TimeArray = 1183
-row_oid Timestamptz = 1184
-row_oid TimestamptzArray = 1185
-row_oid Bit = 1560
-row_oid BitArray = 1561
-row_oid Varbit = 1562
-row_oid VarbitArray = 1563
-row_oid Uuid = 2950
-row_oid UuidArray = 2951
-row_oid PgLsn = 3220
-row_oid PgLsnArray = 3221
-row_oid Jsonb = 3802
-row_oid JsonbArray = 3807
+row_oid r = (catalog r).oid
 
 -- the name of a row, without its schema
 abbrev pub row_name : Row → List ℕ
-row_name Bool = codes "bool"
-row_name Bytea = codes "bytea"
-row_name Char = codes "char"
-row_name Name = codes "name"
-row_name Int8 = codes "int8"
-row_name Int2 = codes "int2"
-row_name Int2Vector = codes "int2vector"
-row_name Int4 = codes "int4"
-row_name Text = codes "text"
-row_name Oid = codes "oid"
-row_name OidVector = codes "oidvector"
-row_name Json = codes "json"
-row_name JsonArray = codes "_json"
-row_name Cidr = codes "cidr"
-row_name CidrArray = codes "_cidr"
-row_name Unknown = codes "unknown"
-row_name Macaddr = codes "macaddr"
-row_name Inet = codes "inet"
-row_name BoolArray = codes "_bool"
-row_name ByteaArray = codes "_bytea"
-row_name CharArray = codes "_char"
-row_name NameArray = codes "_name"
-row_name Int2Array = codes "_int2"
-row_name Int4Array = codes "_int4"
-row_name TextArray = codes "_text"
-row_name BpcharArray = codes "_bpchar"
-row_name VarcharArray = codes "_varchar"
-row_name Int8Array = codes "_int8"
-row_name OidArray = codes "_oid"
-row_name MacaddrArray = codes "_macaddr"
-row_name InetArray = codes "_inet"
-row_name Bpchar = codes "bpchar"
-row_name Varchar = codes "varchar"
-row_name Date = codes "date"
-row_name Time = codes "time"
-row_name Timestamp = codes "timestamp"
-row_name TimestampArray = codes "_timestamp"
-row_name DateArray = codes "_date"
-row_name TimeArray = codes "_time"
-row_name Timestamptz = codes "timestamptz"
-row_name TimestamptzArray = codes "_timestamptz"
-row_name Bit = codes "bit"
-row_name BitArray = codes "_bit"
-row_name Varbit = codes "varbit"
-row_name VarbitArray = codes "_varbit"
-row_name Uuid = codes "uuid"
-row_name UuidArray = codes "_uuid"
-row_name PgLsn = codes "pg_lsn"
-row_name PgLsnArray = codes "_pg_lsn"
-row_name Jsonb = codes "jsonb"
-row_name JsonbArray = codes "_jsonb"
+row_name r = (catalog r).name
 
 -- the row that an array type holds
 abbrev pub row_element : Row → Option Row
-row_element Int2Vector = Some Int2
-row_element OidVector = Some Oid
-row_element JsonArray = Some Json
-row_element CidrArray = Some Cidr
-row_element BoolArray = Some Bool
-row_element ByteaArray = Some Bytea
-row_element CharArray = Some Char
-row_element NameArray = Some Name
-row_element Int2Array = Some Int2
-row_element Int4Array = Some Int4
-row_element TextArray = Some Text
-row_element BpcharArray = Some Bpchar
-row_element VarcharArray = Some Varchar
-row_element Int8Array = Some Int8
-row_element OidArray = Some Oid
-row_element MacaddrArray = Some Macaddr
-row_element InetArray = Some Inet
-row_element TimestampArray = Some Timestamp
-row_element DateArray = Some Date
-row_element TimeArray = Some Time
-row_element TimestamptzArray = Some Timestamptz
-row_element BitArray = Some Bit
-row_element VarbitArray = Some Varbit
-row_element UuidArray = Some Uuid
-row_element PgLsnArray = Some PgLsn
-row_element JsonbArray = Some Jsonb
-row_element _ = None
+row_element r = (catalog r).element

@@ -1,6 +1,5 @@
 -- Types and faults.
 pub mod BuiltInRows
-pub mod Constants
 pub mod Content
 pub mod Digest
 pub mod FaultTexts

@@ -1,8 +1,7 @@
 //! Postgres types: the built-in ones and those that a client makes.
-ghost use Rattle.std.specs.Prelude.{◌≡◌, ◌≢◌, Some, IfSome, IsNone, IsOk, IfOk, IfErr, string_bytes};
+ghost use Rattle.std.specs.Prelude.{◌≡◌, Some, IsOk, IfOk, IfErr, string_bytes};
 ghost use Rattle.pg_types.specs.declared.fault.Fault.TheVariants.{Memory};
-ghost use Rattle.pg_types.specs.BuiltInRows.{row_oid};
-ghost use Rattle.pg_types.specs.Content.{BuiltInType, UserDefinedType, IsBuiltIn, content, kind_content};
+ghost use Rattle.pg_types.specs.Content.{UserDefinedType, IsBuiltIn, content, kind_content};
 ghost use Rattle.pg_types.specs.Content.{oid_of, name_of, same_type, schema_of, kind_of, type_text};
 ghost use Rattle.pg_types.specs.KindRefs.{kind_ref_view};
 
@@ -73,17 +72,6 @@ impl PgType {
         )?;
         Ok(PgType {
             inner: Inner::Other(other),
-        })
-    }
-
-    /// The built-in type of this OID, or `None` where no built-in type has it.
-    pub fn from_oid(oid: Oid) -> Option<PgType>
-        ensures some { IfSome result (λ t. (row : _) × (content t ≡ BuiltInType row) × (row_oid row ≡ oid)) }
-        ensures none { IsNone result → (row : _) → row_oid row ≢ oid }
-    {
-        let row = BuiltIn::from_oid(oid)?;
-        Some(PgType {
-            inner: Inner::BuiltIn(row),
         })
     }
 

@@ -1,8 +1,72 @@
-//! The rows of the table of built-in types.
-ghost use Rattle.std.specs.Prelude.{◌≡◌, ◌≢◌, IfSome, IsNone};
+//! The table of built-in types.
+ghost use Rattle.std.specs.Prelude.{◌≡◌};
 ghost use Rattle.pg_types.specs.BuiltInRows.{row_oid, row_name, row_element};
 
 use super::Oid;
+
+/// The table of the built-in types, as in the server's catalog pg_type and in the order of its
+/// OIDs: of each its constant of `PgType`, its member of `BuiltIn`, its OID, its name and, of an
+/// array, the member of its elements. `$rows` is the macro that is called with all rows, after the
+/// arguments.
+macro_rules! built_in_types {
+    ($rows:ident $args:tt) => {
+        $rows! { $args
+            BOOL Bool 16 "bool",
+            BYTEA Bytea 17 "bytea",
+            CHAR Char 18 "char",
+            NAME Name 19 "name",
+            INT8 Int8 20 "int8",
+            INT2 Int2 21 "int2",
+            INT2_VECTOR Int2Vector 22 "int2vector" [Int2],
+            INT4 Int4 23 "int4",
+            TEXT Text 25 "text",
+            OID Oid 26 "oid",
+            OID_VECTOR OidVector 30 "oidvector" [Oid],
+            JSON Json 114 "json",
+            JSON_ARRAY JsonArray 199 "_json" [Json],
+            CIDR Cidr 650 "cidr",
+            CIDR_ARRAY CidrArray 651 "_cidr" [Cidr],
+            UNKNOWN Unknown 705 "unknown",
+            MACADDR Macaddr 829 "macaddr",
+            INET Inet 869 "inet",
+            BOOL_ARRAY BoolArray 1000 "_bool" [Bool],
+            BYTEA_ARRAY ByteaArray 1001 "_bytea" [Bytea],
+            CHAR_ARRAY CharArray 1002 "_char" [Char],
+            NAME_ARRAY NameArray 1003 "_name" [Name],
+            INT2_ARRAY Int2Array 1005 "_int2" [Int2],
+            INT4_ARRAY Int4Array 1007 "_int4" [Int4],
+            TEXT_ARRAY TextArray 1009 "_text" [Text],
+            BPCHAR_ARRAY BpcharArray 1014 "_bpchar" [Bpchar],
+            VARCHAR_ARRAY VarcharArray 1015 "_varchar" [Varchar],
+            INT8_ARRAY Int8Array 1016 "_int8" [Int8],
+            OID_ARRAY OidArray 1028 "_oid" [Oid],
+            MACADDR_ARRAY MacaddrArray 1040 "_macaddr" [Macaddr],
+            INET_ARRAY InetArray 1041 "_inet" [Inet],
+            BPCHAR Bpchar 1042 "bpchar",
+            VARCHAR Varchar 1043 "varchar",
+            DATE Date 1082 "date",
+            TIME Time 1083 "time",
+            TIMESTAMP Timestamp 1114 "timestamp",
+            TIMESTAMP_ARRAY TimestampArray 1115 "_timestamp" [Timestamp],
+            DATE_ARRAY DateArray 1182 "_date" [Date],
+            TIME_ARRAY TimeArray 1183 "_time" [Time],
+            TIMESTAMPTZ Timestamptz 1184 "timestamptz",
+            TIMESTAMPTZ_ARRAY TimestamptzArray 1185 "_timestamptz" [Timestamptz],
+            BIT Bit 1560 "bit",
+            BIT_ARRAY BitArray 1561 "_bit" [Bit],
+            VARBIT Varbit 1562 "varbit",
+            VARBIT_ARRAY VarbitArray 1563 "_varbit" [Varbit],
+            UUID Uuid 2950 "uuid",
+            UUID_ARRAY UuidArray 2951 "_uuid" [Uuid],
+            PG_LSN PgLsn 3220 "pg_lsn",
+            PG_LSN_ARRAY PgLsnArray 3221 "_pg_lsn" [PgLsn],
+            JSONB Jsonb 3802 "jsonb",
+            JSONB_ARRAY JsonbArray 3807 "_jsonb" [Jsonb],
+        }
+    };
+}
+
+pub(super) use built_in_types;
 
 // A row of the table of built-in types.
 #[derive(Clone, Copy, Debug, PartialEq, Eq, Hash)]
@@ -60,216 +124,51 @@ pub(super) enum BuiltIn {
     JsonbArray,
 }
 
-impl BuiltIn {
-    // The row of this OID.
-    pub(super) fn from_oid(oid: Oid) -> Option<BuiltIn>
-        ensures some { IfSome result (λ row. row_oid row ≡ oid) }
-        ensures none { IsNone result → (row : _) → row_oid row ≢ oid }
-    {
-        match oid {
-            16 => Some(BuiltIn::Bool),
-            17 => Some(BuiltIn::Bytea),
-            18 => Some(BuiltIn::Char),
-            19 => Some(BuiltIn::Name),
-            20 => Some(BuiltIn::Int8),
-            21 => Some(BuiltIn::Int2),
-            22 => Some(BuiltIn::Int2Vector),
-            23 => Some(BuiltIn::Int4),
-            25 => Some(BuiltIn::Text),
-            26 => Some(BuiltIn::Oid),
-            30 => Some(BuiltIn::OidVector),
-            114 => Some(BuiltIn::Json),
-            199 => Some(BuiltIn::JsonArray),
-            650 => Some(BuiltIn::Cidr),
-            651 => Some(BuiltIn::CidrArray),
-            705 => Some(BuiltIn::Unknown),
-            829 => Some(BuiltIn::Macaddr),
-            869 => Some(BuiltIn::Inet),
-            1000 => Some(BuiltIn::BoolArray),
-            1001 => Some(BuiltIn::ByteaArray),
-            1002 => Some(BuiltIn::CharArray),
-            1003 => Some(BuiltIn::NameArray),
-            1005 => Some(BuiltIn::Int2Array),
-            1007 => Some(BuiltIn::Int4Array),
-            1009 => Some(BuiltIn::TextArray),
-            1014 => Some(BuiltIn::BpcharArray),
-            1015 => Some(BuiltIn::VarcharArray),
-            1016 => Some(BuiltIn::Int8Array),
-            1028 => Some(BuiltIn::OidArray),
-            1040 => Some(BuiltIn::MacaddrArray),
-            1041 => Some(BuiltIn::InetArray),
-            1042 => Some(BuiltIn::Bpchar),
-            1043 => Some(BuiltIn::Varchar),
-            1082 => Some(BuiltIn::Date),
-            1083 => Some(BuiltIn::Time),
-            1114 => Some(BuiltIn::Timestamp),
-            1115 => Some(BuiltIn::TimestampArray),
-            1182 => Some(BuiltIn::DateArray),
-            1183 => Some(BuiltIn::TimeArray),
-            1184 => Some(BuiltIn::Timestamptz),
-            1185 => Some(BuiltIn::TimestamptzArray),
-            1560 => Some(BuiltIn::Bit),
-            1561 => Some(BuiltIn::BitArray),
-            1562 => Some(BuiltIn::Varbit),
-            1563 => Some(BuiltIn::VarbitArray),
-            2950 => Some(BuiltIn::Uuid),
-            2951 => Some(BuiltIn::UuidArray),
-            3220 => Some(BuiltIn::PgLsn),
-            3221 => Some(BuiltIn::PgLsnArray),
-            3802 => Some(BuiltIn::Jsonb),
-            3807 => Some(BuiltIn::JsonbArray),
+// The OID of a row.
+macro_rules! oid_of {
+    (($row:expr) $($constant:ident $member:ident $oid:literal $name:literal $([$element:ident])?,)*) => {
+        match $row {
+            $(BuiltIn::$member => $oid,)*
+        }
+    };
+}
+
+// The name of a row.
+macro_rules! name_of {
+    (($row:expr) $($constant:ident $member:ident $oid:literal $name:literal $([$element:ident])?,)*) => {
+        match $row {
+            $(BuiltIn::$member => $name,)*
+        }
+    };
+}
+
+// The row of the elements of a row.
+macro_rules! element_of {
+    (($row:expr) $($constant:ident $member:ident $oid:literal $name:literal $([$element:ident])?,)*) => {
+        match $row {
+            $($(BuiltIn::$member => Some(BuiltIn::$element),)?)*
             _ => None,
         }
-    }
+    };
+}
 
+impl BuiltIn {
     pub(super) fn oid(self) -> Oid
         ensures { result ≡ row_oid self }
     {
-        match self {
-            BuiltIn::Bool => 16,
-            BuiltIn::Bytea => 17,
-            BuiltIn::Char => 18,
-            BuiltIn::Name => 19,
-            BuiltIn::Int8 => 20,
-            BuiltIn::Int2 => 21,
-            BuiltIn::Int2Vector => 22,
-            BuiltIn::Int4 => 23,
-            BuiltIn::Text => 25,
-            BuiltIn::Oid => 26,
-            BuiltIn::OidVector => 30,
-            BuiltIn::Json => 114,
-            BuiltIn::JsonArray => 199,
-            BuiltIn::Cidr => 650,
-            BuiltIn::CidrArray => 651,
-            BuiltIn::Unknown => 705,
-            BuiltIn::Macaddr => 829,
-            BuiltIn::Inet => 869,
-            BuiltIn::BoolArray => 1000,
-            BuiltIn::ByteaArray => 1001,
-            BuiltIn::CharArray => 1002,
-            BuiltIn::NameArray => 1003,
-            BuiltIn::Int2Array => 1005,
-            BuiltIn::Int4Array => 1007,
-            BuiltIn::TextArray => 1009,
-            BuiltIn::BpcharArray => 1014,
-            BuiltIn::VarcharArray => 1015,
-            BuiltIn::Int8Array => 1016,
-            BuiltIn::OidArray => 1028,
-            BuiltIn::MacaddrArray => 1040,
-            BuiltIn::InetArray => 1041,
-            BuiltIn::Bpchar => 1042,
-            BuiltIn::Varchar => 1043,
-            BuiltIn::Date => 1082,
-            BuiltIn::Time => 1083,
-            BuiltIn::Timestamp => 1114,
-            BuiltIn::TimestampArray => 1115,
-            BuiltIn::DateArray => 1182,
-            BuiltIn::TimeArray => 1183,
-            BuiltIn::Timestamptz => 1184,
-            BuiltIn::TimestamptzArray => 1185,
-            BuiltIn::Bit => 1560,
-            BuiltIn::BitArray => 1561,
-            BuiltIn::Varbit => 1562,
-            BuiltIn::VarbitArray => 1563,
-            BuiltIn::Uuid => 2950,
-            BuiltIn::UuidArray => 2951,
-            BuiltIn::PgLsn => 3220,
-            BuiltIn::PgLsnArray => 3221,
-            BuiltIn::Jsonb => 3802,
-            BuiltIn::JsonbArray => 3807,
-        }
+        built_in_types!(oid_of(self))
     }
 
     pub(super) fn name(self) -> &'static str
         ensures { result.now ≡ row_name self }
     {
-        match self {
-            BuiltIn::Bool => "bool",
-            BuiltIn::Bytea => "bytea",
-            BuiltIn::Char => "char",
-            BuiltIn::Name => "name",
-            BuiltIn::Int8 => "int8",
-            BuiltIn::Int2 => "int2",
-            BuiltIn::Int2Vector => "int2vector",
-            BuiltIn::Int4 => "int4",
-            BuiltIn::Text => "text",
-            BuiltIn::Oid => "oid",
-            BuiltIn::OidVector => "oidvector",
-            BuiltIn::Json => "json",
-            BuiltIn::JsonArray => "_json",
-            BuiltIn::Cidr => "cidr",
-            BuiltIn::CidrArray => "_cidr",
-            BuiltIn::Unknown => "unknown",
-            BuiltIn::Macaddr => "macaddr",
-            BuiltIn::Inet => "inet",
-            BuiltIn::BoolArray => "_bool",
-            BuiltIn::ByteaArray => "_bytea",
-            BuiltIn::CharArray => "_char",
-            BuiltIn::NameArray => "_name",
-            BuiltIn::Int2Array => "_int2",
-            BuiltIn::Int4Array => "_int4",
-            BuiltIn::TextArray => "_text",
-            BuiltIn::BpcharArray => "_bpchar",
-            BuiltIn::VarcharArray => "_varchar",
-            BuiltIn::Int8Array => "_int8",
-            BuiltIn::OidArray => "_oid",
-            BuiltIn::MacaddrArray => "_macaddr",
-            BuiltIn::InetArray => "_inet",
-            BuiltIn::Bpchar => "bpchar",
-            BuiltIn::Varchar => "varchar",
-            BuiltIn::Date => "date",
-            BuiltIn::Time => "time",
-            BuiltIn::Timestamp => "timestamp",
-            BuiltIn::TimestampArray => "_timestamp",
-            BuiltIn::DateArray => "_date",
-            BuiltIn::TimeArray => "_time",
-            BuiltIn::Timestamptz => "timestamptz",
-            BuiltIn::TimestamptzArray => "_timestamptz",
-            BuiltIn::Bit => "bit",
-            BuiltIn::BitArray => "_bit",
-            BuiltIn::Varbit => "varbit",
-            BuiltIn::VarbitArray => "_varbit",
-            BuiltIn::Uuid => "uuid",
-            BuiltIn::UuidArray => "_uuid",
-            BuiltIn::PgLsn => "pg_lsn",
-            BuiltIn::PgLsnArray => "_pg_lsn",
-            BuiltIn::Jsonb => "jsonb",
-            BuiltIn::JsonbArray => "_jsonb",
-        }
+        built_in_types!(name_of(self))
     }
 
     // The element type of an array type.
     pub(super) fn element(self) -> Option<BuiltIn>
         ensures { result ≡ row_element self }
     {
-        match self {
-            BuiltIn::Int2Vector => Some(BuiltIn::Int2),
-            BuiltIn::OidVector => Some(BuiltIn::Oid),
-            BuiltIn::JsonArray => Some(BuiltIn::Json),
-            BuiltIn::CidrArray => Some(BuiltIn::Cidr),
-            BuiltIn::BoolArray => Some(BuiltIn::Bool),
-            BuiltIn::ByteaArray => Some(BuiltIn::Bytea),
-            BuiltIn::CharArray => Some(BuiltIn::Char),
-            BuiltIn::NameArray => Some(BuiltIn::Name),
-            BuiltIn::Int2Array => Some(BuiltIn::Int2),
-            BuiltIn::Int4Array => Some(BuiltIn::Int4),
-            BuiltIn::TextArray => Some(BuiltIn::Text),
-            BuiltIn::BpcharArray => Some(BuiltIn::Bpchar),
-            BuiltIn::VarcharArray => Some(BuiltIn::Varchar),
-            BuiltIn::Int8Array => Some(BuiltIn::Int8),
-            BuiltIn::OidArray => Some(BuiltIn::Oid),
-            BuiltIn::MacaddrArray => Some(BuiltIn::Macaddr),
-            BuiltIn::InetArray => Some(BuiltIn::Inet),
-            BuiltIn::TimestampArray => Some(BuiltIn::Timestamp),
-            BuiltIn::DateArray => Some(BuiltIn::Date),
-            BuiltIn::TimeArray => Some(BuiltIn::Time),
-            BuiltIn::TimestamptzArray => Some(BuiltIn::Timestamptz),
-            BuiltIn::BitArray => Some(BuiltIn::Bit),
-            BuiltIn::VarbitArray => Some(BuiltIn::Varbit),
-            BuiltIn::UuidArray => Some(BuiltIn::Uuid),
-            BuiltIn::PgLsnArray => Some(BuiltIn::PgLsn),
-            BuiltIn::JsonbArray => Some(BuiltIn::Jsonb),
-            _ => None,
-        }
+        built_in_types!(element_of(self))
     }
 }

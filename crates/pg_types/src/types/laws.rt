@@ -1,7 +1,6 @@
-//! What equality, hashing and the constants mean, each as a call whose contract says it.
-ghost use Rattle.std.specs.Prelude.{◌≡◌, ◌↔◌, IsTrue, map};
-ghost use Rattle.pg_types.specs.Constants.{array_rows, base_rows};
-ghost use Rattle.pg_types.specs.Content.{BuiltInType, SameField, content, kind_content};
+//! What equality and hashing mean, each as a call whose contract says it.
+ghost use Rattle.std.specs.Prelude.{◌≡◌, ◌↔◌, IsTrue};
+ghost use Rattle.pg_types.specs.Content.{SameField, content, kind_content};
 ghost use Rattle.pg_types.specs.Digest.{digest};
 ghost use Rattle.pg_types.specs.KindRefs.{kind_ref_view};
 
@@ -78,74 +77,6 @@ pub fn kind_refs_hash_alike(v: &KindRef<'_>, w: &KindRef<'_>) -> bool
         (⟦<KindRef<'static> as Hash>⟧.hash_input w.now)) }
 {
     hash_of(v) == hash_of(w)
-}
-
-/// The constants of the types that are no arrays, in the order of their OIDs: each is the row of
-/// its name.
-pub fn base_types() -> [PgType; 25]
-    ensures { map content result ≡ map BuiltInType base_rows }
-{
-    [
-        PgType::BOOL,
-        PgType::BYTEA,
-        PgType::CHAR,
-        PgType::NAME,
-        PgType::INT8,
-        PgType::INT2,
-        PgType::INT4,
-        PgType::TEXT,
-        PgType::OID,
-        PgType::JSON,
-        PgType::CIDR,
-        PgType::UNKNOWN,
-        PgType::MACADDR,
-        PgType::INET,
-        PgType::BPCHAR,
-        PgType::VARCHAR,
-        PgType::DATE,
-        PgType::TIME,
-        PgType::TIMESTAMP,
-        PgType::TIMESTAMPTZ,
-        PgType::BIT,
-        PgType::VARBIT,
-        PgType::UUID,
-        PgType::PG_LSN,
-        PgType::JSONB,
-    ]
-}
-
-/// The constants of the array types, in the order of their OIDs: each is the row of its name.
-pub fn array_types() -> [PgType; 26]
-    ensures { map content result ≡ map BuiltInType array_rows }
-{
-    [
-        PgType::INT2_VECTOR,
-        PgType::OID_VECTOR,
-        PgType::JSON_ARRAY,
-        PgType::CIDR_ARRAY,
-        PgType::BOOL_ARRAY,
-        PgType::BYTEA_ARRAY,
-        PgType::CHAR_ARRAY,
-        PgType::NAME_ARRAY,
-        PgType::INT2_ARRAY,
-        PgType::INT4_ARRAY,
-        PgType::TEXT_ARRAY,
-        PgType::BPCHAR_ARRAY,
-        PgType::VARCHAR_ARRAY,
-        PgType::INT8_ARRAY,
-        PgType::OID_ARRAY,
-        PgType::MACADDR_ARRAY,
-        PgType::INET_ARRAY,
-        PgType::TIMESTAMP_ARRAY,
-        PgType::DATE_ARRAY,
-        PgType::TIME_ARRAY,
-        PgType::TIMESTAMPTZ_ARRAY,
-        PgType::BIT_ARRAY,
-        PgType::VARBIT_ARRAY,
-        PgType::UUID_ARRAY,
-        PgType::PG_LSN_ARRAY,
-        PgType::JSONB_ARRAY,
-    ]
 }
 
 fn hash_of<T: Hash>(value: &T) -> u64
