@@ -64,6 +64,7 @@ FORMATS = {
     "timestamp": all_short("0002b58341685e40", DECODE),
     "timestamp_inf": all_short("8000000000000000", DECODE),
     "timestamptz": all_short("fffca2fec4c81fff", DECODE),
+    "interval": all_short("00000000002dc6c00000000200000001"),
     "unix": all_short("7fffff5bb3b29fff"),
     "unix_inf": all_short("7fffffffffffffff"),
     "int2vector": all_short("0000000100000000000000150000000200000000000000020001000000020002", *VECTOR,

@@ -21,6 +21,7 @@ pub mod FrameLaws
 pub mod HostBits
 pub mod HstoreLaws
 pub mod HstoreLengths
+pub mod IntervalLaws
 pub mod ItemSteps
 pub mod JsonLaws
 pub mod JsonLemmas

@@ -10,6 +10,7 @@ pub mod Counts
 pub mod FixedBytes
 pub mod Formats
 pub mod Hstore
+pub mod Interval
 pub mod Json
 pub mod Lsn
 pub mod Network

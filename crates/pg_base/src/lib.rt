@@ -7,6 +7,7 @@
 pub mod acceptance;
 pub mod bits;
 pub mod epoch;
+pub mod interval;
 pub mod json;
 pub mod lsn;
 pub mod network;

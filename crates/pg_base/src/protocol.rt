@@ -12,6 +12,7 @@ mod civil;
 mod counts;
 mod frames;
 mod hstore;
+mod interval;
 pub mod laws;
 mod lsn;
 mod network;
@@ -27,6 +28,7 @@ pub use bytea::{bytea_from_sql, bytea_to_sql};
 pub use civil::{date_from_sql, date_to_sql, time_from_sql, time_to_sql};
 pub use frames::{MAX_LEN, frame_to_sql, set_number};
 pub use hstore::{HstoreEntries, hstore_from_sql, hstore_to_sql};
+pub use interval::{interval_from_sql, interval_to_sql};
 pub use lsn::{lsn_from_sql, lsn_to_sql};
 pub use network::{Inet, inet_from_sql, inet_to_sql, macaddr_from_sql, macaddr_to_sql};
 pub use numbers::{

@@ -16,6 +16,7 @@ ghost use Rattle.pg_types.specs.Faults.{Outcome};
 use crate::from_sql::{FromSql, from_sql_nullable};
 use jiff::civil;
 use pg_base::bits::BitVec;
+use pg_base::interval::Interval;
 use pg_base::lsn::PgLsn;
 use pg_base::network::{IpCidr, IpInet, MacAddress};
 use pg_base::special::{Date, Timestamp};
@@ -52,6 +53,7 @@ pub fn types_read_without_memory() {
     never_answers_memory::<&[u8]>();
     never_answers_memory::<PgLsn>();
     never_answers_memory::<UnixTime>();
+    never_answers_memory::<Interval>();
     never_answers_memory::<civil::Date>();
     never_answers_memory::<civil::Time>();
     never_answers_memory::<civil::DateTime>();

@@ -11,6 +11,7 @@ mod bytea;
 mod civil;
 pub mod from_sql;
 mod hstore;
+mod interval;
 mod json;
 pub mod laws;
 mod lsn;

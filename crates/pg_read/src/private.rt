@@ -78,7 +78,7 @@ fn holds_bytes(bytes: &[u8])
 /// it stands after the cell whose value could not be read or kept. Otherwise it stands after the
 /// last cell.
 ///
-/// Frames determine their cells, and in front of other bytes they do where the number of cells is
+/// Frames determine their cells, and before other bytes they do where the number of cells is
 /// known; from the frames of `n` cells that each give a value these values are read.
 #[tactic(auto, using(pg_base::proofs::CellLaws::frames_single, pg_base::proofs::CellLaws::frame_prefixes_single))]
 pub fn read_values<'a, T: FromSql<'a>>(

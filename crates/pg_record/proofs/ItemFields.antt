@@ -1,7 +1,9 @@
 -- The three fields of an inventory item.
-use Rattle.std.proofs.Common.{◌≡◌, ◌&&◌, IsTrue, List, [], ◌∷◌, length, get_or, refl, ◌∙◌, Bool, true, false, ℕ, ℤ, Option}
+use Rattle.std.proofs.Common.{◌≡◌, ◌&&◌, IsTrue, List, [], ◌∷◌, length, get_or, refl, ◌∙◌, Bool, true, false, ℕ, ℤ}
+use Rattle.std.proofs.Common.{Option}
 use Rattle.std.proofs.Common.{Some, None, Ok, FitsSigned, w32}
-use Rattle.pg_types.specs.Content.{Content, FieldsContent, NoFields, FieldAnd, content, field_type, fields_content, is_row}
+use Rattle.pg_types.specs.Content.{Content, FieldsContent, NoFields, FieldAnd, content, field_type, fields_content}
+use Rattle.pg_types.specs.Content.{is_row}
 use Rattle.pg_types.specs.declared.types.built_in.BuiltIn.TheVariants.{Int4, Int8}
 use Rattle.pg_types.specs.declared.types.kind.Field.{Field}
 use Rattle.pg_base.specs.Cells.{Cell}

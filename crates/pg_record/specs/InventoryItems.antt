@@ -20,7 +20,8 @@ use Rattle.pg_write.specs.OptionWriting.{wire_option}
 use Rattle.postgres_types.specs.CompositeFields.{BackAnd, BackEnd, ReadsAnd, ReadsEnd, SameAnd, accepts_and, and}
 use Rattle.postgres_types.specs.CompositeFields.{and_equivalence, and_lawful, and_single, bytes_and, end}
 use Rattle.postgres_types.specs.CompositeFields.{no_fields_equivalence, no_fields_lawful, no_fields_single, no_fields}
-use Rattle.postgres_types.specs.Composites.{accepts_record, composite_lawful, composite_single, reads_record, record_cell}
+use Rattle.postgres_types.specs.Composites.{accepts_record, composite_lawful, composite_single, reads_record}
+use Rattle.postgres_types.specs.Composites.{record_cell}
 use Rattle.postgres_types.specs.Conversion.{int4_lawful, int4_single, int8_lawful, int8_single}
 use Rattle.postgres_types.specs.FormatBackLaws.{text_lawful}
 use Rattle.postgres_types.specs.OptionBackLaws.{option_lawful}

@@ -41,8 +41,9 @@ all_rows =
     row.Inet ∷ row.BoolArray ∷ row.ByteaArray ∷ row.CharArray ∷ row.NameArray ∷ row.Int2Array ∷ row.Int4Array ∷
     row.TextArray ∷ row.BpcharArray ∷ row.VarcharArray ∷ row.Int8Array ∷ row.OidArray ∷ row.MacaddrArray ∷
     row.InetArray ∷ row.Bpchar ∷ row.Varchar ∷ row.Date ∷ row.Time ∷ row.Timestamp ∷ row.TimestampArray ∷
-    row.DateArray ∷ row.TimeArray ∷ row.Timestamptz ∷ row.TimestamptzArray ∷ row.Bit ∷ row.BitArray ∷ row.Varbit ∷
-    row.VarbitArray ∷ row.Uuid ∷ row.UuidArray ∷ row.PgLsn ∷ row.PgLsnArray ∷ row.Jsonb ∷ row.JsonbArray ∷ []
+    row.DateArray ∷ row.TimeArray ∷ row.Timestamptz ∷ row.TimestamptzArray ∷ row.Interval ∷ row.IntervalArray ∷
+    row.Bit ∷ row.BitArray ∷ row.Varbit ∷ row.VarbitArray ∷ row.Uuid ∷ row.UuidArray ∷ row.PgLsn ∷ row.PgLsnArray ∷
+    row.Jsonb ∷ row.JsonbArray ∷ []
 
 -- the first of these rows that has the OID, or else the last argument
 row-of : List Row → ℕ → Row → Row

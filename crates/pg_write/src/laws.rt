@@ -4,6 +4,7 @@ ghost use Rattle.std.specs.Prelude.{IsTrue};
 use crate::to_sql::ToSql;
 use jiff::civil;
 use pg_base::bits::BitVec;
+use pg_base::interval::Interval;
 use pg_base::lsn::PgLsn;
 use pg_base::network::{IpCidr, IpInet, MacAddress};
 use pg_base::special::{Date, Timestamp};
@@ -45,6 +46,7 @@ pub fn types_that_keep_the_room_rule() {
     keeps_room_rule::<CowSlice<u8>>();
     keeps_room_rule::<PgLsn>();
     keeps_room_rule::<UnixTime>();
+    keeps_room_rule::<Interval>();
     keeps_room_rule::<civil::Date>();
     keeps_room_rule::<civil::Time>();
     keeps_room_rule::<civil::DateTime>();

@@ -10,6 +10,7 @@ mod boxes;
 mod bytea;
 mod civil;
 mod hstore;
+mod interval;
 mod json;
 pub mod laws;
 mod lsn;

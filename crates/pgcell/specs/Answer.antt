@@ -1,7 +1,7 @@
 -- What a line is answered.
 use Rattle.std.specs.Prelude.{◌≡◌, ◌≢◌, ℕ, ◌++◌, List, Option, Some, None, ◌⊎◌, codes}
 use Rattle.postgres_types.specs.BuiltInRows.{row_oid}
-use Rattle.postgres_types.specs.Content.{BuiltInType, type_text}
+use Rattle.postgres_types.specs.Content.{Content, IsBuiltIn, oid_of, type_text}
 use Rattle.postgres_types.specs.Lsn.{lsn_of, lsn_text}
 use Rattle.pgcell_norm.specs.Norm.{AnswersNorm}
 use Rattle.pgcell.specs.Request.{Asked, norm, type_of, lsn, request_of}
@@ -9,7 +9,7 @@ use Rattle.pgcell.specs.Request.{Asked, norm, type_of, lsn, request_of}
 -- the text of the built-in type of this OID; `none` where no built-in type has it
 abbrev pub AnswersType : ℕ → List ℕ → Type 0
 AnswersType oid text =
-    ((row : _) × (row_oid row ≡ oid) × (text ≡ codes "ok " ++ type_text (BuiltInType row)))
+    ((ty : Content) × IsBuiltIn ty × (oid_of ty ≡ oid) × (text ≡ codes "ok " ++ type_text ty))
     ⊎ (((row : _) → row_oid row ≢ oid) × (text ≡ codes "none"))
 
 -- the text of a log position; `bad lsn` where the text names none

@@ -12,33 +12,14 @@ use Rattle.postgres_types.specs.Bytea.{ReadsBytes, wire_bytes}
 use Rattle.postgres_types.specs.Civil.{ReadsDate, ReadsDateTime, ReadsInstant, ReadsTime, wire_date, wire_datetime}
 use Rattle.postgres_types.specs.Civil.{wire_instant, wire_time}
 use Rattle.postgres_types.specs.Hstore.{ReadsHstore, owned_entry, wire_hstore}
+use Rattle.postgres_types.specs.Interval.{ReadsInterval, wire_interval}
 use Rattle.postgres_types.specs.FixedBytes.{ReadsFixedBytes, wire_fixed_bytes}
 use Rattle.postgres_types.specs.Timestamps.{ReadsTimestamp, nanos_of, wire_timestamp}
 use Rattle.postgres_types.specs.Network.{ReadsAddress, ReadsCidr, ReadsInet, wire_address, wire_cidr, wire_inet}
 use Rattle.postgres_types.specs.Numbers.{ReadsBool, ReadsSigned, ReadsUnsigned, wire_bool, wire_signed, wire_unsigned}
 use Rattle.postgres_types.specs.Special.{ReadsSpecial, date_view, timestamp_view, wire_special}
 use Rattle.pg_types.specs.declared.types.built_in.BuiltIn.{BuiltIn as Row}
-use Rattle.pg_types.specs.declared.types.built_in.BuiltIn.TheVariants.{Bool as BoolRow, BoolArray, Char as CharRow}
-use Rattle.pg_types.specs.declared.types.built_in.BuiltIn.TheVariants.{CharArray, Int2 as Int2Row, Int2Array}
-use Rattle.pg_types.specs.declared.types.built_in.BuiltIn.TheVariants.{Int4 as Int4Row, Int4Array, Int8 as Int8Row}
-use Rattle.pg_types.specs.declared.types.built_in.BuiltIn.TheVariants.{Int8Array, Oid as OidRow, OidArray}
-use Rattle.pg_types.specs.declared.types.built_in.BuiltIn.TheVariants.{Text as TextRow, TextArray}
-use Rattle.pg_types.specs.declared.types.built_in.BuiltIn.TheVariants.{Varchar as VarcharRow, VarcharArray}
-use Rattle.pg_types.specs.declared.types.built_in.BuiltIn.TheVariants.{Bpchar as BpcharRow, BpcharArray}
-use Rattle.pg_types.specs.declared.types.built_in.BuiltIn.TheVariants.{Name as NameRow, NameArray}
-use Rattle.pg_types.specs.declared.types.built_in.BuiltIn.TheVariants.{Bytea as ByteaRow, ByteaArray, Bit as BitRow}
-use Rattle.pg_types.specs.declared.types.built_in.BuiltIn.TheVariants.{BitArray, Varbit as VarbitRow, VarbitArray}
-use Rattle.pg_types.specs.declared.types.built_in.BuiltIn.TheVariants.{Inet as InetRow, InetArray, Cidr as CidrRow}
-use Rattle.pg_types.specs.declared.types.built_in.BuiltIn.TheVariants.{CidrArray, Macaddr as MacaddrRow}
-use Rattle.pg_types.specs.declared.types.built_in.BuiltIn.TheVariants.{MacaddrArray, Uuid as UuidRow, UuidArray}
-use Rattle.pg_types.specs.declared.types.built_in.BuiltIn.TheVariants.{PgLsn as PgLsnRow, PgLsnArray}
-use Rattle.pg_types.specs.declared.types.built_in.BuiltIn.TheVariants.{Date as DateRow, DateArray, Time as TimeRow}
-use Rattle.pg_types.specs.declared.types.built_in.BuiltIn.TheVariants.{TimeArray, Timestamp as TimestampRow}
-use Rattle.pg_types.specs.declared.types.built_in.BuiltIn.TheVariants.{TimestampArray}
-use Rattle.pg_types.specs.declared.types.built_in.BuiltIn.TheVariants.{Timestamptz as TimestamptzRow}
-use Rattle.pg_types.specs.declared.types.built_in.BuiltIn.TheVariants.{TimestamptzArray, Unknown as UnknownRow}
-use Rattle.pg_types.specs.declared.types.built_in.BuiltIn.TheVariants.{Int2Vector as Int2VectorRow}
-use Rattle.pg_types.specs.declared.types.built_in.BuiltIn.TheVariants.{OidVector as OidVectorRow}
+use Rattle.pg_types.specs.declared.types.built_in.BuiltIn.TheVariants as row
 use Rattle.postgres_types.specs.Records.{fields_of_kind}
 use Rattle.pg_record.specs.InventoryItems.{reads_item, wire_item}
 use Rattle.pg_record.specs.Moods.{ReadsMood, wire_mood}
@@ -72,7 +53,8 @@ Map = HashMap (String Global) (Option (String Global)) (BuildHasherDefault FoldH
 
 -- an item is rewritten by the fields of the type
 abbrev pub RewrittenItem : Rewriting
-RewrittenItem = RewrittenAs (λ ty. reads_item (fields_of_kind (kind_of ty))) (λ ty. wire_item (fields_of_kind (kind_of ty)))
+RewrittenItem =
+    RewrittenAs (λ ty. reads_item (fields_of_kind (kind_of ty))) (λ ty. wire_item (fields_of_kind (kind_of ty)))
 
 -- the entry of one base name, and that of the others
 infix 5 if◌is◌then◌else◌
@@ -82,20 +64,22 @@ if base is name then this else others = cond (same_word base (codes name)) this 
 -- the entry of a base name that is no number's, text's, date's, time's or timestamp's
 unfoldable pub other_entry_of : List ℕ → Entry
 other_entry_of base =
-    if base is "bytea" then built_in ByteaRow ByteaArray
+    if base is "bytea" then built_in row.Bytea row.ByteaArray
     (RewrittenPlain {A = Vec ℕ Global} (ReadsBytes (λ v. v.items)) (λ v. wire_bytes v.items))
-    else if base is "bit" then built_in BitRow BitArray (RewrittenPlain (ReadsBits (λ v. v)) wire_bits)
-    else if base is "varbit" then built_in VarbitRow VarbitArray (RewrittenPlain (ReadsBits (λ v. v)) wire_bits)
-    else if base is "inet" then built_in InetRow InetArray (RewrittenPlain ReadsInet wire_inet)
-    else if base is "addr" then built_in InetRow InetArray (RewrittenPlain ReadsAddress wire_address)
-    else if base is "cidr" then built_in CidrRow CidrArray (RewrittenPlain ReadsCidr wire_cidr)
-    else if base is "macaddr" then built_in MacaddrRow MacaddrArray
+    else if base is "bit" then built_in row.Bit row.BitArray (RewrittenPlain (ReadsBits (λ v. v)) wire_bits)
+    else if base is "varbit" then built_in row.Varbit row.VarbitArray (RewrittenPlain (ReadsBits (λ v. v)) wire_bits)
+    else if base is "inet" then built_in row.Inet row.InetArray (RewrittenPlain ReadsInet wire_inet)
+    else if base is "addr" then built_in row.Inet row.InetArray (RewrittenPlain ReadsAddress wire_address)
+    else if base is "cidr" then built_in row.Cidr row.CidrArray (RewrittenPlain ReadsCidr wire_cidr)
+    else if base is "macaddr" then built_in row.Macaddr row.MacaddrArray
     (RewrittenPlain (ReadsFixedBytes 6) (wire_fixed_bytes 6))
-    else if base is "uuid" then built_in UuidRow UuidArray (RewrittenPlain (ReadsFixedBytes 16) (wire_fixed_bytes 16))
-    else if base is "pg_lsn" then built_in PgLsnRow PgLsnArray (RewrittenPlain (ReadsUnsigned w64) (wire_unsigned w64))
-    else if base is "int2vector" then no_arrays (BuiltInType Int2VectorRow)
+    else if base is "uuid" then built_in row.Uuid row.UuidArray
+    (RewrittenPlain (ReadsFixedBytes 16) (wire_fixed_bytes 16))
+    else if base is "pg_lsn" then built_in row.PgLsn row.PgLsnArray
+    (RewrittenPlain (ReadsUnsigned w64) (wire_unsigned w64))
+    else if base is "int2vector" then no_arrays (BuiltInType row.Int2Vector)
     (RewrittenAs (ReadsVec (λ _. ReadsSigned w16)) (wire_vec (λ _. wire_signed w16)))
-    else if base is "oidvector" then no_arrays (BuiltInType OidVectorRow)
+    else if base is "oidvector" then no_arrays (BuiltInType row.OidVector)
     (RewrittenAs (ReadsVec (λ _. ReadsUnsigned w32)) (wire_vec (λ _. wire_unsigned w32)))
     else if base is "hstore" then no_arrays (simple_type "hstore" 100002)
     (RewrittenPlain {A = Map} ReadsHstore (λ m. wire_hstore (map owned_entry m.entries)))
@@ -107,19 +91,21 @@ other_entry_of base =
 -- the same, also of a date, a time or a timestamp
 unfoldable pub timestamp_entry_of : List ℕ → Entry
 timestamp_entry_of base =
-    if base is "date" then built_in DateRow DateArray (RewrittenPlain ReadsDate wire_date)
-    else if base is "date_inf" then built_in DateRow DateArray
+    if base is "date" then built_in row.Date row.DateArray (RewrittenPlain ReadsDate wire_date)
+    else if base is "date_inf" then built_in row.Date row.DateArray
     (RewrittenPlain (ReadsSpecial w32 date_view ReadsDate) (λ v. wire_special w32 wire_date (date_view v)))
-    else if base is "time" then built_in TimeRow TimeArray (RewrittenPlain ReadsTime wire_time)
-    else if base is "timestamp" then built_in TimestampRow TimestampArray (RewrittenPlain ReadsDateTime wire_datetime)
-    else if base is "timestamp_inf" then built_in TimestampRow TimestampArray
+    else if base is "time" then built_in row.Time row.TimeArray (RewrittenPlain ReadsTime wire_time)
+    else if base is "timestamp" then built_in row.Timestamp row.TimestampArray
+    (RewrittenPlain ReadsDateTime wire_datetime)
+    else if base is "timestamp_inf" then built_in row.Timestamp row.TimestampArray
     (RewrittenPlain (ReadsSpecial w64 timestamp_view ReadsDateTime)
     (λ v. wire_special w64 wire_datetime (timestamp_view v)))
-    else if base is "timestamptz" then built_in TimestamptzRow TimestamptzArray
+    else if base is "timestamptz" then built_in row.Timestamptz row.TimestamptzArray
     (RewrittenPlain ReadsInstant wire_instant)
-    else if base is "unix" then built_in TimestampRow TimestampArray
+    else if base is "interval" then built_in row.Interval row.IntervalArray (RewrittenPlain ReadsInterval wire_interval)
+    else if base is "unix" then built_in row.Timestamp row.TimestampArray
     (RewrittenPlain (ReadsTimestamp nanos_of) (λ v. wire_timestamp (nanos_of v)))
-    else if base is "unix_inf" then built_in TimestampRow TimestampArray
+    else if base is "unix_inf" then built_in row.Timestamp row.TimestampArray
     (RewrittenPlain (ReadsSpecial w64 timestamp_view (ReadsTimestamp nanos_of))
     (λ v. wire_special w64 (λ u. wire_timestamp (nanos_of u)) (timestamp_view v)))
     else other_entry_of base
@@ -127,16 +113,16 @@ timestamp_entry_of base =
 -- the entry of any base name, also of a number or a text
 abbrev pub entry_of : List ℕ → Entry
 entry_of base =
-    if base is "bool" then built_in BoolRow BoolArray (RewrittenPlain ReadsBool wire_bool)
-    else if base is "char" then built_in CharRow CharArray (RewrittenPlain (ReadsSigned w8) (wire_signed w8))
-    else if base is "int2" then built_in Int2Row Int2Array (RewrittenPlain (ReadsSigned w16) (wire_signed w16))
-    else if base is "int4" then built_in Int4Row Int4Array (RewrittenPlain (ReadsSigned w32) (wire_signed w32))
-    else if base is "int8" then built_in Int8Row Int8Array (RewrittenPlain (ReadsSigned w64) (wire_signed w64))
-    else if base is "oid" then built_in OidRow OidArray (RewrittenPlain (ReadsUnsigned w32) (wire_unsigned w32))
-    else if base is "text" then built_in TextRow TextArray RewrittenText
-    else if base is "varchar" then built_in VarcharRow VarcharArray RewrittenText
-    else if base is "bpchar" then built_in BpcharRow BpcharArray RewrittenText
-    else if base is "name" then built_in NameRow NameArray RewrittenText
-    else if base is "unknown" then no_arrays (BuiltInType UnknownRow) RewrittenText
+    if base is "bool" then built_in row.Bool row.BoolArray (RewrittenPlain ReadsBool wire_bool)
+    else if base is "char" then built_in row.Char row.CharArray (RewrittenPlain (ReadsSigned w8) (wire_signed w8))
+    else if base is "int2" then built_in row.Int2 row.Int2Array (RewrittenPlain (ReadsSigned w16) (wire_signed w16))
+    else if base is "int4" then built_in row.Int4 row.Int4Array (RewrittenPlain (ReadsSigned w32) (wire_signed w32))
+    else if base is "int8" then built_in row.Int8 row.Int8Array (RewrittenPlain (ReadsSigned w64) (wire_signed w64))
+    else if base is "oid" then built_in row.Oid row.OidArray (RewrittenPlain (ReadsUnsigned w32) (wire_unsigned w32))
+    else if base is "text" then built_in row.Text row.TextArray RewrittenText
+    else if base is "varchar" then built_in row.Varchar row.VarcharArray RewrittenText
+    else if base is "bpchar" then built_in row.Bpchar row.BpcharArray RewrittenText
+    else if base is "name" then built_in row.Name row.NameArray RewrittenText
+    else if base is "unknown" then no_arrays (BuiltInType row.Unknown) RewrittenText
     else if base is "ltree" then no_arrays (simple_type "ltree" 100001) RewrittenText
     else timestamp_entry_of base

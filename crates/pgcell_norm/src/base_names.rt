@@ -36,6 +36,7 @@ macro_rules! dates_and_times {
             "timestamp" => $row!($args civil::DateTime, TIMESTAMP, TIMESTAMP_ARRAY),
             "timestamp_inf" => $row!($args Timestamp<civil::DateTime>, TIMESTAMP, TIMESTAMP_ARRAY),
             "timestamptz" => $row!($args jiff::Timestamp, TIMESTAMPTZ, TIMESTAMPTZ_ARRAY),
+            "interval" => $row!($args Interval, INTERVAL, INTERVAL_ARRAY),
             "unix" => $row!($args UnixTime, TIMESTAMP, TIMESTAMP_ARRAY),
             "unix_inf" => $row!($args Timestamp<UnixTime>, TIMESTAMP, TIMESTAMP_ARRAY),
             _ => $other,

@@ -17,8 +17,8 @@ use bytes::BytesMut;
 use jiff::civil;
 use pg_record::{InventoryItem, Mood, SessionId};
 use postgres_types::{
-    BitVec, Date, Fault, IpCidr, IpInet, IsNull, MacAddress, Paired, PgLsn, Timestamp, Type,
-    UnixTime, rewrite,
+    BitVec, Date, Fault, Interval, IpCidr, IpInet, IsNull, MacAddress, Paired, PgLsn, Timestamp,
+    Type, UnixTime, rewrite,
 };
 use std::alloc::{AllocError, Global};
 use std::collections::HashMap;

@@ -1,6 +1,7 @@
 //! The user-defined types of the table of base names, in the schema public.
 ghost use Rattle.std.specs.Prelude.{◌≡◌, IfOk, codes};
-ghost use Rattle.postgres_types.specs.Content.{SimpleKind, UserDefinedType, content, field_name, field_type, kind_content};
+ghost use Rattle.postgres_types.specs.Content.{SimpleKind, UserDefinedType, content, field_name, field_type};
+ghost use Rattle.postgres_types.specs.Content.{kind_content};
 ghost use Rattle.pgcell_norm.specs.UserTypes.{item_array_type, item_type, mood_type, session_id_type};
 
 use postgres_types::{Field, Kind, Oid, Type};

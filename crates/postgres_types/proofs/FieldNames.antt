@@ -1,5 +1,6 @@
 -- The names of fields, compared one after another.
-use Rattle.std.proofs.Common.{◌≡◌, ◌<◌, ◌≤◌, ◌+◌, ◌==◌, ◌&&◌, ℕ, suc, List, [], ◌∷◌, length, drop, get_or, map, Bool, true}
+use Rattle.std.proofs.Common.{◌≡◌, ◌<◌, ◌≤◌, ◌+◌, ◌==◌, ◌&&◌, ℕ, suc, List, [], ◌∷◌, length, drop, get_or, map, Bool}
+use Rattle.std.proofs.Common.{true}
 use Rattle.std.proofs.Common.{false, not, Bor, refl, sym, ap, ap₂, ◌∙◌, arith}
 use Rattle.std.specs.Cmp.Lexicographic.{pointwise}
 use Rattle.std.proofs.Math.Bool.{and-false}

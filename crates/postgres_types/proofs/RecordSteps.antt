@@ -23,7 +23,8 @@ use Rattle.pg_params.specs.ParamWriting.{AppendsFrame}
 use Rattle.pg_write.specs.ArrayWriting.{element_frame_cell, with_frame}
 use Rattle.postgres_types.specs.CompositeFields.{ReadsAnd, and, no_fields}
 use Rattle.postgres_types.specs.Records.{AppendsBytes, AppendsBytesOrPart, AtEnd, Both, Bytes, CellThen, CountThen}
-use Rattle.postgres_types.specs.Records.{PassesCheck, FieldThen, FrameThen, IsDone, IsRefused, ReadsNext, PassesNumber, Unless, append_bytes}
+use Rattle.postgres_types.specs.Records.{PassesCheck, FieldThen, FrameThen, IsDone, IsRefused, ReadsNext, PassesNumber}
+use Rattle.postgres_types.specs.Records.{Unless, append_bytes}
 use Rattle.postgres_types.specs.Records.{concat_bytes, count_fault, count_of, field_bytes, frame_bytes, oid_fault}
 use Rattle.postgres_types.specs.Records.{or_transmit}
 use Rattle.postgres_types.specs.declared.composite.fields.And.{And}

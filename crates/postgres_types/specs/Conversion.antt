@@ -30,7 +30,8 @@ pub use Rattle.postgres_types.specs.FormatBackLaws.{signed_finite, signed_lawful
 pub use Rattle.postgres_types.specs.OptionBackLaws.{option_lawful}
 pub use Rattle.postgres_types.specs.PlainLaws.{plain_lawful, under_checks}
 pub use Rattle.postgres_types.specs.ReadingBack.{BackKept, BackOption, IsLawful}
-pub use Rattle.postgres_types.specs.ViewBackLaws.{constrained_finite, constrained_lawful, refusing_finite, refusing_lawful}
+pub use Rattle.postgres_types.specs.ViewBackLaws.{constrained_finite, constrained_lawful, refusing_finite}
+pub use Rattle.postgres_types.specs.ViewBackLaws.{refusing_lawful}
 pub use Rattle.postgres_types.specs.ViewBackLaws.{through_finite, through_lawful}
 
 -- equal numbers

@@ -5,7 +5,7 @@ use Rattle.std.specs.Prelude.{if◌then◌else◌, List, length, Some, None, Ok,
 use Rattle.std.proofs.Common.{sym, ◌∙◌, subst, arith}
 use Rattle.std.proofs.lemmas.Bool.{and_parts, eqb-true, leb-true, ltb-true}
 use Rattle.std.proofs.lemmas.Str.{IsUtf8-from_is_utf8}
-use Rattle.std.specs.Int.{Width, w32, byte_len}
+use Rattle.std.specs.Int.{Width, w32, w64, byte_len}
 use Rattle.std.specs.Str.{is_utf8}
 use mir.Val.{bits}
 use Rattle.std.specs.declared.net.ip_addr.IpAddr.{IpAddr}
@@ -20,6 +20,9 @@ use Rattle.pg_base.specs.Formats.{IsGrammar}
 use Rattle.pg_base.proofs.FormatLaws.{bool_grammar, bytes_grammar, has_fitted, text_grammar}
 use Rattle.pg_base.specs.FixedBytes.{FormFixedBytes, ReadsFixedBytes, wire_fixed_bytes}
 use Rattle.pg_base.proofs.FixedBytesLaws.{fixed_bytes_grammar}
+use Rattle.pg_base.specs.declared.interval.Interval.{Interval}
+use Rattle.pg_base.specs.Interval.{FormInterval, ReadsInterval, fits_interval, interval_width, wire_interval}
+use Rattle.pg_base.proofs.IntervalLaws.{interval_grammar}
 use Rattle.pg_base.specs.Network.{FormAddress, FormCidr, FormInet, Network, ReadsAddress, ReadsCidr, ReadsInet}
 use Rattle.pg_base.specs.Network.{address_bits, first_fault_cidr, first_fault_inet, is_network, network_bytes}
 use Rattle.pg_base.specs.Network.{with_netmask, wire_address, wire_cidr, wire_inet}
@@ -116,6 +119,17 @@ cidr_lawful = plain_lawful (λ v. v) FormCidr first_fault_cidr cidr_grammar wire
 
 pub address_lawful : IsLawful (λ v w. v ≡ w) ReadsAddress wire_address (BackKept (λ v w. v ≡ w))
 address_lawful = plain_lawful (λ v. v) FormAddress first_fault_inet address_grammar wire_address address_written
+
+-- ---- intervals
+interval_written : (v : Interval) → WrittenAsBytes ReadsInterval v (wire_interval v)
+interval_written v = written_if ReadsInterval v (fits_interval v) _ _
+    (λ h. let both = and_parts _ _ h in
+    let first = and_parts _ _ both.0 in
+    (has_fitted w64 _ first.0, has_fitted w32 _ first.1, has_fitted w32 _ both.1, refl))
+
+pub interval_lawful : IsLawful (λ v w. v ≡ w) ReadsInterval wire_interval (BackKept (λ v w. v ≡ w))
+interval_lawful = plain_lawful (λ v. v) FormInterval (first_fault_number interval_width) interval_grammar wire_interval
+    interval_written
 
 -- ---- bits
 -- the number of bits and the bits packed spell them

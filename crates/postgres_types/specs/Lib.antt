@@ -37,6 +37,7 @@ pub use Rattle.pg_base.specs.Counts
 pub use Rattle.pg_base.specs.FixedBytes
 pub use Rattle.pg_base.specs.Formats
 pub use Rattle.pg_base.specs.Hstore
+pub use Rattle.pg_base.specs.Interval
 pub use Rattle.pg_base.specs.Json
 pub use Rattle.pg_base.specs.Lsn
 pub use Rattle.pg_base.specs.Network

@@ -1,5 +1,6 @@
 -- The rules of the types of the module `odd`.
-use Rattle.std.specs.Prelude.{◌≡◌, ◌%◌, ◌==◌, ℕ, ℤ, List, [], ◌∷◌, length, Bool, Option, Some, None, codes, unsigned_abs, refl}
+use Rattle.std.specs.Prelude.{◌≡◌, ◌%◌, ◌==◌, ℕ, ℤ, List, [], ◌∷◌, length, Bool, Option, Some, None, codes}
+use Rattle.std.specs.Prelude.{unsigned_abs, refl}
 use Rattle.std.proofs.lemmas.Bool.{eq-eqb}
 use Rattle.std.specs.Int.{w32}
 use Rattle.pg_types.specs.Faults.{Refusal, user}

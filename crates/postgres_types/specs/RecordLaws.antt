@@ -64,7 +64,7 @@ module _ {A B : Type 0} (same : A → A → Type 0) (alike : B → B → Type 0)
         let moved = subst (λ x. CellThen reads others k.cells x o) (sym e.1) k.holds in
         cell_then_single h.cells h.rest r o h.holds (subst (λ x. CellThen reads others x h.rest o) (sym e.0) moved)
 
-    -- a field in front of others
+    -- a field before others
     pub field_single : (oid : ℕ) (s : List ℕ) → GivesSingle (SamePair same alike) (FieldThen oid reads others s)
     field_single oid s =
         unless_single (SamePair same alike) (FrameThen reads others _) (frame_then_single _) (oid_fault oid s)
@@ -160,7 +160,7 @@ both_map P Q M N f g (Ok v) h = (f (Ok v.0) h.0, g (Ok v.1) h.1)
 both_map P Q M N f g (Err r) h =
     elim h [ inl z ↦ inl (f (Err r) z) | inr z ↦ inr (z.0, f (Ok z.0) z.1, g (Err r) z.2) ]
 
--- ---- a field in front of others
+-- ---- a field before others
 module _ {A B : Type 0} (oid : ℕ) (same : A → A → Type 0) (reads : Cell → Outcome A → Type 0) (wire : A → Wire)
     (back : A → Outcome A → Type 0) (law : IsLawful same reads wire back) (alike : B → B → Type 0)
     (others : List ℕ → Outcome B → Type 0) (bytes : B → Bytes) (others_back : B → Outcome B → Type 0)
@@ -239,7 +239,7 @@ module _ {A B : Type 0} (oid : ℕ) (same : A → A → Type 0) (reads : Cell �
   same_whole p q h = ap (λ w. concat_bytes (field_bytes oid w) (bytes p.1)) (law.same_wire p.0 q.0 h.0)
       ∙ ap (concat_bytes (field_bytes oid (wire q.0))) (laws.same_bytes p.1 q.1 h.1)
 
-  -- a field in front of others is lawful with them
+  -- a field before others is lawful with them
   pub field_lawful : AreLawful (SamePair same alike) Fields whole (λ p. Both (back p.0) (others_back p.1))
   field_lawful = record {
     same_bytes = same_whole;

@@ -16,6 +16,7 @@ pub use paired::{Finite, Paired};
 pub use pg_base::bits::BitVec;
 pub use pg_base::fault::{Fault, REASON_LEN, Reason, WasNull, WrongType};
 pub use pg_base::format::{Format, IsNull};
+pub use pg_base::interval::Interval;
 pub use pg_base::lsn::{ParseLsnError, PgLsn};
 pub use pg_base::network::{IpCidr, IpInet, MacAddress};
 pub use pg_base::protocol;

@@ -13,6 +13,7 @@ mod boxes;
 mod bytea;
 mod civil;
 mod hstore;
+mod interval;
 mod lsn;
 mod network;
 mod numbers;

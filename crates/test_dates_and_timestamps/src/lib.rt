@@ -1,4 +1,4 @@
-//! Dates, times and timestamps, with infinities and without: rows from PostgreSQL's formats.
+//! Dates, times, timestamps, with infinities and without, and intervals: rows from PostgreSQL's formats.
 #![tactic(auto)]
 
 #[cfg(test)]

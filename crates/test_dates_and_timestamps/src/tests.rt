@@ -2,5 +2,6 @@
 
 mod civil;
 mod infinities;
+mod intervals;
 mod timestamps;
 mod user_timestamp;

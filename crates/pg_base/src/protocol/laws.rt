@@ -13,6 +13,7 @@ ghost use Rattle.pg_base.specs.Cells.{Cell};
 ghost use Rattle.pg_base.specs.FixedBytes.{FormFixedBytes};
 ghost use Rattle.pg_base.specs.Formats.{IsComplete, IsGrammar, first_fault_of};
 ghost use Rattle.pg_base.specs.Hstore.{FormHstore, first_fault_hstore};
+ghost use Rattle.pg_base.specs.Interval.{FormInterval, interval_width};
 ghost use Rattle.pg_base.specs.Json.{FormJson, first_fault_json};
 ghost use Rattle.pg_base.specs.Network.{FormAddress, FormCidr, FormInet, first_fault_cidr, first_fault_inet};
 ghost use Rattle.pg_base.specs.Numbers.{FormBool, FormSigned, FormUnsigned, first_fault_number};
@@ -123,6 +124,13 @@ pub fn address_format()
 pub fn timestamp_format()
     ensures grammar { IsGrammar (λ v w. v ≡ w) (FormTimestamp (λ nanos. nanos)) (first_fault_number 8) }
     ensures complete { IsComplete (FormTimestamp (λ nanos. nanos)) (first_fault_number 8) }
+{}
+
+/// INTERVAL.
+#[tactic(auto, using(crate::proofs::IntervalLaws::interval_grammar, crate::proofs::IntervalLaws::interval_complete))]
+pub fn interval_format()
+    ensures grammar { IsGrammar (λ v w. v ≡ w) FormInterval (first_fault_number interval_width) }
+    ensures complete { IsComplete FormInterval (first_fault_number interval_width) }
 {}
 
 /// JSON, without a version, and JSONB, with one.

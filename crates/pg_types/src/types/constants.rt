@@ -108,6 +108,10 @@ impl PgType {
     pub const TIMESTAMPTZ: PgType = built_in!(Timestamptz);
     /// `_timestamptz`, OID 1185: an array of `timestamptz`.
     pub const TIMESTAMPTZ_ARRAY: PgType = built_in!(TimestamptzArray);
+    /// `interval`, OID 1186.
+    pub const INTERVAL: PgType = built_in!(Interval);
+    /// `_interval`, OID 1187: an array of `interval`.
+    pub const INTERVAL_ARRAY: PgType = built_in!(IntervalArray);
     /// `bit`, OID 1560.
     pub const BIT: PgType = built_in!(Bit);
     /// `_bit`, OID 1561: an array of `bit`.

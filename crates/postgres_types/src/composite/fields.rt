@@ -6,7 +6,8 @@ ghost use Rattle.pg_base.specs.Sameness.{IsEquivalence};
 ghost use Rattle.pg_read.specs.Reading.{GivesSingle};
 ghost use Rattle.postgres_types.specs.CompositeFields.{BackAnd, BackEnd, ReadsAnd, ReadsEnd, SameAnd, accepts_and};
 ghost use Rattle.postgres_types.specs.CompositeFields.{and_equivalence, and_lawful, and_single, bytes_and};
-ghost use Rattle.postgres_types.specs.CompositeFields.{no_fields_equivalence, no_fields_lawful, no_fields_single, no_fields};
+ghost use Rattle.postgres_types.specs.CompositeFields.{no_fields_equivalence, no_fields_lawful, no_fields_single};
+ghost use Rattle.postgres_types.specs.CompositeFields.{no_fields};
 ghost use Rattle.postgres_types.specs.RecordLaws.{AreLawful};
 ghost use Rattle.postgres_types.specs.Records.{AppendsBytes, Bytes};
 

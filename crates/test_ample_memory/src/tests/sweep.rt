@@ -4,8 +4,8 @@
 use jiff::civil;
 use postgres_types::private::BytesMut;
 use postgres_types::{
-    BitVec, Date, Fault, FromSql, IpCidr, IpInet, IsNull, MacAddress, PgLsn, Timestamp, ToSql,
-    Type, UnixTime, to_sql_checked_as,
+    BitVec, Date, Fault, FromSql, Interval, IpCidr, IpInet, IsNull, MacAddress, PgLsn, Timestamp,
+    ToSql, Type, UnixTime, to_sql_checked_as,
 };
 use rows::{read, same, simple_type, unix};
 use serde_json::{Value, json};
@@ -192,6 +192,17 @@ fn dates_and_times(rt: HostRuntime) -> Result<(), Fail> {
         sweeps(alloc, &time, Type::TIME, ONE),
         sweeps(alloc, &first.to_datetime(time), Type::TIMESTAMP, ONE),
     ])
+}
+
+#[test]
+fn intervals(rt: HostRuntime) -> Result<(), Fail> {
+    let interval = Interval {
+        microseconds: 1,
+        days: 2,
+        months: 3,
+    };
+    let cell = b"\0\0\0\0\0\0\0\x01\0\0\0\x02\0\0\0\x03";
+    same(sweeps(rt.alloc(), &interval, Type::INTERVAL, cell), true)
 }
 
 /// The least timestamp, which is an infinity.

@@ -1,8 +1,8 @@
-//! Dates, times of day and timestamps; none of the damaged cells is an infinity.
+//! Dates, times of day, timestamps and intervals; none of the damaged cells is an infinity.
 
 use super::damage::{ALL_SIZE, Faults, Sample, fixed_width, forms_of, reads_all_forms};
 use jiff::civil;
-use postgres_types::{Date, Timestamp, Type, UnixTime};
+use postgres_types::{Date, Interval, Timestamp, Type, UnixTime};
 use rows::code::{DECODE, SIZE};
 use std::test::Fail;
 
@@ -94,5 +94,18 @@ fn damaged_unix_times(rt: HostRuntime) -> Result<(), Fail> {
         (Type::TIMESTAMP, Type::TIMESTAMP_ARRAY),
         &forms,
         (44, 164),
+    )
+}
+
+#[test]
+fn damaged_intervals(rt: HostRuntime) -> Result<(), Fail> {
+    let alloc = rt.alloc();
+    let interval = [0, 0, 0, 0, 0, 0, 0, 1, 0, 0, 0, 2, 0, 0, 0, 3];
+    let forms = forms_of(alloc, fixed_width(&interval))?;
+    reads_all_forms::<Interval>(
+        alloc,
+        (Type::INTERVAL, Type::INTERVAL_ARRAY),
+        &forms,
+        (84, 204),
     )
 }

@@ -180,21 +180,33 @@ fn parcel(alloc: Global) -> Result<Composite<Parcel>, Fault> {
 }
 
 #[test]
-fn records_are_written_and_read(rt: HostRuntime) -> Result<(), Fail> {
+fn a_purchase_is_written_and_read(rt: HostRuntime) -> Result<(), Fail> {
     let alloc = rt.alloc();
     let cell = joined(alloc, &PURCHASE)?;
-    let ty = purchase_type(alloc)?;
     let value = purchase(alloc, unix(946_684_801, 0)?)?;
-    spells(alloc, &ty, &[(value, cell.as_slice())])?;
-    rewrites::<Composite<Purchase>>(alloc, &ty, &cell, &cell)?;
-    let elm = address(alloc, "Elm 1", "Bonn")?;
-    spells(alloc, &address_type(alloc)?, &[(elm, ADDRESS)])?;
+    spells(alloc, &purchase_type(alloc)?, &[(value, cell.as_slice())])
+}
+
+#[test]
+fn a_purchase_is_read_and_written_again(rt: HostRuntime) -> Result<(), Fail> {
+    let alloc = rt.alloc();
+    let cell = joined(alloc, &PURCHASE)?;
+    rewrites::<Composite<Purchase>>(alloc, &purchase_type(alloc)?, &cell, &cell)
+}
+
+#[test]
+fn an_address_is_written_and_read(rt: HostRuntime) -> Result<(), Fail> {
+    let alloc = rt.alloc();
+    let value = address(alloc, "Elm 1", "Bonn")?;
+    spells(alloc, &address_type(alloc)?, &[(value, ADDRESS)])
+}
+
+#[test]
+fn a_parcel_is_written_and_read(rt: HostRuntime) -> Result<(), Fail> {
+    let alloc = rt.alloc();
     let cell = joined(alloc, &PARCEL)?;
-    spells(
-        alloc,
-        &parcel_type(alloc)?,
-        &[(parcel(alloc)?, cell.as_slice())],
-    )
+    let value = parcel(alloc)?;
+    spells(alloc, &parcel_type(alloc)?, &[(value, cell.as_slice())])
 }
 
 #[test]

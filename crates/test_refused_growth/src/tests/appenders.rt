@@ -5,9 +5,9 @@ use postgres_types::Fault;
 use postgres_types::private::BytesMut;
 use postgres_types::protocol::{
     array_to_sql, bool_to_sql, bytea_to_sql, char_to_sql, date_to_sql, frame_to_sql, hstore_to_sql,
-    inet_to_sql, int2_to_sql, int4_to_sql, int8_to_sql, lquery_to_sql, lsn_to_sql, ltree_to_sql,
-    ltxtquery_to_sql, macaddr_to_sql, oid_to_sql, text_to_sql, time_to_sql, timestamp_to_sql,
-    uuid_to_sql, varbit_to_sql,
+    inet_to_sql, int2_to_sql, int4_to_sql, int8_to_sql, interval_to_sql, lquery_to_sql, lsn_to_sql,
+    ltree_to_sql, ltxtquery_to_sql, macaddr_to_sql, oid_to_sql, text_to_sql, time_to_sql,
+    timestamp_to_sql, uuid_to_sql, varbit_to_sql,
 };
 use std::alloc::Global;
 use std::net::{IpAddr, Ipv4Addr};
@@ -16,6 +16,9 @@ use std::test::Fail;
 const SEVEN: &[u8] = &[0, 0, 0, 7];
 
 const ONE: &[u8] = &[0, 0, 0, 0, 0, 0, 0, 1];
+
+/// An interval of one microsecond, two days and three months.
+const INTERVAL: &[u8] = &[0, 0, 0, 0, 0, 0, 0, 1, 0, 0, 0, 2, 0, 0, 0, 3];
 
 /// The function appends the value's cell.
 fn appends<T: Copy, F: Fn(Global, T, &mut BytesMut) -> Result<(), Fault>>(
@@ -143,6 +146,12 @@ fn times(alloc: Global, target: &mut Target) -> Answered {
     )
 }
 
+fn intervals(alloc: Global, target: &mut Target) -> Answered {
+    target.leave(INTERVAL.len())?;
+    let appended = interval_to_sql(alloc, 1, 2, 3, &mut target.out).is_ok();
+    yes(appended && target.has(INTERVAL), "interval_to_sql")
+}
+
 fn fixed_bytes(alloc: Global, target: &mut Target) -> Answered {
     let mac = [8, 0, 0x2b, 1, 2, 3];
     let uuid = [1, 2, 3, 4, 5, 6, 7, 8, 9, 10, 11, 12, 13, 14, 15, 16];
@@ -183,6 +192,7 @@ fn numbers_and_texts_are_appended(rt: HostRuntime) -> Result<(), Fail> {
 fn times_and_bytes_are_appended(rt: HostRuntime) -> Result<(), Fail> {
     answer_without_memory(rt.alloc(), |alloc, target| {
         times(alloc, target)?;
+        intervals(alloc, target)?;
         fixed_bytes(alloc, target)
     })
 }

@@ -4,9 +4,9 @@ use super::calls::{Answered, answer_without_memory, gives, yes};
 use postgres_types::Fault;
 use postgres_types::protocol::{
     array_from_sql, bool_from_sql, bytea_from_sql, char_from_sql, date_from_sql, hstore_from_sql,
-    inet_from_sql, int2_from_sql, int4_from_sql, int8_from_sql, lquery_from_sql, lsn_from_sql,
-    ltree_from_sql, ltxtquery_from_sql, macaddr_from_sql, oid_from_sql, text_from_sql,
-    time_from_sql, timestamp_from_sql, uuid_from_sql, varbit_from_sql,
+    inet_from_sql, int2_from_sql, int4_from_sql, int8_from_sql, interval_from_sql, lquery_from_sql,
+    lsn_from_sql, ltree_from_sql, ltxtquery_from_sql, macaddr_from_sql, oid_from_sql,
+    text_from_sql, time_from_sql, timestamp_from_sql, uuid_from_sql, varbit_from_sql,
 };
 use std::alloc::Global;
 use std::net::{IpAddr, Ipv4Addr};
@@ -41,7 +41,12 @@ fn counts() -> Answered {
     yes(gives(lsn_from_sql(ONE), 1), "lsn_from_sql")?;
     yes(gives(date_from_sql(SEVEN), 7), "date_from_sql")?;
     yes(gives(time_from_sql(ONE), 1), "time_from_sql")?;
-    yes(gives(timestamp_from_sql(ONE), 1), "timestamp_from_sql")
+    yes(gives(timestamp_from_sql(ONE), 1), "timestamp_from_sql")?;
+    let interval = [0, 0, 0, 0, 0, 0, 0, 1, 0, 0, 0, 2, 0, 0, 0, 3];
+    yes(
+        gives(interval_from_sql(&interval), (1, 2, 3)),
+        "interval_from_sql",
+    )
 }
 
 fn fixed_bytes() -> Answered {

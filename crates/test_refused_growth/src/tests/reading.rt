@@ -3,7 +3,7 @@
 use super::calls::{Answered, answer_without_memory, reads_frame, reads_null, yes};
 use jiff::civil;
 use postgres_types::{
-    BitVec, Date, Fault, IpCidr, IpInet, MacAddress, PgLsn, Timestamp, Type, UnixTime,
+    BitVec, Date, Fault, Interval, IpCidr, IpInet, MacAddress, PgLsn, Timestamp, Type, UnixTime,
 };
 use rows::simple_type;
 use serde_json::Value;
@@ -146,10 +146,26 @@ fn timestamps(alloc: Global) -> Answered {
     yes(reads_frame(alloc, &Type::TIMESTAMP, ONE, &unix), "UnixTime")
 }
 
+/// The frame of an interval.
+const INTERVAL: &[u8] = &[0, 0, 0, 16, 0, 0, 0, 0, 0, 0, 0, 1, 0, 0, 0, 2, 0, 0, 0, 3];
+
+fn intervals(alloc: Global) -> Answered {
+    let interval = Interval {
+        microseconds: 1,
+        days: 2,
+        months: 3,
+    };
+    yes(
+        reads_frame(alloc, &Type::INTERVAL, INTERVAL, &interval),
+        "Interval",
+    )
+}
+
 #[test]
 fn dates_and_timestamps_are_read(rt: HostRuntime) -> Result<(), Fail> {
     answer_without_memory(rt.alloc(), |alloc, _target| {
         civil_values(alloc)?;
+        intervals(alloc)?;
         timestamps(alloc)
     })
 }

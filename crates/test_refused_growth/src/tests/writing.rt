@@ -3,7 +3,7 @@
 use super::calls::{Answered, Target, answer_without_memory, writes_cell};
 use jiff::civil;
 use postgres_types::{
-    BitVec, Date, Fault, IpCidr, IpInet, MacAddress, PgLsn, Timestamp, Type, UnixTime,
+    BitVec, Date, Fault, Interval, IpCidr, IpInet, MacAddress, PgLsn, Timestamp, Type, UnixTime,
 };
 use std::alloc::Global;
 use std::borrow::{CowSlice, CowStr};
@@ -174,6 +174,16 @@ fn timestamps(alloc: Global, target: &mut Target) -> Answered {
     )
 }
 
+fn intervals(alloc: Global, target: &mut Target) -> Answered {
+    let interval = Interval {
+        microseconds: 1,
+        days: 2,
+        months: 3,
+    };
+    let cell = &[0, 0, 0, 0, 0, 0, 0, 1, 0, 0, 0, 2, 0, 0, 0, 3];
+    writes_cell(alloc, &interval, &Type::INTERVAL, cell, target)
+}
+
 fn wrappers(alloc: Global, target: &mut Target) -> Answered {
     let infinity: Date<civil::Date> = Date::PosInfinity;
     writes_cell(alloc, &Some(7i32), &Type::INT4, SEVEN, target)?;
@@ -192,6 +202,7 @@ fn dates_timestamps_and_wrappers_are_written(rt: HostRuntime) -> Result<(), Fail
     answer_without_memory(rt.alloc(), |alloc, target| {
         civil_values(alloc, target)?;
         timestamps(alloc, target)?;
+        intervals(alloc, target)?;
         wrappers(alloc, target)
     })
 }

@@ -8,7 +8,7 @@ use std::test::Fail;
 /// An OID, its type, the type's name and, of an array, the type of its elements.
 type Row = (Oid, Type, &'static str, Option<Type>);
 
-const CATALOG: [Row; 51] = [
+const CATALOG: &[Row] = &[
     (16, Type::BOOL, "bool", None),
     (17, Type::BYTEA, "bytea", None),
     (18, Type::CHAR, "char", None),
@@ -60,6 +60,13 @@ const CATALOG: [Row; 51] = [
         "_timestamptz",
         Some(Type::TIMESTAMPTZ),
     ),
+    (1186, Type::INTERVAL, "interval", None),
+    (
+        1187,
+        Type::INTERVAL_ARRAY,
+        "_interval",
+        Some(Type::INTERVAL),
+    ),
     (1560, Type::BIT, "bit", None),
     (1561, Type::BIT_ARRAY, "_bit", Some(Type::BIT)),
     (1562, Type::VARBIT, "varbit", None),
@@ -70,13 +77,6 @@ const CATALOG: [Row; 51] = [
     (3221, Type::PG_LSN_ARRAY, "_pg_lsn", Some(Type::PG_LSN)),
     (3802, Type::JSONB, "jsonb", None),
     (3807, Type::JSONB_ARRAY, "_jsonb", Some(Type::JSONB)),
-];
-
-/// The OIDs of the catalog.
-const OIDS: [Oid; 51] = [
-    16, 17, 18, 19, 20, 21, 22, 23, 25, 26, 30, 114, 199, 650, 651, 705, 829, 869, 1000, 1001,
-    1002, 1003, 1005, 1007, 1009, 1014, 1015, 1016, 1028, 1040, 1041, 1042, 1043, 1082, 1083, 1114,
-    1115, 1182, 1183, 1184, 1185, 1560, 1561, 1562, 1563, 2950, 2951, 3220, 3221, 3802, 3807,
 ];
 
 /// The OID names the type, which has that OID and name and is an array of those elements.
@@ -104,7 +104,7 @@ fn is_of_kind(ty: &Type, kind: KindRef) -> Result<(), Fail> {
 
 #[test]
 fn built_in_types_are_as_in_the_catalog(_: HostRuntime) -> Result<(), Fail> {
-    for row in &CATALOG {
+    for row in CATALOG {
         is_in_catalog(row)?;
     }
     Ok(())
@@ -113,7 +113,8 @@ fn built_in_types_are_as_in_the_catalog(_: HostRuntime) -> Result<(), Fail> {
 #[test]
 fn no_other_oid_has_a_built_in_type(_: HostRuntime) -> Result<(), Fail> {
     for oid in 0..5_000u32 {
-        same(Type::from_oid(oid).is_some(), OIDS.contains(&oid))?;
+        let listed = CATALOG.iter().any(|row| row.0 == oid);
+        same(Type::from_oid(oid).is_some(), listed)?;
     }
     Ok(())
 }

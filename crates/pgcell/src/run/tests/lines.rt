@@ -86,7 +86,10 @@ pub const NUMBERS_AND_TEXTS: [(&[u8], &[u8]); 23] = [
 ];
 
 /// Types by their OID.
-pub const TYPES: [(&[u8], &[u8]); 15] = [
+pub const TYPES: [(&[u8], &[u8]); 18] = [
+    (b"type 1186", b"ok interval"),
+    (b"type 1187", b"ok _interval"),
+    (b"type 1188", b"none"),
     (b"type 0000000016", b"ok bool"),
     (b"type 16", b"ok bool"),
     (b"type 4294967296", b"bad line"),
@@ -158,7 +161,7 @@ pub const SCHEMA_TYPES: [(&[u8], &[u8]); 11] = [
 ];
 
 /// Bits, addresses, identifiers, log positions, timestamps and maps.
-pub const SMALL_TYPES: [(&[u8], &[u8]); 26] = [
+pub const SMALL_TYPES: [(&[u8], &[u8]); 28] = [
     (b"norm bit 00000003BF", b"ok 00000003a0"),
     (b"norm varbit 00000003bf", b"ok 00000003a0"),
     (b"norm varbit? NULL", b"null"),
@@ -184,6 +187,14 @@ pub const SMALL_TYPES: [(&[u8], &[u8]); 26] = [
     (b"norm pg_lsn 00", b"refused 4"),
     (b"norm unix ffffffffffffffff", b"ok ffffffffffffffff"),
     (b"norm unix? 00", b"refused 4"),
+    (
+        b"norm interval 00000000000000010000000200000003",
+        b"ok 00000000000000010000000200000003",
+    ),
+    (
+        b"norm interval 000000000000000100000002000000",
+        b"refused 4",
+    ),
     (
         b"norm hstore 000000020000000161000000013100000001 61ffffffff",
         b"bad line",
@@ -285,7 +296,7 @@ pub const ARRAYS: [(&[u8], &[u8]); 26] = [
 ];
 
 /// Each base name that has arrays, and a cell that it accepts.
-pub const WITH_ARRAYS: [(&[u8], &[u8]); 28] = [
+pub const WITH_ARRAYS: [(&[u8], &[u8]); 29] = [
     (
         b"item",
         b"0000000300000019000000036e757400000017000000040000000700000014ffffffff",
@@ -315,6 +326,7 @@ pub const WITH_ARRAYS: [(&[u8], &[u8]); 28] = [
     (b"timestamp", b"ffffffffffffffff"),
     (b"timestamp_inf", b"7fffffffffffffff"),
     (b"timestamptz", b"0000000000000001"),
+    (b"interval", b"00000000000000010000000200000003"),
     (b"unix", b"8000000000000000"),
     (b"unix_inf", b"8000000000000000"),
 ];

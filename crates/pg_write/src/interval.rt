@@ -1,0 +1,54 @@
+//! Writing intervals of time.
+ghost use Rattle.std.specs.Prelude.{true, codes};
+ghost use Rattle.pg_types.specs.declared.types.built_in.BuiltIn.TheVariants.{Interval as IntervalRow};
+ghost use Rattle.pg_types.specs.Content.{is_row};
+ghost use Rattle.pg_base.specs.Interval.{wire_interval};
+
+use crate::to_sql::{ToSql, wrong_type};
+use bytes::BytesMut;
+use pg_base::fault::Fault;
+use pg_base::format::{Format, IsNull};
+use pg_base::interval::Interval;
+use pg_base::protocol::interval_to_sql;
+use pg_base::types::PgType;
+use std::alloc::Global;
+
+/// INTERVAL: 16 bytes, the microseconds in 8, then the days and the months in 4 each, big-endian,
+/// in two's complement (`interval_send`).
+impl ToSql for Interval {
+    ghost accepted = { is_row IntervalRow };
+
+    ghost name = { codes "Interval" };
+
+    ghost wire = { λ _ v. wire_interval v };
+
+    ghost by_room = { λ _. Unit {0} };
+
+    ghost refuses_memory_free = { true };
+
+    fn to_sql(&self, alloc: Global, _ty: &PgType, out: &mut BytesMut) -> Result<IsNull, Fault> {
+        interval_to_sql(alloc, self.microseconds, self.days, self.months, out)?;
+        Ok(IsNull::No)
+    }
+
+    fn accepts(ty: &PgType) -> bool {
+        ty.is(&PgType::INTERVAL)
+    }
+
+    fn to_sql_checked(
+        &self,
+        alloc: Global,
+        ty: &PgType,
+        out: &mut BytesMut,
+    ) -> Result<IsNull, Fault> {
+        if Self::accepts(ty) {
+            self.to_sql(alloc, ty, out)
+        } else {
+            Err(wrong_type(ty, "Interval"))
+        }
+    }
+
+    fn encode_format(&self, _ty: &PgType) -> Format {
+        Format::Binary
+    }
+}

@@ -1,0 +1,16 @@
+//! Intervals of time are read back as themselves.
+ghost use Rattle.std.specs.Prelude.{◌≡◌, refl};
+ghost use Rattle.postgres_types.specs.FormatBackLaws.{interval_lawful};
+ghost use Rattle.postgres_types.specs.ReadingBack.{BackKept};
+
+use crate::paired::Paired;
+use pg_base::interval::Interval;
+
+/// An interval is read back as itself, part by part.
+impl<'a> Paired<'a> for Interval {
+    ghost back = { λ _. BackKept (λ v w. v ≡ w) };
+
+    ghost types = { λ _. refl };
+
+    ghost lawful = { λ _ _. interval_lawful };
+}
