@@ -3,6 +3,7 @@
 #![tactic(auto)]
 
 pub mod code;
+pub mod damage;
 mod days;
 mod memory;
 mod params;
@@ -11,6 +12,7 @@ mod reading;
 mod refusals;
 mod texts;
 mod types;
+pub mod without_memory;
 mod writing;
 
 pub use days::{Days, NoDay};
@@ -23,6 +25,7 @@ use std::fmt::Debug;
 use std::test::Fail;
 pub use texts::{debugs, displays};
 pub use types::{accepts, simple_type, unix, user_type};
+pub use without_memory::{null_takes_no_memory, takes_no_memory, writes_by_room};
 pub use writing::{
     reads_back, refuses_type, refuses_value, refuses_values, rewrites, spells, writes, writes_null,
 };

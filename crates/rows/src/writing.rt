@@ -3,18 +3,32 @@
 use crate::code::WRONG_TYPE;
 use crate::{BEFORE, read, reads, same};
 use postgres_types::private::BytesMut;
-use postgres_types::{FromSql, IsNull, Paired, ToSql, Type, rewrite};
+use postgres_types::{FromSql, IsNull, Paired, ToSql, Type, rewrite, to_sql_checked_as};
 use std::alloc::Global;
 use std::fmt::Debug;
 use std::test::Fail;
 
-/// The value is written as the cell, by both calls, after what was there.
+/// The value is written as the cell by each call: after what was there, and into an empty buffer.
 pub fn writes<T: ToSql>(alloc: Global, value: &T, ty: &Type, cell: &[u8]) -> Result<(), Fail> {
     let mut out = BytesMut::copy_from_slice(alloc, BEFORE)?;
     same(value.to_sql_checked(alloc, ty, &mut out)?, IsNull::No)?;
     same(out.strip_prefix(BEFORE), Some(cell))?;
+    let mut out = BytesMut::new(alloc);
+    let answer = to_sql_checked_as(alloc, value, "value", ty, &mut out)?;
+    same(answer, IsNull::No)?;
+    same(out.as_slice(), cell)?;
+    writes_unchecked(alloc, value, ty, cell)
+}
+
+/// Where the type is accepted, the value is written as the cell into an empty buffer.
+fn writes_unchecked<T: ToSql>(
+    alloc: Global,
+    value: &T,
+    ty: &Type,
+    cell: &[u8],
+) -> Result<(), Fail> {
     if T::accepts(ty) {
-        out.clear();
+        let mut out = BytesMut::new(alloc);
         same(value.to_sql(alloc, ty, &mut out)?, IsNull::No)?;
         same(out.as_slice(), cell)?;
     }

@@ -3,6 +3,7 @@
 mod array_cells;
 mod boxes;
 mod cells;
+mod damaged_lists;
 mod fixed_arrays;
 mod list_reading;
 mod list_refusals;

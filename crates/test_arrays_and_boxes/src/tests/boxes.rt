@@ -2,8 +2,8 @@
 
 use postgres_types::{Format, ToSql, Type};
 use rows::{
-    accepts, code, holds, read, refusal, refuses, refuses_type, same, simple_type, spells,
-    writes_null,
+    accepts, code, holds, null_takes_no_memory, read, refusal, refuses, refuses_type, same,
+    simple_type, spells, writes_by_room, writes_null,
 };
 use std::test::Fail;
 
@@ -56,4 +56,13 @@ fn a_box_refuses_the_types_that_its_value_does(rt: HostRuntime) -> Result<(), Fa
     let boxed = Box::new(alloc, 7i32)?;
     refuses_type(alloc, &boxed, &Type::TEXT, "Box")?;
     refuses_type(alloc, &boxed, &odd, "Box")
+}
+
+#[test]
+fn boxes_and_options_are_written_without_memory(rt: HostRuntime) -> Result<(), Fail> {
+    let alloc = rt.alloc();
+    let seven = [0, 0, 0, 7];
+    writes_by_room(alloc, &Type::INT4, &Box::new(alloc, 7i32)?, &seven)?;
+    writes_by_room(alloc, &Type::INT4, &Some(7i32), &seven)?;
+    null_takes_no_memory::<Box<Option<i32>>>(alloc, &Type::INT4)
 }

@@ -1,10 +1,11 @@
 //! Arrays of a fixed number of elements, which are read in place.
 
-use super::cells::{INFINITY, NULL, ONE_AND_TWO};
+use super::cells::{EMPTY, INFINITY, NULL, ONE_AND_TWO};
 use jiff::civil;
 use postgres_types::{Date, Type};
-use rows::{code, hoard, reads, refusal, refuses, same};
+use rows::{code, hoard, null_takes_no_memory, reads, refusal, refuses, same};
 use std::alloc::Global;
+use std::boxed::BoxedSlice;
 use std::test::Fail;
 
 const INTS: Type = Type::INT4_ARRAY;
@@ -70,6 +71,8 @@ fn a_box_holds_an_array(rt: HostRuntime) -> Result<(), Fail> {
 fn reads_in_place(alloc: Global, list: u32) -> Result<(), Fail> {
     reads(alloc, &INTS, &THREE, [1i32, -2, i32::MAX])?;
     reads(alloc, &INTS, &NULL, [None::<i32>])?;
+    let none: [i32; 0] = [];
+    reads(alloc, &INTS, &EMPTY, none)?;
     reads(alloc, &Type::TEXT_ARRAY, &TEXTS, ["ab", ""])?;
     let infinity: [Date<civil::Date>; 1] = [Date::PosInfinity];
     reads(alloc, &Type::DATE_ARRAY, &INFINITY, infinity)?;
@@ -84,6 +87,13 @@ fn arrays_are_read_where_every_growth_is_refused(rt: HostRuntime) -> Result<(), 
     let hoarded = reads_in_place(alloc, code::MEMORY);
     drop(blocks);
     hoarded
+}
+
+#[test]
+fn null_is_no_list_without_memory(rt: HostRuntime) -> Result<(), Fail> {
+    null_takes_no_memory::<Vec<i32>>(rt.alloc(), &INTS)?;
+    null_takes_no_memory::<BoxedSlice<i32>>(rt.alloc(), &INTS)?;
+    null_takes_no_memory::<[i32; 2]>(rt.alloc(), &INTS)
 }
 
 /// How many bytes the long text has: room for one such text is let go below, and not for two.

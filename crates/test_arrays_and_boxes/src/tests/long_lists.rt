@@ -2,7 +2,7 @@
 
 use postgres_types::private::BytesMut;
 use postgres_types::{IsNull, ToSql, Type};
-use rows::{read, same};
+use rows::{holds, read, same};
 use std::alloc::Global;
 use std::test::Fail;
 
@@ -37,4 +37,16 @@ fn long_lists_are_written_and_read(rt: HostRuntime) -> Result<(), Fail> {
         is_written_and_read(rt.alloc(), len, cell_len)?;
     }
     Ok(())
+}
+
+#[test]
+fn long_arrays_are_written_and_read(rt: HostRuntime) -> Result<(), Fail> {
+    let alloc = rt.alloc();
+    let array = [7i32; 1_000];
+    let mut cell = BytesMut::new(alloc);
+    let answer = array.to_sql_checked(alloc, &Type::INT4_ARRAY, &mut cell)?;
+    same(answer, IsNull::No)?;
+    same(cell.len(), 8_020)?;
+    let back: [i32; 1_000] = read(alloc, &Type::INT4_ARRAY, Some(cell.as_slice()))?;
+    holds(back == array, "another array")
 }

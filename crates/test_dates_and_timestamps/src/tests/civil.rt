@@ -3,10 +3,13 @@
 use jiff::Timestamp;
 use jiff::civil::{Date, DateTime, Time};
 use postgres_types::Type;
-use postgres_types::private::BytesMut;
 use postgres_types::protocol::{date_from_sql, date_to_sql, time_from_sql, time_to_sql};
 use rows::code::{DECODE, SIZE, WAS_NULL};
-use rows::{accepts, displays, reads, reads_back, refuses, same, simple_type, writes};
+use rows::damage::{ALL_SIZE, Faults, Sample, forms_of, reads_all_forms};
+use rows::{
+    accepts, appends, displays, parses, reads, reads_back, refuses, simple_type, takes_no_memory,
+    writes,
+};
 use std::test::Fail;
 
 /// Year, month and day.
@@ -223,18 +226,139 @@ fn timestamps_accept_no_other_type(rt: HostRuntime) -> Result<(), Fail> {
     accepts::<Timestamp>(&[(Type::TIMESTAMP, false)])
 }
 
+/// Days, and their cells.
+const COUNTS_OF_DAYS: [(i32, &[u8]); 3] = [
+    (7, &[0, 0, 0, 7]),
+    (i32::MIN, &[0x80, 0, 0, 0]),
+    (i32::MAX, &[0x7f, 0xff, 0xff, 0xff]),
+];
+
 #[test]
 fn the_format_of_dates_has_every_count(rt: HostRuntime) -> Result<(), Fail> {
-    let mut out = BytesMut::new(rt.alloc());
-    date_to_sql(rt.alloc(), i32::MIN, &mut out)?;
-    same(out.as_slice(), &[0x80, 0, 0, 0])?;
-    same(date_from_sql(b"\x7f\xff\xff\xff")?, i32::MAX)
+    appends(
+        rt.alloc(),
+        |alloc, v, out| date_to_sql(alloc, v, out),
+        &COUNTS_OF_DAYS,
+    )?;
+    parses(rt.alloc(), |cell| date_from_sql(cell), &COUNTS_OF_DAYS)
 }
+
+/// Microseconds, and their cells.
+const COUNTS_OF_MICROSECONDS: [(i64, &[u8]); 3] = [
+    (1, &[0, 0, 0, 0, 0, 0, 0, 1]),
+    (86_399_999_999, &LAST_TIME),
+    (-1, &[0xff; 8]),
+];
 
 #[test]
 fn the_format_of_times_has_every_count(rt: HostRuntime) -> Result<(), Fail> {
-    let mut out = BytesMut::new(rt.alloc());
-    time_to_sql(rt.alloc(), 86_399_999_999, &mut out)?;
-    same(out.as_slice(), LAST_TIME.as_slice())?;
-    same(time_from_sql(&[0xff; 8])?, -1)
+    appends(
+        rt.alloc(),
+        |alloc, v, out| time_to_sql(alloc, v, out),
+        &COUNTS_OF_MICROSECONDS,
+    )?;
+    parses(
+        rt.alloc(),
+        |cell| time_from_sql(cell),
+        &COUNTS_OF_MICROSECONDS,
+    )
+}
+
+/// The cell of 7, which is 2000-01-08, and the cell of one microsecond.
+const SEVEN: &[u8] = &[0, 0, 0, 7];
+
+const ONE: &[u8] = &[0, 0, 0, 0, 0, 0, 0, 1];
+
+#[test]
+fn dates_and_times_take_no_memory(rt: HostRuntime) -> Result<(), Fail> {
+    let alloc = rt.alloc();
+    takes_no_memory(alloc, &Type::DATE, &[(Date::new(2000, 1, 8)?, SEVEN)])?;
+    let time = Time::new(0, 0, 0, 1_000)?;
+    takes_no_memory(alloc, &Type::TIME, &[(time, ONE)])
+}
+
+#[test]
+fn timestamps_take_no_memory(rt: HostRuntime) -> Result<(), Fail> {
+    let alloc = rt.alloc();
+    let value = datetime((2000, 1, 1), (0, 0, 0, 1_000))?;
+    takes_no_memory(alloc, &Type::TIMESTAMP, &[(value, ONE)])?;
+    let instant = Timestamp::new(946_684_800, 1_000)?;
+    takes_no_memory(alloc, &Type::TIMESTAMPTZ, &[(instant, ONE)])
+}
+
+/// Where the byte is not 0, the count is out of range.
+const TOO_FAR: Faults = [0, DECODE, DECODE, DECODE];
+
+/// 1,000 days after 2000-01-01. In the first byte, 7F and 80 are far away, and FF is -16,776,216 days.
+const DATE: Sample = Sample {
+    cell: &[0, 0, 0x03, 0xe8],
+    fronts: ALL_SIZE,
+    altered: &[(2, TOO_FAR), (2, [0; 4])],
+    longer: [SIZE; 4],
+};
+
+/// 05:33:20. A day ends before 14 1DD76000.
+const TIME: Sample = Sample {
+    cell: &[0, 0, 0, 4, 0xa8, 0x17, 0xc8, 0],
+    fronts: ALL_SIZE,
+    altered: &[(4, TOO_FAR), (4, [0; 4])],
+    longer: [SIZE; 4],
+};
+
+/// 2000-01-01 02:46:40. With FF in the first byte it is in the year -284, with FF in the second in the year 4274.
+const TIMESTAMP: Sample = Sample {
+    cell: &[0, 0, 0, 2, 0x54, 0x0b, 0xe4, 0],
+    fronts: ALL_SIZE,
+    altered: &[(1, [0, DECODE, DECODE, 0]), (7, [0; 4])],
+    longer: [SIZE; 4],
+};
+
+#[test]
+fn damaged_dates(rt: HostRuntime) -> Result<(), Fail> {
+    let alloc = rt.alloc();
+    let forms = forms_of(alloc, DATE)?;
+    reads_all_forms::<Date>(alloc, (Type::DATE, Type::DATE_ARRAY), &forms, (24, 144))?;
+    reads_all_forms::<postgres_types::Date<Date>>(
+        alloc,
+        (Type::DATE, Type::DATE_ARRAY),
+        &forms,
+        (24, 144),
+    )
+}
+
+#[test]
+fn damaged_times(rt: HostRuntime) -> Result<(), Fail> {
+    let alloc = rt.alloc();
+    let forms = forms_of(alloc, TIME)?;
+    reads_all_forms::<Time>(alloc, (Type::TIME, Type::TIME_ARRAY), &forms, (44, 164))
+}
+
+#[test]
+fn damaged_timestamps(rt: HostRuntime) -> Result<(), Fail> {
+    let alloc = rt.alloc();
+    let forms = forms_of(alloc, TIMESTAMP)?;
+    reads_all_forms::<DateTime>(
+        alloc,
+        (Type::TIMESTAMP, Type::TIMESTAMP_ARRAY),
+        &forms,
+        (44, 164),
+    )?;
+    reads_all_forms::<postgres_types::Timestamp<DateTime>>(
+        alloc,
+        (Type::TIMESTAMP, Type::TIMESTAMP_ARRAY),
+        &forms,
+        (44, 164),
+    )
+}
+
+#[test]
+fn damaged_timestamps_with_time_zone(rt: HostRuntime) -> Result<(), Fail> {
+    let alloc = rt.alloc();
+    let forms = forms_of(alloc, TIMESTAMP)?;
+    reads_all_forms::<Timestamp>(
+        alloc,
+        (Type::TIMESTAMPTZ, Type::TIMESTAMPTZ_ARRAY),
+        &forms,
+        (44, 164),
+    )
 }

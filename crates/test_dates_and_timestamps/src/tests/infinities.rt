@@ -6,7 +6,7 @@ use postgres_types::{Date, Format, FromSql, Paired, Timestamp, ToSql, Type, Unix
 use rows::code::{DECODE, SIZE, TRANSMIT, WAS_NULL};
 use rows::{
     Days, NoDay, accepts, debugs, holds, reads_back, refuses, refuses_both, refuses_type, rewrites,
-    same, spells, unix, writes, writes_null,
+    same, spells, takes_no_memory, unix, writes, writes_null,
 };
 use std::alloc::Global;
 use std::test::Fail;
@@ -247,4 +247,24 @@ fn timestamps_of_jiff_have_infinities(rt: HostRuntime) -> Result<(), Fail> {
         (Timestamp::Value(base), &[0; 8]),
     ];
     spells(rt.alloc(), &Type::TIMESTAMPTZ, &rows)
+}
+
+#[test]
+fn dates_with_infinities_take_no_memory(rt: HostRuntime) -> Result<(), Fail> {
+    let alloc = rt.alloc();
+    let rows: [(Date<civil::Date>, &[u8]); 2] = [
+        (Date::PosInfinity, &LAST_DATE),
+        (Date::Value(civil::Date::new(2000, 1, 8)?), &[0, 0, 0, 7]),
+    ];
+    takes_no_memory(alloc, &Type::DATE, &rows)
+}
+
+#[test]
+fn timestamps_with_infinities_take_no_memory(rt: HostRuntime) -> Result<(), Fail> {
+    let alloc = rt.alloc();
+    let rows: [(Timestamp<UnixTime>, &[u8]); 2] = [
+        (Timestamp::NegInfinity, &FIRST),
+        (Timestamp::Value(unix(946_684_800, 0)?), &[0; 8]),
+    ];
+    takes_no_memory(alloc, &Type::TIMESTAMP, &rows)
 }

@@ -4,7 +4,11 @@ use pg_base::interval::laws::same_interval;
 use postgres_types::protocol::{interval_from_sql, interval_to_sql};
 use postgres_types::{Interval, Type};
 use rows::code::{SIZE, WAS_NULL};
-use rows::{accepts, appends, debugs, holds, parses, refuses, refuses_type, rewrites, spells};
+use rows::damage::{fixed_width, forms_of, reads_all_forms};
+use rows::{
+    accepts, appends, debugs, holds, parses, refuses, refuses_type, rewrites, spells,
+    takes_no_memory,
+};
 use std::test::Fail;
 
 /// Microseconds, days and months, and their cell. The third row is of
@@ -62,6 +66,14 @@ fn intervals_have_their_cells(rt: HostRuntime) -> Result<(), Fail> {
 }
 
 #[test]
+fn intervals_take_no_memory(rt: HostRuntime) -> Result<(), Fail> {
+    for (parts, cell) in INTERVALS {
+        takes_no_memory(rt.alloc(), &Type::INTERVAL, &[(interval(parts), cell)])?;
+    }
+    Ok(())
+}
+
+#[test]
 fn intervals_are_rewritten_as_they_are(rt: HostRuntime) -> Result<(), Fail> {
     let alloc = rt.alloc();
     let [(_, cell), ..] = INTERVALS;
@@ -94,7 +106,7 @@ fn intervals_are_appended_and_parsed(rt: HostRuntime) -> Result<(), Fail> {
         |alloc, v, out| interval_to_sql(alloc, v.0, v.1, v.2, out),
         &INTERVALS,
     )?;
-    parses(|cell| interval_from_sql(cell), &INTERVALS)
+    parses(rt.alloc(), |cell| interval_from_sql(cell), &INTERVALS)
 }
 
 #[test]
@@ -106,4 +118,17 @@ fn intervals_of_other_parts_are_different(rt: HostRuntime) -> Result<(), Fail> {
     }
     let text = "Interval { microseconds: 1, days: 2, months: 3 }";
     debugs(rt.alloc(), &value, text)
+}
+
+#[test]
+fn damaged_intervals(rt: HostRuntime) -> Result<(), Fail> {
+    let alloc = rt.alloc();
+    let [(_, cell), ..] = INTERVALS;
+    let forms = forms_of(alloc, fixed_width(cell))?;
+    reads_all_forms::<Interval>(
+        alloc,
+        (Type::INTERVAL, Type::INTERVAL_ARRAY),
+        &forms,
+        (84, 204),
+    )
 }

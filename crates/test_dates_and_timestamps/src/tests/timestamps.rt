@@ -1,11 +1,14 @@
 //! Timestamps as `UnixTime`.
 
 use pg_base::unix_time::laws::{same_unix_time, unix_time_order};
-use postgres_types::private::BytesMut;
 use postgres_types::protocol::{timestamp_from_sql, timestamp_to_sql};
-use postgres_types::{Type, UnixTime};
+use postgres_types::{Timestamp, Type, UnixTime};
 use rows::code::{SIZE, TRANSMIT, USER, WAS_NULL};
-use rows::{debugs, holds, reads_back, refuses, refuses_both, same, unix, writes};
+use rows::damage::{fixed_width, forms_of, reads_all_forms};
+use rows::{
+    appends, debugs, holds, parses, reads_back, refuses, refuses_both, same, takes_no_memory, unix,
+    writes,
+};
 use std::alloc::Global;
 use std::cmp::Ordering;
 use std::test::Fail;
@@ -39,12 +42,31 @@ fn timestamps_are_microseconds(rt: HostRuntime) -> Result<(), Fail> {
     reads_back_rows(alloc, &Type::TIMESTAMPTZ)
 }
 
+/// Microseconds, and their cells.
+const COUNTS: [(i64, &[u8]); 3] = [
+    (1, &[0, 0, 0, 0, 0, 0, 0, 1]),
+    (i64::MIN, &FIRST),
+    (i64::MAX, &LAST),
+];
+
 #[test]
 fn the_format_has_every_count(rt: HostRuntime) -> Result<(), Fail> {
-    let mut out = BytesMut::new(rt.alloc());
-    timestamp_to_sql(rt.alloc(), i64::MIN, &mut out)?;
-    same(out.as_slice(), FIRST.as_slice())?;
-    same(timestamp_from_sql(&LAST)?, i64::MAX)
+    let alloc = rt.alloc();
+    appends(
+        alloc,
+        |alloc, v, out| timestamp_to_sql(alloc, v, out),
+        &COUNTS,
+    )?;
+    parses(alloc, |cell| timestamp_from_sql(cell), &COUNTS)
+}
+
+#[test]
+fn timestamps_take_no_memory(rt: HostRuntime) -> Result<(), Fail> {
+    for (secs, nanos, cell) in ROWS {
+        let row = [(unix(secs, nanos)?, cell.as_slice())];
+        takes_no_memory(rt.alloc(), &Type::TIMESTAMP, &row)?;
+    }
+    Ok(())
 }
 
 #[test]
@@ -119,4 +141,23 @@ fn timestamps_have_microseconds_from_2000(_rt: HostRuntime) -> Result<(), Fail> 
     let time = unix(1, 0)?;
     same(time.to_postgres_micros(), Some(-946_684_799_000_000))?;
     same(UnixTime::from_postgres_micros(-946_684_799_000_000), time)
+}
+
+/// Every count of microseconds is a value.
+#[test]
+fn damaged_timestamps(rt: HostRuntime) -> Result<(), Fail> {
+    let alloc = rt.alloc();
+    let forms = forms_of(alloc, fixed_width(&[0, 0, 0, 2, 0x54, 0x0b, 0xe4, 0]))?;
+    reads_all_forms::<UnixTime>(
+        alloc,
+        (Type::TIMESTAMP, Type::TIMESTAMP_ARRAY),
+        &forms,
+        (44, 164),
+    )?;
+    reads_all_forms::<Timestamp<UnixTime>>(
+        alloc,
+        (Type::TIMESTAMP, Type::TIMESTAMP_ARRAY),
+        &forms,
+        (44, 164),
+    )
 }

@@ -4,7 +4,9 @@ use postgres_types::private::BytesMut;
 use postgres_types::protocol::{HstoreEntries, hstore_from_sql, hstore_to_sql};
 use postgres_types::{Fault, Type};
 use rows::code::{COUNT, KEY_LENGTH, SIZE, USER, UTF8, WAS_NULL};
-use rows::{holds, read, refuses, rewrites, same, simple_type, writes};
+use rows::damage::{ALL_SIZE, Faults, Sample, forms_of, reads_plain};
+use rows::without_memory::{answer_without_memory, gives, yes};
+use rows::{holds, null_takes_no_memory, read, refuses, rewrites, same, simple_type, writes};
 use std::alloc::{AllocError, Global};
 use std::collections::HashMap;
 use std::hash::{BuildHasherDefault, DefaultHasher};
@@ -110,8 +112,9 @@ fn maps_are_written_in_key_order(rt: HostRuntime) -> Result<(), Fail> {
 type Values = &'static [(&'static str, Option<Option<&'static str>>)];
 
 /// Cells, how many keys their maps have, and what these have at keys.
-const READ: [(&[u8], usize, Values); 3] = [
+const READ: [(&[u8], usize, Values); 4] = [
     (&TWICE, 1, &[("a", Some(None))]),
+    (b"\0\0\0\x01\0\0\0\x01a\x80\0\0\0", 1, &[("a", Some(None))]),
     (
         &TWO,
         2,
@@ -208,4 +211,72 @@ fn entries_are_written_in_their_order(rt: HostRuntime) -> Result<(), Fail> {
     let mut out = BytesMut::new(rt.alloc());
     hstore_to_sql(rt.alloc(), &[("c", None), ("a", Some("b"))], &mut out)?;
     same(out.as_slice(), UNSORTED.as_slice())
+}
+
+/// The two entries of a cell come in their order.
+fn gives_both(alloc: Global) -> Result<(), Fault> {
+    let Ok(mut entries) = hstore_from_sql(alloc, &TWO) else {
+        return Err(Fault::user("hstore_from_sql"));
+    };
+    let first = entries.next().transpose();
+    yes(gives(first, Some(("a", Some("b")))), "the first entry")?;
+    let second = entries.next().transpose();
+    yes(gives(second, Some(("c", None))), "the second entry")?;
+    yes(entries.next().is_none(), "the end of the hstore")
+}
+
+#[test]
+fn entries_are_read_and_written_without_memory(rt: HostRuntime) -> Result<(), Fail> {
+    answer_without_memory(rt.alloc(), |alloc, target| {
+        gives_both(alloc)?;
+        target.leave(TWO.len())?;
+        let entries = [("a", Some("b")), ("c", None)];
+        let appended = hstore_to_sql(alloc, &entries, &mut target.out).is_ok();
+        yes(appended && target.has(&TWO), "hstore_to_sql")
+    })
+}
+
+#[test]
+fn null_is_no_map_without_memory(rt: HostRuntime) -> Result<(), Fail> {
+    null_takes_no_memory::<Map>(rt.alloc(), &hstore(rt.alloc())?)
+}
+
+/// A byte of 7 bits is a character; 80 and FF are none.
+const ASCII: Faults = [0, 0, UTF8, UTF8];
+
+/// A length is greater than what is left.
+const TOO_LONG: Faults = [0, SIZE, SIZE, SIZE];
+
+/// a => b, c => NULL. The count; then the lengths of keys and values, of which the bytes to the next length follow.
+const SAMPLE: Sample = Sample {
+    cell: &TWO,
+    fronts: ALL_SIZE,
+    altered: &[
+        (1, [0, SIZE, COUNT, COUNT]),
+        (2, TOO_LONG),
+        (1, [SIZE; 4]),
+        (1, [0, SIZE, KEY_LENGTH, KEY_LENGTH]),
+        (2, TOO_LONG),
+        (1, [SIZE; 4]),
+        (1, ASCII),
+        // A negative length is NULL, and the next key's is then 62000000.
+        (3, TOO_LONG),
+        (1, [SIZE; 4]),
+        (1, ASCII),
+        (1, [0, SIZE, KEY_LENGTH, KEY_LENGTH]),
+        (2, TOO_LONG),
+        (1, [SIZE; 4]),
+        (1, ASCII),
+        // NULL, while the length is negative.
+        (1, [SIZE, SIZE, 0, 0]),
+        (3, [0; 4]),
+    ],
+    longer: [SIZE; 4],
+};
+
+#[test]
+fn damaged_hstores(rt: HostRuntime) -> Result<(), Fail> {
+    let alloc = rt.alloc();
+    let forms = forms_of(alloc, SAMPLE)?;
+    reads_plain::<Map>(alloc, hstore(alloc)?, &forms, 119)
 }

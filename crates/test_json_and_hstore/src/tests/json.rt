@@ -1,9 +1,13 @@
 //! JSON and JSONB as `serde_json::Value`.
 
-use postgres_types::Type;
 use postgres_types::private::BytesMut;
+use postgres_types::{IsNull, ToSql, Type};
 use rows::code::{JSON_NUMBER, JSON_TEXT, JSON_VERSION, SIZE, USER, WAS_NULL};
-use rows::{accepts, read, reads, refusal, refuses, refuses_both, same, simple_type, writes};
+use rows::damage::{Sample, forms_of, reads_all_forms};
+use rows::{
+    accepts, holds, null_takes_no_memory, read, reads, refusal, refuses, refuses_both, same,
+    simple_type, writes,
+};
 use serde::{Deserialize, Serialize};
 use serde_json::{Value, json};
 use std::alloc::Global;
@@ -240,4 +244,53 @@ fn the_document_of_a_serde_type_is_written(rt: HostRuntime) -> Result<(), Fail> 
 fn the_written_text_is_of_the_serde_type(rt: HostRuntime) -> Result<(), Fail> {
     let found: Moon = serde_json::from_str(rt.alloc(), MOON)?;
     same(found, make_moon(rt.alloc())?)
+}
+
+#[test]
+fn null_is_no_document_without_memory(rt: HostRuntime) -> Result<(), Fail> {
+    null_takes_no_memory::<Value>(rt.alloc(), &Type::JSON)
+}
+
+/// A JSON text of one string, of 1 MB. Where memory suffices it is read and written, which no contract says.
+#[test]
+fn long_documents_are_read_and_written(rt: HostRuntime) -> Result<(), Fail> {
+    let alloc = rt.alloc();
+    let mut cell = vec![in alloc; b'x'; 1_048_576]?;
+    cell.insert(0, b'"')?;
+    cell.push(b'"')?;
+    let document: Value = read(alloc, &Type::JSON, Some(cell.as_slice()))?;
+    let mut out = BytesMut::new(alloc);
+    let answer = document.to_sql_checked(alloc, &Type::JSON, &mut out)?;
+    same(answer, IsNull::No)?;
+    holds(out.as_slice() == cell.as_slice(), "another document")
+}
+
+/// The version 1, and the empty object.
+const JSONB: Sample = Sample {
+    cell: b"\x01{}",
+    fronts: &[(1, SIZE), (2, JSON_TEXT)],
+    altered: &[(1, [JSON_VERSION; 4]), (2, [JSON_TEXT; 4])],
+    longer: [JSON_TEXT; 4],
+};
+
+/// The empty object.
+const JSON: Sample = Sample {
+    cell: b"{}",
+    fronts: &[(2, JSON_TEXT)],
+    altered: &[(2, [JSON_TEXT; 4])],
+    longer: [JSON_TEXT; 4],
+};
+
+#[test]
+fn damaged_jsonb(rt: HostRuntime) -> Result<(), Fail> {
+    let alloc = rt.alloc();
+    let forms = forms_of(alloc, JSONB)?;
+    reads_all_forms::<Value>(alloc, (Type::JSONB, Type::JSONB_ARRAY), &forms, (19, 139))
+}
+
+#[test]
+fn damaged_json(rt: HostRuntime) -> Result<(), Fail> {
+    let alloc = rt.alloc();
+    let forms = forms_of(alloc, JSON)?;
+    reads_all_forms::<Value>(alloc, (Type::JSON, Type::JSON_ARRAY), &forms, (14, 134))
 }

@@ -3,7 +3,11 @@
 use postgres_types::Type;
 use postgres_types::protocol::{bytea_from_sql, bytea_to_sql, frame_to_sql};
 use rows::code::WAS_NULL;
-use rows::{appends, holds, read, refuses, same, spells, writes};
+use rows::damage::{Sample, forms_of, reads_all_forms};
+use rows::{
+    appends, holds, null_takes_no_memory, read, refuses, same, spells, takes_no_memory, writes,
+    writes_by_room,
+};
 use std::borrow::CowSlice;
 use std::test::Fail;
 
@@ -64,4 +68,37 @@ fn bytes_and_frames_are_appended(rt: HostRuntime) -> Result<(), Fail> {
     let alloc = rt.alloc();
     appends(alloc, |alloc, v, out| bytea_to_sql(alloc, v, out), &BYTEA)?;
     appends(alloc, |alloc, v, out| frame_to_sql(alloc, v, out), &FRAMES)
+}
+
+#[test]
+fn borrowed_bytes_take_no_memory(rt: HostRuntime) -> Result<(), Fail> {
+    let alloc = rt.alloc();
+    takes_no_memory(alloc, &Type::BYTEA, &BYTEA)?;
+    let cow = CowSlice::Borrowed(b"ab".as_slice());
+    writes_by_room(alloc, &Type::BYTEA, &cow, b"ab")?;
+    writes_by_room(alloc, &Type::BYTEA, &[1u8, 2, 3, 4], &[1, 2, 3, 4])
+}
+
+#[test]
+fn owned_bytes_are_written_without_memory(rt: HostRuntime) -> Result<(), Fail> {
+    let alloc = rt.alloc();
+    let bytes: Vec<u8> = Vec::from_slice(alloc, b"ab")?;
+    writes_by_room(alloc, &Type::BYTEA, &bytes, b"ab")?;
+    null_takes_no_memory::<Vec<u8>>(alloc, &Type::BYTEA)
+}
+
+/// Any bytes are a value.
+const SAMPLE: Sample = Sample {
+    cell: &[0, b'a', 0xff],
+    fronts: &[(3, 0)],
+    altered: &[(3, [0; 4])],
+    longer: [0; 4],
+};
+
+#[test]
+fn damaged_bytes(rt: HostRuntime) -> Result<(), Fail> {
+    let alloc = rt.alloc();
+    let forms = forms_of(alloc, SAMPLE)?;
+    reads_all_forms::<Vec<u8>>(alloc, (Type::BYTEA, Type::BYTEA_ARRAY), &forms, (19, 139))?;
+    reads_all_forms::<&[u8]>(alloc, (Type::BYTEA, Type::BYTEA_ARRAY), &forms, (19, 139))
 }

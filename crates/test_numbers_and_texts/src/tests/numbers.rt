@@ -2,13 +2,15 @@
 
 use postgres_types::private::BytesMut;
 use postgres_types::protocol::{
-    bool_from_sql, bool_to_sql, char_to_sql, int2_to_sql, int4_to_sql, int8_to_sql, oid_to_sql,
+    bool_from_sql, bool_to_sql, char_from_sql, char_to_sql, int2_from_sql, int2_to_sql,
+    int4_from_sql, int4_to_sql, int8_from_sql, int8_to_sql, oid_from_sql, oid_to_sql,
 };
 use postgres_types::{Fault, Type, rewrite, to_sql_checked_as};
 use rows::code::{SIZE, USER, WAS_NULL, WRONG_TYPE};
+use rows::damage::{fixed_width, forms_of, reads_all_forms};
 use rows::{
-    accepts, appends, fault_code, holds, refusal, refuses, refuses_value, rewrites, same,
-    simple_type, spells, writes,
+    accepts, appends, fault_code, holds, parses, refusal, refuses, refuses_value, rewrites, same,
+    simple_type, spells, takes_no_memory, writes, writes_by_room,
 };
 use std::alloc::Global;
 use std::test::Fail;
@@ -129,6 +131,43 @@ fn wide_integers_and_oids_are_appended(rt: HostRuntime) -> Result<(), Fail> {
 }
 
 #[test]
+fn booleans_and_narrow_integers_are_parsed(rt: HostRuntime) -> Result<(), Fail> {
+    let alloc = rt.alloc();
+    parses(alloc, |cell| bool_from_sql(cell), &BOOL)?;
+    parses(alloc, |cell| char_from_sql(cell), &CHAR)?;
+    parses(alloc, |cell| int2_from_sql(cell), &INT2)
+}
+
+#[test]
+fn wide_integers_and_oids_are_parsed(rt: HostRuntime) -> Result<(), Fail> {
+    let alloc = rt.alloc();
+    parses(alloc, |cell| int4_from_sql(cell), &INT4)?;
+    parses(alloc, |cell| int8_from_sql(cell), &INT8)?;
+    parses(alloc, |cell| oid_from_sql(cell), &OID)
+}
+
+#[test]
+fn booleans_and_narrow_integers_take_no_memory(rt: HostRuntime) -> Result<(), Fail> {
+    let alloc = rt.alloc();
+    takes_no_memory(alloc, &Type::BOOL, &BOOL)?;
+    takes_no_memory(alloc, &Type::CHAR, &CHAR)?;
+    takes_no_memory(alloc, &Type::INT2, &INT2)
+}
+
+#[test]
+fn wide_integers_and_oids_take_no_memory(rt: HostRuntime) -> Result<(), Fail> {
+    let alloc = rt.alloc();
+    takes_no_memory(alloc, &Type::INT4, &INT4)?;
+    takes_no_memory(alloc, &Type::INT8, &INT8)?;
+    takes_no_memory(alloc, &Type::OID, &OID)
+}
+
+#[test]
+fn a_reference_is_written_without_memory(rt: HostRuntime) -> Result<(), Fail> {
+    writes_by_room(rt.alloc(), &Type::INT4, &&7i32, &[0, 0, 0, 7])
+}
+
+#[test]
 fn any_byte_but_zero_is_true(rt: HostRuntime) -> Result<(), Fail> {
     let alloc = rt.alloc();
     for byte in [1u8, 2, 0x80, 0xff] {
@@ -168,4 +207,46 @@ fn a_refused_user_type_leaves_the_buffer(rt: HostRuntime) -> Result<(), Fail> {
     let rewritten = rewrite::<i32>(alloc, &int4, None, &mut out);
     same(fault_code(rewritten), WRONG_TYPE)?;
     holds(out.is_empty(), "appended")
+}
+
+#[test]
+fn damaged_booleans(rt: HostRuntime) -> Result<(), Fail> {
+    let alloc = rt.alloc();
+    let forms = forms_of(alloc, fixed_width(&[1]))?;
+    reads_all_forms::<bool>(alloc, (Type::BOOL, Type::BOOL_ARRAY), &forms, (9, 129))
+}
+
+#[test]
+fn damaged_chars(rt: HostRuntime) -> Result<(), Fail> {
+    let alloc = rt.alloc();
+    let forms = forms_of(alloc, fixed_width(&[0x61]))?;
+    reads_all_forms::<i8>(alloc, (Type::CHAR, Type::CHAR_ARRAY), &forms, (9, 129))
+}
+
+#[test]
+fn damaged_int2s(rt: HostRuntime) -> Result<(), Fail> {
+    let alloc = rt.alloc();
+    let forms = forms_of(alloc, fixed_width(&[0, 5]))?;
+    reads_all_forms::<i16>(alloc, (Type::INT2, Type::INT2_ARRAY), &forms, (14, 134))
+}
+
+#[test]
+fn damaged_int4s(rt: HostRuntime) -> Result<(), Fail> {
+    let alloc = rt.alloc();
+    let forms = forms_of(alloc, fixed_width(&[0, 0, 0, 7]))?;
+    reads_all_forms::<i32>(alloc, (Type::INT4, Type::INT4_ARRAY), &forms, (24, 144))
+}
+
+#[test]
+fn damaged_int8s(rt: HostRuntime) -> Result<(), Fail> {
+    let alloc = rt.alloc();
+    let forms = forms_of(alloc, fixed_width(&[0, 0, 0, 0, 0, 0, 0, 1]))?;
+    reads_all_forms::<i64>(alloc, (Type::INT8, Type::INT8_ARRAY), &forms, (44, 164))
+}
+
+#[test]
+fn damaged_oids(rt: HostRuntime) -> Result<(), Fail> {
+    let alloc = rt.alloc();
+    let forms = forms_of(alloc, fixed_width(&[0, 0, 0, 0x17]))?;
+    reads_all_forms::<u32>(alloc, (Type::OID, Type::OID_ARRAY), &forms, (24, 144))
 }

@@ -6,8 +6,10 @@ use postgres_types::protocol::{
 };
 use postgres_types::{Kind, Type};
 use rows::code::{TEXT_VERSION, UTF8, WAS_NULL};
+use rows::damage::{Faults, Sample, forms_of, reads_all_forms, reads_plain};
 use rows::{
-    accepts, appends, holds, parses, read, refuses, same, simple_type, spells, user_type, writes,
+    accepts, appends, holds, null_takes_no_memory, parses, read, refuses, same, simple_type,
+    spells, takes_no_memory, user_type, writes, writes_by_room,
 };
 use std::borrow::CowStr;
 use std::boxed::BoxedStr;
@@ -27,9 +29,13 @@ const VERSIONED: [(&str, &[u8]); 4] = [
     ("\u{e9}", &[1, 0xc3, 0xa9]),
 ];
 
-const DAMAGED_TEXT: [(Option<&[u8]>, u32); 3] = [
+/// Among them U+0000 in two bytes, a surrogate, and U+110000.
+const DAMAGED_TEXT: [(Option<&[u8]>, u32); 6] = [
     (Some(&[0xff]), UTF8),
     (Some(&[0x61, 0xc3]), UTF8),
+    (Some(&[0xc0, 0x80]), UTF8),
+    (Some(&[0xed, 0xa0, 0x80]), UTF8),
+    (Some(&[0xf4, 0x90, 0x80, 0x80]), UTF8),
     (None, WAS_NULL),
 ];
 
@@ -107,11 +113,33 @@ fn texts_are_appended(rt: HostRuntime) -> Result<(), Fail> {
 }
 
 #[test]
-fn texts_are_parsed() -> Result<(), Fail> {
-    parses(|cell| text_from_sql(cell), &TEXT)?;
-    parses(|cell| ltree_from_sql(cell), &VERSIONED)?;
-    parses(|cell| lquery_from_sql(cell), &VERSIONED)?;
-    parses(|cell| ltxtquery_from_sql(cell), &VERSIONED)
+fn texts_are_parsed(rt: HostRuntime) -> Result<(), Fail> {
+    let alloc = rt.alloc();
+    parses(alloc, |cell| text_from_sql(cell), &TEXT)?;
+    parses(alloc, |cell| ltree_from_sql(cell), &VERSIONED)?;
+    parses(alloc, |cell| lquery_from_sql(cell), &VERSIONED)?;
+    parses(alloc, |cell| ltxtquery_from_sql(cell), &VERSIONED)
+}
+
+#[test]
+fn borrowed_texts_take_no_memory(rt: HostRuntime) -> Result<(), Fail> {
+    takes_no_memory(rt.alloc(), &Type::TEXT, &TEXT)?;
+    let row = [(CowStr::Borrowed("ab"), b"ab".as_slice())];
+    takes_no_memory(rt.alloc(), &Type::TEXT, &row)
+}
+
+#[test]
+fn owned_texts_are_written_without_memory(rt: HostRuntime) -> Result<(), Fail> {
+    let alloc = rt.alloc();
+    let text = String::from_str(alloc, "ab")?;
+    writes_by_room(alloc, &Type::TEXT, &text, b"ab")?;
+    writes_by_room(alloc, &Type::TEXT, &text.into_boxed_str(), b"ab")
+}
+
+#[test]
+fn null_is_no_owned_text_without_memory(rt: HostRuntime) -> Result<(), Fail> {
+    null_takes_no_memory::<String>(rt.alloc(), &Type::TEXT)?;
+    null_takes_no_memory::<BoxedStr>(rt.alloc(), &Type::TEXT)
 }
 
 #[test]
@@ -152,4 +180,59 @@ fn a_name_decides_whether_a_user_type_is_accepted(rt: HostRuntime) -> Result<(),
     let text = simple_type(alloc, "text", 25, "pg_catalog")?;
     accepts::<String>(&[(citext, true), (text, false)])?;
     accepts::<&str>(&[(Type::JSON, false)])
+}
+
+/// A byte of 7 bits is a character; 80 and FF are none.
+const ASCII: Faults = [0, 0, UTF8, UTF8];
+
+/// The letter a and U+00E9, whose bytes are C3 A9; C3 80 is U+00C0.
+const TEXT_SAMPLE: Sample = Sample {
+    cell: &[b'a', 0xc3, 0xa9],
+    fronts: &[(2, 0), (1, UTF8)],
+    altered: &[(1, ASCII), (1, [UTF8; 4]), (1, [UTF8, UTF8, 0, UTF8])],
+    longer: ASCII,
+};
+
+/// The version 1, and the letter a.
+const LTREE_SAMPLE: Sample = Sample {
+    cell: &[1, b'a'],
+    fronts: &[(1, TEXT_VERSION), (1, 0)],
+    altered: &[(1, [TEXT_VERSION; 4]), (1, ASCII)],
+    longer: ASCII,
+};
+
+#[test]
+fn damaged_texts(rt: HostRuntime) -> Result<(), Fail> {
+    let alloc = rt.alloc();
+    let forms = forms_of(alloc, TEXT_SAMPLE)?;
+    let types = [
+        (Type::TEXT, Type::TEXT_ARRAY),
+        (Type::VARCHAR, Type::VARCHAR_ARRAY),
+        (Type::BPCHAR, Type::BPCHAR_ARRAY),
+        (Type::NAME, Type::NAME_ARRAY),
+    ];
+    for (ty, array) in types {
+        reads_all_forms::<String>(alloc, (ty, array), &forms, (19, 139))?;
+    }
+    reads_plain::<String>(alloc, Type::UNKNOWN, &forms, 19)
+}
+
+#[test]
+fn damaged_texts_of_other_forms(rt: HostRuntime) -> Result<(), Fail> {
+    let alloc = rt.alloc();
+    let forms = forms_of(alloc, TEXT_SAMPLE)?;
+    reads_all_forms::<&str>(alloc, (Type::TEXT, Type::TEXT_ARRAY), &forms, (19, 139))?;
+    reads_all_forms::<CowStr>(alloc, (Type::TEXT, Type::TEXT_ARRAY), &forms, (19, 139))?;
+    reads_all_forms::<BoxedStr>(alloc, (Type::TEXT, Type::TEXT_ARRAY), &forms, (19, 139))
+}
+
+#[test]
+fn damaged_ltrees(rt: HostRuntime) -> Result<(), Fail> {
+    let alloc = rt.alloc();
+    let forms = forms_of(alloc, LTREE_SAMPLE)?;
+    for name in ["ltree", "lquery", "ltxtquery"] {
+        let ty = simple_type(alloc, name, 100_001, "public")?;
+        reads_plain::<String>(alloc, ty, &forms, 14)?;
+    }
+    Ok(())
 }

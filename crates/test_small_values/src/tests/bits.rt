@@ -3,9 +3,13 @@
 use pg_base::bits::laws::same_bits;
 use postgres_types::private::BytesMut;
 use postgres_types::protocol::{varbit_from_sql, varbit_to_sql};
-use postgres_types::{BitVec, Fault, Type};
+use postgres_types::{BitVec, Fault, IsNull, ToSql, Type};
 use rows::code::{COUNT, SIZE, WAS_NULL};
-use rows::{holds, reads, refuses, rewrites, same, spells};
+use rows::damage::{ALL_SIZE, Sample, forms_of, reads_all_forms};
+use rows::without_memory::{answer_without_memory, yes};
+use rows::{
+    holds, null_takes_no_memory, read, reads, refuses, rewrites, same, spells, writes_by_room,
+};
 use std::alloc::Global;
 use std::test::Fail;
 
@@ -23,7 +27,7 @@ const BITS: [(&[bool], &[u8]); 4] = [
     ),
 ];
 
-const DAMAGED: [(Option<&[u8]>, u32); 9] = [
+const DAMAGED: [(Option<&[u8]>, u32); 10] = [
     (Some(&[]), SIZE),
     (Some(&[0, 0, 0]), SIZE),
     (Some(&[0xff, 0xff, 0xff, 0xff]), COUNT),
@@ -31,6 +35,7 @@ const DAMAGED: [(Option<&[u8]>, u32); 9] = [
     (Some(&[0, 0, 0, 9, 0x80]), SIZE),
     (Some(&[0, 0, 0, 8, 0x80, 0]), SIZE),
     (Some(&[0, 0, 0, 0, 0]), SIZE),
+    (Some(&[0x7f, 0xff, 0xff, 0xff]), SIZE),
     (Some(&[0x7f, 0xff, 0xff, 0xff, 0]), SIZE),
     (None, WAS_NULL),
 ];
@@ -143,4 +148,75 @@ fn lists_of_other_bits_are_different(rt: HostRuntime) -> Result<(), Fail> {
     same(bits.pop(), Some(false))?;
     let other = BitVec::from_bytes(alloc, &[0b1001_0011])?;
     holds(!same_bits(&bits, &other), "equal")
+}
+
+#[test]
+fn many_bits_are_pushed(rt: HostRuntime) -> Result<(), Fail> {
+    let mut bits = BitVec::new(rt.alloc());
+    for _ in 0..1_000 {
+        bits.push(true)?;
+    }
+    same(bits.to_bytes(rt.alloc())?.len(), 125)
+}
+
+/// A bit string of 1 MB. Where memory suffices it is written and read, which no contract says.
+#[test]
+fn long_bits_are_written_and_read(rt: HostRuntime) -> Result<(), Fail> {
+    let alloc = rt.alloc();
+    let bytes = vec![in alloc; b'x'; 1_048_576]?;
+    let bits = BitVec::from_bytes(alloc, bytes.as_slice())?;
+    let mut cell = BytesMut::new(alloc);
+    let answer = bits.to_sql_checked(alloc, &Type::VARBIT, &mut cell)?;
+    same(answer, IsNull::No)?;
+    same(cell.len(), 1_048_580)?;
+    let back: BitVec = read(alloc, &Type::VARBIT, Some(cell.as_slice()))?;
+    holds(back == bits, "other bits")
+}
+
+#[test]
+fn bits_are_written_without_memory(rt: HostRuntime) -> Result<(), Fail> {
+    let alloc = rt.alloc();
+    let bits = BitVec::from_bytes(alloc, &[0xa5])?;
+    writes_by_room(alloc, &Type::VARBIT, &bits, &[0, 0, 0, 8, 0xa5])?;
+    null_takes_no_memory::<BitVec>(alloc, &Type::VARBIT)
+}
+
+#[test]
+fn the_format_of_bits_takes_no_memory(rt: HostRuntime) -> Result<(), Fail> {
+    answer_without_memory(rt.alloc(), |alloc, target| {
+        let Ok(bits) = varbit_from_sql(&PADDED) else {
+            return Err(Fault::user("varbit_from_sql"));
+        };
+        yes(
+            bits.len() == 3 && bits.bytes() == [0xbfu8].as_slice(),
+            "Varbit",
+        )?;
+        target.leave(6)?;
+        let appended = varbit_to_sql(alloc, 9, &[0xff, 0xff], &mut target.out).is_ok();
+        yes(
+            appended && target.has(&[0, 0, 0, 9, 0xff, 0x80]),
+            "varbit_to_sql",
+        )
+    })
+}
+
+/// Three bits. Padding is ignored.
+const SAMPLE: Sample = Sample {
+    cell: &[0, 0, 0, 3, 0xa0],
+    fronts: ALL_SIZE,
+    altered: &[
+        (1, [0, SIZE, COUNT, COUNT]),
+        (2, [0, SIZE, SIZE, SIZE]),
+        (1, [SIZE; 4]),
+        (1, [0; 4]),
+    ],
+    longer: [SIZE; 4],
+};
+
+#[test]
+fn damaged_bit_strings(rt: HostRuntime) -> Result<(), Fail> {
+    let alloc = rt.alloc();
+    let forms = forms_of(alloc, SAMPLE)?;
+    reads_all_forms::<BitVec>(alloc, (Type::VARBIT, Type::VARBIT_ARRAY), &forms, (29, 149))?;
+    reads_all_forms::<BitVec>(alloc, (Type::BIT, Type::BIT_ARRAY), &forms, (29, 149))
 }

@@ -4,7 +4,10 @@ use pg_base::lsn::laws::{position_order, position_text_parses, same_position};
 use postgres_types::protocol::{lsn_from_sql, lsn_to_sql};
 use postgres_types::{PgLsn, Type};
 use rows::code::{SIZE, USER, WAS_NULL};
-use rows::{appends, debugs, displays, holds, parses, reads, refuses, same, writes};
+use rows::damage::{fixed_width, forms_of, reads_all_forms};
+use rows::{
+    appends, debugs, displays, holds, parses, reads, refuses, same, takes_no_memory, writes,
+};
 use std::cmp::Ordering;
 use std::test::Fail;
 
@@ -105,7 +108,7 @@ fn positions_have_their_cells(rt: HostRuntime) -> Result<(), Fail> {
 #[test]
 fn positions_are_appended_and_parsed_from_cells(rt: HostRuntime) -> Result<(), Fail> {
     appends(rt.alloc(), |alloc, v, out| lsn_to_sql(alloc, v, out), &LSN)?;
-    parses(|cell| lsn_from_sql(cell), &LSN)
+    parses(rt.alloc(), |cell| lsn_from_sql(cell), &LSN)
 }
 
 #[test]
@@ -114,4 +117,18 @@ fn damaged_positions_are_refused(rt: HostRuntime) -> Result<(), Fail> {
     let [(_, cell)] = LSN;
     refuses::<PgLsn>(alloc, &Type::PG_LSN, &DAMAGED)?;
     refuses::<PgLsn>(alloc, &Type::INT8, &[(Some(cell), USER)])
+}
+
+#[test]
+fn positions_take_no_memory(rt: HostRuntime) -> Result<(), Fail> {
+    let [(number, cell)] = LSN;
+    let row = [(PgLsn::from(number), cell)];
+    takes_no_memory(rt.alloc(), &Type::PG_LSN, &row)
+}
+
+#[test]
+fn damaged_log_positions(rt: HostRuntime) -> Result<(), Fail> {
+    let alloc = rt.alloc();
+    let forms = forms_of(alloc, fixed_width(&[0, 0, 0, 0x16, 0xb3, 0x74, 0xd8, 0x48]))?;
+    reads_all_forms::<PgLsn>(alloc, (Type::PG_LSN, Type::PG_LSN_ARRAY), &forms, (44, 164))
 }

@@ -5,9 +5,14 @@ use postgres_types::private::BytesMut;
 use postgres_types::protocol::{
     inet_from_sql, inet_to_sql, macaddr_from_sql, macaddr_to_sql, uuid_from_sql, uuid_to_sql,
 };
-use postgres_types::{IpCidr, IpInet, MacAddress, Type};
+use postgres_types::{Fault, IpCidr, IpInet, MacAddress, Type};
 use rows::code::{ADDRESS_LENGTH, FAMILY, HOST_BITS, NETMASK, SIZE, WAS_NULL};
-use rows::{appends, fault_code, holds, parses, reads, refusal, refuses, rewrites, same, spells};
+use rows::damage::{ALL_SIZE, Faults, Sample, fixed_width, forms_of, reads_all_forms};
+use rows::without_memory::{answer_without_memory, yes};
+use rows::{
+    appends, fault_code, holds, parses, reads, refusal, refuses, rewrites, same, spells,
+    takes_no_memory,
+};
 use std::net::{IpAddr, Ipv4Addr, Ipv6Addr};
 use std::test::Fail;
 use uuid::Uuid;
@@ -237,9 +242,9 @@ fn uuids_have_their_cells(rt: HostRuntime) -> Result<(), Fail> {
 fn mac_addresses_and_uuids_are_appended_and_parsed(rt: HostRuntime) -> Result<(), Fail> {
     let alloc = rt.alloc();
     appends(alloc, |alloc, v, out| macaddr_to_sql(alloc, v, out), &MAC)?;
-    parses(|cell| macaddr_from_sql(cell), &MAC)?;
+    parses(alloc, |cell| macaddr_from_sql(cell), &MAC)?;
     appends(alloc, |alloc, v, out| uuid_to_sql(alloc, v, out), &UUID)?;
-    parses(|cell| uuid_from_sql(cell), &UUID)
+    parses(alloc, |cell| uuid_from_sql(cell), &UUID)
 }
 
 #[test]
@@ -288,4 +293,104 @@ fn mac_addresses_of_other_bytes_are_different() -> Result<(), Fail> {
     let other = MacAddress::new([1, 2, 3, 4, 5, 7]);
     holds(same_mac_address(&address, &address), "different")?;
     holds(!same_mac_address(&address, &other), "equal")
+}
+
+#[test]
+fn addresses_take_no_memory(rt: HostRuntime) -> Result<(), Fail> {
+    let alloc = rt.alloc();
+    let alone = [2u8, 32, 0, 4, 10, 1, 2, 3];
+    takes_no_memory(alloc, &Type::INET, &[(ten(1, 2, 3), alone.as_slice())])?;
+    let host = [(IpInet::new(ten(1, 2, 3), 8)?, HOST.as_slice())];
+    takes_no_memory(alloc, &Type::INET, &host)?;
+    let network = [(IpCidr::new(ten(0, 0, 0), 8)?, NETWORK.as_slice())];
+    takes_no_memory(alloc, &Type::CIDR, &network)
+}
+
+#[test]
+fn mac_addresses_and_uuids_take_no_memory(rt: HostRuntime) -> Result<(), Fail> {
+    let alloc = rt.alloc();
+    let [(bytes, cell), ..] = MAC;
+    takes_no_memory(alloc, &Type::MACADDR, &[(MacAddress::new(bytes), cell)])?;
+    let uuid = Uuid::from_u128(0xa0eebc99_9c0b_4ef8_bb6d_6bb9bd380a11);
+    takes_no_memory(alloc, &Type::UUID, &[(uuid, UUID_CELL.as_slice())])
+}
+
+#[test]
+fn the_format_of_addresses_takes_no_memory(rt: HostRuntime) -> Result<(), Fail> {
+    answer_without_memory(rt.alloc(), |alloc, target| {
+        let Ok(inet) = inet_from_sql(&HOST) else {
+            return Err(Fault::user("inet_from_sql"));
+        };
+        yes(inet.addr() == ten(1, 2, 3) && inet.netmask() == 8, "Inet")?;
+        target.leave(8)?;
+        let appended = inet_to_sql(alloc, ten(1, 2, 3), 8, &mut target.out).is_ok();
+        yes(appended && target.has(&HOST), "inet_to_sql")
+    })
+}
+
+/// 0 is a netmask of IPv4; 127, 128 and 255 are none.
+const NETMASKS: Faults = [0, NETMASK, NETMASK, NETMASK];
+
+/// 10.1.2.3/8
+const INET: Sample = Sample {
+    cell: &[2, 8, 0, 4, 10, 1, 2, 3],
+    fronts: ALL_SIZE,
+    altered: &[
+        (1, [FAMILY; 4]),
+        (1, NETMASKS),
+        (1, [0; 4]),
+        (1, [ADDRESS_LENGTH; 4]),
+        (4, [0; 4]),
+    ],
+    longer: [SIZE; 4],
+};
+
+/// The same with host bits after the netmask, which a network has not: 10.0.0.0/8.
+const CIDR: Sample = Sample {
+    cell: &[2, 8, 0, 4, 10, 0, 0, 0],
+    fronts: ALL_SIZE,
+    altered: &[
+        (1, [FAMILY; 4]),
+        (1, [HOST_BITS, NETMASK, NETMASK, NETMASK]),
+        (1, [0; 4]),
+        (1, [ADDRESS_LENGTH; 4]),
+        (1, [0; 4]),
+        (3, [0, HOST_BITS, HOST_BITS, HOST_BITS]),
+    ],
+    longer: [SIZE; 4],
+};
+
+#[test]
+fn damaged_inets(rt: HostRuntime) -> Result<(), Fail> {
+    let alloc = rt.alloc();
+    let forms = forms_of(alloc, INET)?;
+    reads_all_forms::<IpInet>(alloc, (Type::INET, Type::INET_ARRAY), &forms, (44, 164))?;
+    reads_all_forms::<IpAddr>(alloc, (Type::INET, Type::INET_ARRAY), &forms, (44, 164))
+}
+
+#[test]
+fn damaged_cidrs(rt: HostRuntime) -> Result<(), Fail> {
+    let alloc = rt.alloc();
+    let forms = forms_of(alloc, CIDR)?;
+    reads_all_forms::<IpCidr>(alloc, (Type::CIDR, Type::CIDR_ARRAY), &forms, (44, 164))
+}
+
+#[test]
+fn damaged_mac_addresses(rt: HostRuntime) -> Result<(), Fail> {
+    let alloc = rt.alloc();
+    let forms = forms_of(alloc, fixed_width(&[8, 0, 0x2b, 1, 2, 3]))?;
+    reads_all_forms::<MacAddress>(
+        alloc,
+        (Type::MACADDR, Type::MACADDR_ARRAY),
+        &forms,
+        (34, 154),
+    )
+}
+
+#[test]
+fn damaged_uuids(rt: HostRuntime) -> Result<(), Fail> {
+    let alloc = rt.alloc();
+    let uuid = [1, 2, 3, 4, 5, 6, 7, 8, 9, 10, 11, 12, 13, 14, 15, 16];
+    let forms = forms_of(alloc, fixed_width(&uuid))?;
+    reads_all_forms::<Uuid>(alloc, (Type::UUID, Type::UUID_ARRAY), &forms, (84, 204))
 }

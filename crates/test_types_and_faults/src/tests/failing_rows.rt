@@ -2,8 +2,9 @@
 
 use postgres_types::{Fault, Type};
 use rows::{
-    accepts, code, debugs, displays, holds, read, reads, reads_back, refusal, refuses,
-    refuses_type, refuses_value, refuses_values, rewrites, same, spells, unix, writes, writes_null,
+    accepts, code, debugs, displays, holds, null_takes_no_memory, read, reads, reads_back, refusal,
+    refuses, refuses_type, refuses_value, refuses_values, rewrites, same, spells, takes_no_memory,
+    unix, writes, writes_by_room, writes_null,
 };
 use std::io::Eprint;
 use std::process::Termination;
@@ -100,4 +101,15 @@ fn a_row_of_another_text_fails(rt: HostRuntime) -> Result<(), Fail> {
 fn a_time_that_is_none_fails(rt: HostRuntime) -> Result<(), Fail> {
     let time = unix(0, 1_000_000_000);
     fails(&rt, time.map(|_| ()))
+}
+
+#[test]
+fn a_row_that_takes_memory_fails(rt: HostRuntime) -> Result<(), Fail> {
+    let (alloc, ty) = (rt.alloc(), Type::TEXT);
+    let borrowed = [("ab", b"ab".as_slice())];
+    takes_no_memory(alloc, &ty, &borrowed)?;
+    let owned = [(String::from_str(alloc, "ab")?, b"ab".as_slice())];
+    fails(&rt, takes_no_memory(alloc, &ty, &owned))?;
+    fails(&rt, writes_by_room(alloc, &ty, &"ab", b"abc"))?;
+    fails(&rt, null_takes_no_memory::<Option<i32>>(alloc, &Type::INT4))
 }

@@ -1,6 +1,6 @@
-//! Copies of types, kinds and fields, and the calls of bit strings, with ample memory.
+//! Copies of types, kinds and fields.
 
-use postgres_types::{BitVec, Field, Kind, Type};
+use postgres_types::{Field, Kind, Type};
 use rows::{holds, same, simple_type, user_type};
 use std::alloc::Global;
 use std::test::Fail;
@@ -53,22 +53,4 @@ fn kinds_and_types_are_copied(rt: HostRuntime) -> Result<(), Fail> {
 fn fields_are_copied(rt: HostRuntime) -> Result<(), Fail> {
     let field = field(rt.alloc())?;
     holds(field.try_clone(rt.alloc())? == field, "another field")
-}
-
-#[test]
-fn bits_are_made_and_copied(rt: HostRuntime) -> Result<(), Fail> {
-    let alloc = rt.alloc();
-    let mut bits = BitVec::from_bytes(alloc, &[0xa5])?;
-    bits.push(true)?;
-    same(bits.len(), 9)?;
-    same(bits.to_bytes(alloc)?.as_slice(), [0xa5u8, 0x80].as_slice())
-}
-
-#[test]
-fn many_bits_are_pushed(rt: HostRuntime) -> Result<(), Fail> {
-    let mut bits = BitVec::new(rt.alloc());
-    for _ in 0..1_000 {
-        bits.push(true)?;
-    }
-    same(bits.to_bytes(rt.alloc())?.len(), 125)
 }

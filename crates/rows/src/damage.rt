@@ -1,9 +1,9 @@
 //! A format's sample, the cells that damage makes of it, and reading them all.
 
+use crate::code::{COUNT, DIMENSIONS, SIZE, WAS_NULL};
+use crate::{fault_code, refusal, same};
 use postgres_types::private::read_value;
 use postgres_types::{FromSql, Type, from_sql_nullable};
-use rows::code::{COUNT, DIMENSIONS, SIZE, WAS_NULL};
-use rows::{fault_code, refusal, same};
 use std::alloc::Global;
 use std::test::Fail;
 

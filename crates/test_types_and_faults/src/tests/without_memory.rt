@@ -1,12 +1,12 @@
-//! Calls beside reading and writing of values, which take no memory.
+//! Calls that take no memory, beside reading and writing of values.
 
-use super::calls::{Answered, Target, answer_without_memory, gives, yes};
-use postgres_types::private::{BytesMut, read_be_i32};
+use postgres_types::private::{BytesMut, read_be_i32, read_value};
 use postgres_types::{
     BitVec, Fault, Format, FromSql, IsNull, PgLsn, ToSql, Type, rewrite, to_sql_checked_as,
 };
 use rows::code::WRONG_TYPE;
 use rows::fault_code;
+use rows::without_memory::{Answered, Target, answer_without_memory, gives, yes};
 use serde_json::Value;
 use std::alloc::Global;
 use std::collections::HashMap;
@@ -60,12 +60,26 @@ fn integers_and_positions() -> Answered {
     yes(u64::from(lsn) == 0x16_b374_d848, "PgLsn")
 }
 
+/// The frame of the text `ab`, and a trailing byte.
+const AB: &[u8] = &[0, 0, 0, 2, b'a', b'b', 9];
+
+/// Values are read from the front of a slice.
+fn first_values(alloc: Global) -> Answered {
+    let mut buf = AB;
+    let text = read_value::<&str>(alloc, &Type::TEXT, &mut buf);
+    yes(gives(text, "ab") && buf == [9u8].as_slice(), "read_value")?;
+    let mut buf: &[u8] = &[0xff; 4];
+    let null = read_value::<Option<i32>>(alloc, &Type::INT4, &mut buf);
+    yes(gives(null, None) && buf.is_empty(), "read_value of NULL")
+}
+
 #[test]
 fn types_and_positions_are_answered(rt: HostRuntime) -> Result<(), Fail> {
-    answer_without_memory(rt.alloc(), |_alloc, _target| {
+    answer_without_memory(rt.alloc(), |alloc, _target| {
         types()?;
         accepts()?;
         formats()?;
+        first_values(alloc)?;
         integers_and_positions()
     })
 }

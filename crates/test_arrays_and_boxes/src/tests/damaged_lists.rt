@@ -1,0 +1,94 @@
+//! Damaged cells of arrays, as lists of each kind.
+
+use super::cells::{NULL, ONE_AND_TWO};
+use postgres_types::private::read_value;
+use postgres_types::{Fault, Type};
+use rows::code::{COUNT, SIZE};
+use rows::damage::{
+    ALL_SIZE, all_fronts, damaged_rows, fixed_width, forms_of, reads_arrays, reads_damaged,
+};
+use rows::{reads, rewrites, same};
+use std::alloc::Global;
+use std::boxed::BoxedSlice;
+use std::test::Fail;
+
+/// A vector's cell is that of an array; the name of its type has no array form.
+#[test]
+fn damaged_vectors_of_int2s(rt: HostRuntime) -> Result<(), Fail> {
+    let forms = forms_of(rt.alloc(), fixed_width(&[0, 5]))?;
+    reads_arrays::<Vec<i16>>(rt.alloc(), Type::INT2_VECTOR, &forms, 134)
+}
+
+#[test]
+fn damaged_vectors_of_oids(rt: HostRuntime) -> Result<(), Fail> {
+    let forms = forms_of(rt.alloc(), fixed_width(&[0, 0, 0, 0x17]))?;
+    reads_arrays::<Vec<u32>>(rt.alloc(), Type::OID_VECTOR, &forms, 144)
+}
+
+#[test]
+fn damaged_arrays_in_other_lists(rt: HostRuntime) -> Result<(), Fail> {
+    let alloc = rt.alloc();
+    let forms = forms_of(alloc, fixed_width(&[0, 0, 0, 7]))?;
+    reads_arrays::<BoxedSlice<i32>>(alloc, Type::INT4_ARRAY, &forms, 144)?;
+    reads_arrays::<[i32; 1]>(alloc, Type::INT4_ARRAY, &forms, 144)?;
+    reads_arrays::<Box<Vec<i32>>>(alloc, Type::INT4_ARRAY, &forms, 144)
+}
+
+#[test]
+fn fronts_of_arrays(rt: HostRuntime) -> Result<(), Fail> {
+    let fronts = all_fronts(rt.alloc(), &ONE_AND_TWO, ALL_SIZE)?;
+    reads_damaged::<Vec<i32>>(rt.alloc(), Type::INT4_ARRAY, fronts.as_slice(), 36)
+}
+
+/// Two elements of at most 2,147,483,647, a negative number of dimensions, and no dimension with a trailing byte.
+const ARRAYS: [(&[u8], u32); 3] = [
+    (
+        b"\0\0\0\x01\0\0\0\0\0\0\0\x17\x7f\xff\xff\xff\0\0\0\x01",
+        SIZE,
+    ),
+    (b"\x80\0\0\0", COUNT),
+    (b"\0\0\0\0\0\0\0\0\0\0\0\x17\0", SIZE),
+];
+
+#[test]
+fn other_arrays_are_refused(rt: HostRuntime) -> Result<(), Fail> {
+    let cells = damaged_rows(rt.alloc(), &ARRAYS)?;
+    reads_damaged::<Vec<i32>>(rt.alloc(), Type::INT4_ARRAY, cells.as_slice(), 3)
+}
+
+/// The array of NULL, whose length is 80000000.
+const LEAST_LENGTH: [u8; 24] = [
+    0, 0, 0, 1, 0, 0, 0, 1, 0, 0, 0, 0x17, 0, 0, 0, 1, 0, 0, 0, 1, 0x80, 0, 0, 0,
+];
+
+#[test]
+fn every_negative_length_of_an_element_is_null(rt: HostRuntime) -> Result<(), Fail> {
+    let alloc = rt.alloc();
+    let ty = &Type::INT4_ARRAY;
+    let list = vec![in alloc; None::<i32>]?;
+    reads(alloc, ty, &LEAST_LENGTH, list)?;
+    rewrites::<Vec<Option<i32>>>(alloc, ty, &LEAST_LENGTH, &NULL)
+}
+
+/// The frame of an array, and a trailing byte. The last element's length is 4 or 5.
+fn framed(last_len: u8) -> [u8; 41] {
+    [
+        0, 0, 0, 0x24, 0, 0, 0, 1, 0, 0, 0, 0, 0, 0, 0, 0x17, 0, 0, 0, 2, 0, 0, 0, 1, 0, 0, 0, 4,
+        0, 0, 0, 1, 0, 0, 0, last_len, 0, 0, 0, 2, 0xaa,
+    ]
+}
+
+/// Reading a list from the front of the bytes gives it, or the fault of that number, and leaves the trailing byte.
+fn takes(alloc: Global, bytes: &[u8], answer: Result<Vec<i32>, u32>) -> Result<(), Fail> {
+    let mut buf = bytes;
+    let found: Result<Vec<i32>, Fault> = read_value(alloc, &Type::INT4_ARRAY, &mut buf);
+    same(found.map_err(|fault| fault.code()), answer)?;
+    same(buf, &[0xaa])
+}
+
+#[test]
+fn arrays_are_read_from_the_front(rt: HostRuntime) -> Result<(), Fail> {
+    let list = Vec::from_slice(rt.alloc(), &[1i32, 2])?;
+    takes(rt.alloc(), &framed(4), Ok(list))?;
+    takes(rt.alloc(), &framed(5), Err(SIZE))
+}
