@@ -1,13 +1,23 @@
-//! Work of which `bench/compare` takes the time: lists and parameters, written and read.
+//! Work of which `scripts/bench` takes the time: each conversion, rows of several columns, parameters, documents, and types.
 //!
-//! `bench_arrays CASE TURNS` does a case so many times, and prints its name and the checksum of what
-//! it made. Without arguments it does each case once.
+//! `benchmark CASE TURNS` does a case so many times, and prints its name and the checksum of what it made. Without arguments
+//! it does each case once, but for those of a megabyte and more.
 #![tactic(auto)]
 
 mod cases;
-mod reading;
+mod dates;
+mod documents;
+mod lists;
+mod maps;
+mod numbers;
+mod records;
+mod rows;
+mod small_values;
+mod sum;
+mod texts;
+mod types;
 mod values;
-mod writing;
+mod work;
 
 use anyhow::{Context, Result};
 use std::alloc::Global;

@@ -1,0 +1,166 @@
+//! The cases by their names.
+
+use crate::work::{Way, Work};
+use crate::{dates, documents, lists, maps, numbers, records, rows, small_values, texts, types};
+use postgres_types::Fault;
+use std::alloc::Global;
+
+/// The names of the cases, but for those of a megabyte and more. A conversion is read and written.
+pub const NAMES: [&str; 85] = [
+    "read-bool",
+    "write-bool",
+    "read-char",
+    "write-char",
+    "read-int2",
+    "write-int2",
+    "read-int4",
+    "write-int4",
+    "read-int8",
+    "write-int8",
+    "read-oid",
+    "write-oid",
+    "read-pg_lsn",
+    "write-pg_lsn",
+    "read-int4?",
+    "write-int4?",
+    "read-text",
+    "write-text",
+    "read-text-borrowed",
+    "write-text-borrowed",
+    "read-ltree",
+    "write-ltree",
+    "read-bytea",
+    "write-bytea",
+    "read-bytea-borrowed",
+    "write-bytea-borrowed",
+    "read-varbit",
+    "write-varbit",
+    "read-addr",
+    "write-addr",
+    "read-inet",
+    "write-inet",
+    "read-cidr",
+    "write-cidr",
+    "read-macaddr",
+    "write-macaddr",
+    "read-uuid",
+    "write-uuid",
+    "read-date",
+    "write-date",
+    "read-date_inf",
+    "write-date_inf",
+    "read-time",
+    "write-time",
+    "read-timestamp",
+    "write-timestamp",
+    "read-timestamptz",
+    "write-timestamptz",
+    "read-unix",
+    "write-unix",
+    "read-unix_inf",
+    "write-unix_inf",
+    "read-interval",
+    "write-interval",
+    "read-hstore-5",
+    "write-hstore-5",
+    "read-hstore-1000",
+    "write-hstore-1000",
+    "read-jsonb-1kB",
+    "write-jsonb-1kB",
+    "read-jsonb-100kB",
+    "write-jsonb-100kB",
+    "read-item",
+    "write-item",
+    "read-int4[]-10",
+    "write-int4[]-10",
+    "read-int4[]-1000",
+    "write-int4[]-1000",
+    "read-int4[]-100000",
+    "write-int4[]-100000",
+    "read-text[]-1000",
+    "write-text[]-1000",
+    "read-int4[][]-1000x100",
+    "write-int4[][]-1000x100",
+    "read-int4-array-10",
+    "write-int4-array-10",
+    "row-8",
+    "values-8",
+    "params-8",
+    "rewrite-int4",
+    "rewrite-text",
+    "type-clone",
+    "type-clone-user",
+    "type-eq",
+    "type-from_oid",
+];
+
+/// Does the case so many times: the checksum of what it made, or `None` where there is no such case.
+pub fn run(alloc: Global, name: &str, turns: u32) -> Result<Option<u64>, Fault> {
+    if let Some(conversion) = name.strip_prefix("read-") {
+        return run_conversion(
+            conversion,
+            Work {
+                alloc,
+                way: Way::Read,
+                turns,
+            },
+        );
+    }
+    if let Some(conversion) = name.strip_prefix("write-") {
+        return run_conversion(
+            conversion,
+            Work {
+                alloc,
+                way: Way::Write,
+                turns,
+            },
+        );
+    }
+    run_other(
+        name,
+        Work {
+            alloc,
+            way: Way::Read,
+            turns,
+        },
+    )
+}
+
+/// Reads or writes values by the conversion of that name.
+fn run_conversion(name: &str, work: Work) -> Result<Option<u64>, Fault> {
+    if let Some(sum) = numbers::run(name, work)? {
+        return Ok(Some(sum));
+    }
+    if let Some(sum) = texts::run(name, work)? {
+        return Ok(Some(sum));
+    }
+    if let Some(sum) = small_values::run(name, work)? {
+        return Ok(Some(sum));
+    }
+    if let Some(sum) = dates::run(name, work)? {
+        return Ok(Some(sum));
+    }
+    run_compound(name, work)
+}
+
+/// The same of conversions of values that hold others.
+fn run_compound(name: &str, work: Work) -> Result<Option<u64>, Fault> {
+    if let Some(sum) = maps::run(name, work)? {
+        return Ok(Some(sum));
+    }
+    if let Some(sum) = documents::run(name, work)? {
+        return Ok(Some(sum));
+    }
+    if let Some(sum) = lists::run(name, work)? {
+        return Ok(Some(sum));
+    }
+    records::run(name, work)
+}
+
+/// Does a case that is of no conversion.
+fn run_other(name: &str, work: Work) -> Result<Option<u64>, Fault> {
+    if let Some(sum) = rows::run(name, work)? {
+        return Ok(Some(sum));
+    }
+    types::run(name, work)
+}

@@ -1,0 +1,68 @@
+//! The values of the cases, which follow one another without a pattern.
+
+use postgres_types::Fault;
+use std::alloc::Global;
+
+/// How many values a case of a conversion has.
+pub const COUNT: u32 = 1_000;
+
+/// What a value is made of.
+#[derive(Debug, Clone, Copy)]
+pub struct Seed {
+    /// The value's place, from 0.
+    pub place: u32,
+    /// A number without a pattern.
+    pub number: i32,
+}
+
+impl Seed {
+    /// The first seed.
+    pub fn first() -> Seed {
+        Seed {
+            place: 0,
+            number: 1,
+        }
+    }
+
+    /// The seed after this one.
+    pub fn next(self) -> Seed {
+        Seed {
+            place: self.place.wrapping_add(1),
+            number: self.number.wrapping_mul(1_103_515_245).wrapping_add(12_345),
+        }
+    }
+
+    /// The number's bytes, big-endian.
+    pub fn bytes(self) -> [u8; 4] {
+        self.number.to_be_bytes()
+    }
+
+    /// The number's bytes, twice.
+    pub fn twice(self) -> [u8; 8] {
+        let [a, b, c, d] = self.bytes();
+        [a, b, c, d, a, b, c, d]
+    }
+
+    /// A text with the place.
+    pub fn text(self, alloc: Global) -> Result<String, Fault> {
+        let place = self.place;
+        Ok(format!(in alloc; "text {place}")?)
+    }
+}
+
+/// So many values, each made of its seed.
+pub fn values<T: Drop, F: Fn(Seed) -> Result<T, Fault>>(
+    alloc: Global,
+    count: u32,
+    make: F,
+) -> Result<Vec<T>, Fault>
+    requires { F.IsAlwaysCallable make }
+{
+    let mut values = Vec::new(alloc);
+    let mut seed = Seed::first();
+    for _ in 0..count {
+        values.push(make(seed)?)?;
+        seed = seed.next();
+    }
+    Ok(values)
+}
