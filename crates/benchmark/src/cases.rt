@@ -1,7 +1,7 @@
 //! The cases by their names.
 
 use crate::work::{Way, Work};
-use crate::{dates, documents, lists, maps, numbers, records, rows, small_values, texts, types};
+use crate::{columns, dates, documents, lists, maps, numbers, records, small_values, texts, types};
 use postgres_types::Fault;
 use std::alloc::Global;
 
@@ -159,7 +159,7 @@ fn run_compound(name: &str, work: Work) -> Result<Option<u64>, Fault> {
 
 /// Does a case that is of no conversion.
 fn run_other(name: &str, work: Work) -> Result<Option<u64>, Fault> {
-    if let Some(sum) = rows::run(name, work)? {
+    if let Some(sum) = columns::run(name, work)? {
         return Ok(Some(sum));
     }
     types::run(name, work)

@@ -5,13 +5,13 @@
 #![tactic(auto)]
 
 mod cases;
+mod columns;
 mod dates;
 mod documents;
 mod lists;
 mod maps;
 mod numbers;
 mod records;
-mod rows;
 mod small_values;
 mod sum;
 mod texts;

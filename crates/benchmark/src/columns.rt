@@ -4,7 +4,7 @@ use crate::sum::{mix, mix_bytes};
 use crate::values::{COUNT, values};
 use crate::work::{Work, frames_of};
 use postgres_types::private::{BytesMut, read_value, read_values};
-use postgres_types::{Fault, Paired, ToSql, Type, params_to_sql, rewrite};
+use postgres_types::{Fault, Paired, ToSql, Type, frame_value, params_to_sql, rewrite};
 use std::alloc::Global;
 
 /// Does the case of that name, where it is of this file.
@@ -20,11 +20,12 @@ pub fn run(name: &str, work: Work) -> Result<Option<u64>, Fault> {
     Ok(Some(sum))
 }
 
-/// The eight parameters, of which the fifth is NULL.
-fn params(alloc: Global) -> Result<[Box<dyn ToSql>; 8], Fault> {
+/// Writes the frames of eight parameters, of which the fifth is NULL.
+fn bind(work: Work) -> Result<u64, Fault> {
+    let alloc = work.alloc;
     let name = String::from_str(alloc, "a name")?;
     let text = String::from_str(alloc, "a longer text of a parameter")?;
-    Ok([
+    let params: [Box<dyn ToSql>; 8] = [
         Box::new(alloc, 1_000_000i32)?,
         Box::new(alloc, -5_000_000_000i64)?,
         Box::new(alloc, true)?,
@@ -33,47 +34,54 @@ fn params(alloc: Global) -> Result<[Box<dyn ToSql>; 8], Fault> {
         Box::new(alloc, name)?,
         Box::new(alloc, 77i16)?,
         Box::new(alloc, text)?,
-    ])
+    ];
+    bind_turns(work, &params)
 }
 
-/// Their types.
-const TYPES: [Type; 8] = [
-    Type::INT4,
-    Type::INT8,
-    Type::BOOL,
-    Type::OID,
-    Type::INT4,
-    Type::TEXT,
-    Type::INT2,
-    Type::TEXT,
-];
-
-/// Writes the frames of the parameters.
-fn bind_once(
-    alloc: Global,
-    params: &[Box<dyn ToSql>; 8],
-    types: &[Type; 8],
-    out: &mut BytesMut,
-) -> Result<(), Fault> {
-    match params_to_sql(alloc, params, types, out) {
-        Ok(()) => Ok(()),
-        Err((_, fault)) => Err(fault),
-    }
-}
-
-fn bind(work: Work) -> Result<u64, Fault> {
-    let params = params(work.alloc)?;
+/// Writes the frames of the parameters so many times, each time into the same buffer.
+fn bind_turns(work: Work, params: &[Box<dyn ToSql>; 8]) -> Result<u64, Fault> {
+    let types = [
+        Type::INT4,
+        Type::INT8,
+        Type::BOOL,
+        Type::OID,
+        Type::INT4,
+        Type::TEXT,
+        Type::INT2,
+        Type::TEXT,
+    ];
     let mut out = BytesMut::new(work.alloc);
     let mut sum = 0;
     for _ in 0..work.turns {
         out.clear();
-        bind_once(work.alloc, &params, &TYPES, &mut out)?;
+        if let Err((_, fault)) = params_to_sql(work.alloc, params, &types, &mut out) {
+            return Err(fault);
+        }
         sum = mix(sum, out.len() as u64);
     }
     Ok(mix_bytes(sum, out.as_slice()))
 }
 
-/// Reads the row of the parameters: the sum of what its columns hold.
+/// The frames of the same values.
+fn row(alloc: Global) -> Result<BytesMut, Fault> {
+    let mut out = BytesMut::new(alloc);
+    frame_value(alloc, &1_000_000i32, &Type::INT4, &mut out)?;
+    frame_value(alloc, &-5_000_000_000i64, &Type::INT8, &mut out)?;
+    frame_value(alloc, &true, &Type::BOOL, &mut out)?;
+    frame_value(alloc, &4_000_000_000u32, &Type::OID, &mut out)?;
+    frame_value(alloc, &None::<i32>, &Type::INT4, &mut out)?;
+    frame_value(alloc, &"a name", &Type::TEXT, &mut out)?;
+    frame_value(alloc, &77i16, &Type::INT2, &mut out)?;
+    frame_value(
+        alloc,
+        &"a longer text of a parameter",
+        &Type::TEXT,
+        &mut out,
+    )?;
+    Ok(out)
+}
+
+/// Reads the row: the sum of what its columns hold.
 fn read_row(alloc: Global, row: &[u8]) -> Result<u64, Fault> {
     let mut buf = row;
     let first: i32 = read_value(alloc, &Type::INT4, &mut buf)?;
@@ -104,9 +112,7 @@ fn read_last_columns(alloc: Global, columns: &[u8], sum: u64) -> Result<u64, Fau
 }
 
 fn read_rows(work: Work) -> Result<u64, Fault> {
-    let params = params(work.alloc)?;
-    let mut row = BytesMut::new(work.alloc);
-    bind_once(work.alloc, &params, &TYPES, &mut row)?;
+    let row = row(work.alloc)?;
     let mut sum = 0;
     for _ in 0..work.turns {
         sum = mix(sum, read_row(work.alloc, row.as_slice())?);
