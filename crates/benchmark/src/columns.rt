@@ -2,12 +2,12 @@
 
 use crate::sum::{mix, mix_bytes};
 use crate::values::{COUNT, values};
-use crate::work::{Work, frames_of};
+use crate::work::{Work, frames_of, stated};
 use postgres_types::private::{BytesMut, read_value, read_values};
 use postgres_types::{Fault, Paired, ToSql, Type, frame_value, params_to_sql, rewrite};
 use std::alloc::Global;
 
-/// Does the case of that name, where it is of this file.
+/// Does the case of that name, where it is of this file: there are as many parameters as a name states.
 pub fn run(name: &str, work: Work) -> Result<Option<u64>, Fault> {
     let sum = match name {
         "row-8" => read_rows(work)?,
@@ -15,9 +15,27 @@ pub fn run(name: &str, work: Work) -> Result<Option<u64>, Fault> {
         "params-8" => bind(work)?,
         "rewrite-int4" => rewrite_numbers(work)?,
         "rewrite-text" => rewrite_texts(work)?,
-        _ => return Ok(None),
+        _ => return bind_stated(name, work),
     };
     Ok(Some(sum))
+}
+
+fn bind_stated(name: &str, work: Work) -> Result<Option<u64>, Fault> {
+    match stated(name, "params-") {
+        Some(count) => Ok(Some(bind_many(work, count)?)),
+        None => Ok(None),
+    }
+}
+
+/// Writes the frames of so many parameters, each a number.
+fn bind_many(work: Work, count: u32) -> Result<u64, Fault> {
+    let mut params: Vec<Box<dyn ToSql>> = Vec::new(work.alloc);
+    let mut types = Vec::new(work.alloc);
+    for place in 0..count {
+        params.push(Box::new(work.alloc, i64::from(place))?)?;
+        types.push(Type::INT8)?;
+    }
+    bind_turns(work, params.as_slice(), types.as_slice())
 }
 
 /// Writes the frames of eight parameters, of which the fifth is NULL.
@@ -35,11 +53,6 @@ fn bind(work: Work) -> Result<u64, Fault> {
         Box::new(alloc, 77i16)?,
         Box::new(alloc, text)?,
     ];
-    bind_turns(work, &params)
-}
-
-/// Writes the frames of the parameters so many times, each time into the same buffer.
-fn bind_turns(work: Work, params: &[Box<dyn ToSql>; 8]) -> Result<u64, Fault> {
     let types = [
         Type::INT4,
         Type::INT8,
@@ -50,11 +63,19 @@ fn bind_turns(work: Work, params: &[Box<dyn ToSql>; 8]) -> Result<u64, Fault> {
         Type::INT2,
         Type::TEXT,
     ];
+    bind_turns(work, &params, &types)
+}
+
+/// Writes the frames of the parameters so many times, each time into the same buffer.
+fn bind_turns(work: Work, params: &[Box<dyn ToSql>], types: &[Type]) -> Result<u64, Fault> {
+    if params.len() != types.len() {
+        return Err(Fault::user("not as many types as parameters"));
+    }
     let mut out = BytesMut::new(work.alloc);
     let mut sum = 0;
     for _ in 0..work.turns {
         out.clear();
-        if let Err((_, fault)) = params_to_sql(work.alloc, params, &types, &mut out) {
+        if let Err((_, fault)) = params_to_sql(work.alloc, params, types, &mut out) {
             return Err(fault);
         }
         sum = mix(sum, out.len() as u64);

@@ -1,13 +1,17 @@
 //! JSON documents.
 
 use crate::values::{Seed, values};
-use crate::work::{Way, Work, frames_of, measure, read_turns, write_turns};
+use crate::work::{Way, Work, frames_of, measure, read_turns, stated, write_turns};
 use postgres_types::{Fault, Type};
 use serde_json::{Value, json};
 use std::alloc::Global;
 
-/// Does the case of that name, where it is of this file.
+/// Does the case of that name, where it is of this file: a document has as many objects as its name states, or is of about
+/// that size.
 pub fn run(name: &str, work: Work) -> Result<Option<u64>, Fault> {
+    if let Some(count) = stated(name, "jsonb-") {
+        return Ok(Some(documents(work, count)?));
+    }
     let sum = match name {
         "jsonb-1kB" => documents(work, 12)?,
         "jsonb-100kB" => documents(work, 1_150)?,

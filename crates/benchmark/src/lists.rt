@@ -1,18 +1,19 @@
 //! Lists and arrays.
 
 use crate::values::{Seed, values};
-use crate::work::{Way, Work, frames_of, measure, read_turns, write_turns};
+use crate::work::{Way, Work, frames_of, measure, read_turns, stated, write_turns};
 use postgres_types::{Fault, Kind, Type};
 use std::alloc::Global;
 
-/// Does the case of that name, where it is of this file.
+/// Does the case of that name, where it is of this file: a list has as many elements as its name states.
 pub fn run(name: &str, work: Work) -> Result<Option<u64>, Fault> {
+    if let Some(count) = stated(name, "int4[]-") {
+        return Ok(Some(numbers(work, count)?));
+    }
+    if let Some(count) = stated(name, "text[]-") {
+        return Ok(Some(texts(work, count)?));
+    }
     let sum = match name {
-        "int4[]-10" => numbers(work, 10)?,
-        "int4[]-1000" => numbers(work, 1_000)?,
-        "int4[]-100000" => numbers(work, 100_000)?,
-        "int4[]-1000000" => numbers(work, 1_000_000)?,
-        "text[]-1000" => texts(work, 1_000)?,
         "int4[][]-1000x100" => nested(work, 1_000, 100)?,
         "int4-array-10" => arrays(work)?,
         _ => return Ok(None),

@@ -1,21 +1,19 @@
 //! Maps of texts, as hstore.
 
 use crate::values::{Seed, values};
-use crate::work::{Way, Work, frames_of, measure, read_turns, write_turns};
+use crate::work::{Way, Work, frames_of, measure, read_turns, stated, write_turns};
 use postgres_types::{Fault, Kind, Type};
 use std::alloc::Global;
 use std::collections::HashMap;
 
 type Map = HashMap<String, Option<String>>;
 
-/// Does the case of that name, where it is of this file.
+/// Does the case of that name, where it is of this file: a map has as many entries as its name states.
 pub fn run(name: &str, work: Work) -> Result<Option<u64>, Fault> {
-    let sum = match name {
-        "hstore-5" => maps(work, 5)?,
-        "hstore-1000" => maps(work, 1_000)?,
-        _ => return Ok(None),
-    };
-    Ok(Some(sum))
+    match stated(name, "hstore-") {
+        Some(entries) => Ok(Some(maps(work, entries)?)),
+        None => Ok(None),
+    }
 }
 
 /// A map of so many entries, of which every eighth value is NULL.

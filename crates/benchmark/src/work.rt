@@ -20,6 +20,11 @@ pub struct Work {
     pub turns: u32,
 }
 
+/// How many items a name states after that prefix.
+pub fn stated(name: &str, prefix: &str) -> Option<u32> {
+    name.strip_prefix(prefix)?.parse().ok()
+}
+
 /// The values' frames, one after another.
 pub fn frames_of<T: ToSql>(alloc: Global, values: &[T], ty: &Type) -> Result<BytesMut, Fault> {
     let mut out = BytesMut::new(alloc);

@@ -1,0 +1,77 @@
+"""The cases of crates/benchmark that scripts/bench measures: conversions, rows, parameters and types."""
+import os
+
+from measuring import TOP, Program, Work, compare, counts_of, plain_rust, row, said_of, shown, table, times_of
+
+CRATE = f"{TOP}/crates/benchmark"
+# Conversions that are read and written, and how many items a turn of theirs has: values, entries, elements, or bytes.
+CONVERSIONS = {
+    **dict.fromkeys(["bool", "char", "int2", "int4", "int8", "oid", "pg_lsn", "int4?"], 1_000),
+    **dict.fromkeys(["text", "text-borrowed", "ltree", "bytea", "bytea-borrowed", "varbit"], 1_000),
+    **dict.fromkeys(["addr", "inet", "cidr", "macaddr", "uuid"], 1_000),
+    **dict.fromkeys(["date", "date_inf", "time", "timestamp", "timestamptz", "unix", "unix_inf", "interval"], 1_000),
+    "hstore-5": 5,
+    "hstore-1000": 1_000,
+    "jsonb-1kB": 1_000,
+    "jsonb-100kB": 100_000,
+    "jsonb-10MB": 10_000_000,
+    "item": 1_000,
+    "int4[]-10": 10,
+    "int4[]-1000": 1_000,
+    "int4[]-100000": 100_000,
+    "int4[]-1000000": 1_000_000,
+    "text[]-1000": 1_000,
+    "int4[][]-1000x100": 100_000,
+    "int4-array-10": 10,
+}
+# The other cases: columns, parameters, cells, copies, comparisons, or OIDs.
+OTHERS = {
+    "row-8": 8,
+    "values-8": 8,
+    "params-8": 8,
+    "rewrite-int4": 1_000,
+    "rewrite-text": 1_000,
+    "type-clone": 1,
+    "type-clone-user": 1,
+    "type-eq": 8,
+    "type-from_oid": 1,
+}
+CASES = {**{f"{way}-{name}": items for name, items in CONVERSIONS.items() for way in ("read", "write")}, **OTHERS}
+# How many items are measured in a run, and how many are counted by valgrind, at least in one turn.
+ITEMS = 5_000_000
+COUNTED = 20_000
+
+
+def work_of(case, turns):
+    return Work((case, str(turns)))
+
+
+def built(given, folder):
+    """Returns the library's program, which is proved and built first where it is not given, and plain Rust."""
+    if not given:
+        said_of(["rt", "run", "--jobs", str(os.cpu_count()), "--", "read-int4", "1"], CRATE)
+    return [Program(given or f"{CRATE}/out/benchmark"), plain_rust("plain", folder)]
+
+
+def row_of(programs, case):
+    """Returns the row of a case."""
+    items = CASES[case]
+    turns = max(1, ITEMS // items)
+    times, printed = times_of(programs, work_of(case, 1), work_of(case, 1 + turns), turns)
+    compare(case, printed)
+    turns = max(1, COUNTED // items)
+    counts = [counts_of(program, work_of(case, 1), work_of(case, 1 + turns), turns) for program in programs]
+    instructions, allocations = zip(*counts)
+    each = [it and it / items for it in instructions]
+    return row(case, [time / items for time in times], [shown(it, 1) for it in each], [shown(it, 0) for it in allocations])
+
+
+def show_table(programs, cases, _folder):
+    table("case", "an item", "a turn", (row_of(programs, case) for case in cases))
+
+
+def smoke(programs, cases, _folder):
+    """Does each case once by each program."""
+    for case in cases:
+        compare(case, [program.run(work_of(case, 3))[1] for program in programs])
+    print(f"bench: {len(cases)} cases have the checksums of plain Rust")

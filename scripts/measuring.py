@@ -1,0 +1,126 @@
+"""Programs that scripts/bench runs: how long they take, what they print, and what valgrind counts of them."""
+import os
+import re
+import shutil
+import subprocess
+import sys
+from dataclasses import dataclass
+from itertools import zip_longest
+
+TOP = os.path.dirname(os.path.dirname(os.path.abspath(__file__)))
+# One unit, so that how plain Rust is divided into files does not decide what is inlined.
+RUSTC = ["rustc", "--edition", "2024", "-C", "opt-level=3", "-C", "codegen-units=1", "-C", "target-cpu=x86-64-v2"]
+ROUNDS = 5
+
+
+@dataclass(frozen=True)
+class Work:
+    """What a program is asked to do: by words, and by a file that it reads."""
+    words: tuple = ()
+    source: str = os.devnull
+
+
+@dataclass(frozen=True)
+class Program:
+    path: str
+
+    def done(self, work, is_kept=True):
+        """Does the work: what the process used, and what it printed where that is kept."""
+        with open(work.source, "rb") as source:
+            sink = subprocess.PIPE if is_kept else subprocess.DEVNULL
+            child = subprocess.Popen([self.path, *work.words], stdin=source, stdout=sink)
+        printed = child.stdout.read() if is_kept else b""
+        _, status, usage = os.wait4(child.pid, 0)
+        child.returncode = os.waitstatus_to_exitcode(status)
+        if child.returncode:
+            sys.exit(f"bench: {' '.join([self.path, *work.words])} failed")
+        return usage, printed
+
+    def run(self, work, is_kept=True):
+        """Does the work: the processor time of the process in nanoseconds, and what it printed where that is kept."""
+        usage, printed = self.done(work, is_kept)
+        return (usage.ru_utime + usage.ru_stime) * 1e9, printed
+
+    def resident(self, work):
+        """Does the work: the most bytes that the process had resident."""
+        return self.done(work, is_kept=False)[0].ru_maxrss * 1024
+
+    def counts(self, work):
+        """Returns how many instructions and how many allocations valgrind counts in the work."""
+        command = [self.path, *work.words]
+        cachegrind = ["--tool=cachegrind", "--cache-sim=no", "--cachegrind-out-file=/dev/null"]
+        instructions = said_of(["valgrind", *cachegrind, *command], source=work.source)
+        allocations = said_of(["valgrind", *command], source=work.source)
+        return number(r"I\s+refs:\s+([\d,]+)", instructions), number(r"total heap usage: ([\d,]+) allocs", allocations)
+
+
+def said_of(command, folder=TOP, source=os.devnull):
+    """Runs a command on a file, and answers what it wrote; a failure ends the script."""
+    with open(source, "rb") as lines:
+        ran = subprocess.run(command, cwd=folder, stdin=lines, capture_output=True, text=True, check=False)
+    if ran.returncode:
+        sys.exit(f"{ran.stdout}{ran.stderr}bench: {' '.join(command)} failed")
+    return ran.stdout + ran.stderr
+
+
+def number(pattern, text):
+    return int(re.search(pattern, text)[1].replace(",", ""))
+
+
+def plain_rust(name, folder):
+    """Builds a program of plain Rust in a folder."""
+    said_of([*RUSTC, "-o", f"{folder}/{name}", f"{TOP}/bench/{name}.rs"])
+    return Program(f"{folder}/{name}")
+
+
+def compare(name, printed):
+    """Ends the script at the first line that one program printed and the other did not."""
+    if len(set(printed)) > 1:
+        lines = zip_longest(*(text.split(b"\n") for text in printed))
+        ours, plain = next(pair for pair in lines if len(set(pair)) > 1)
+        sys.exit(f"bench: {name}: {ours!r}, and by plain Rust {plain!r}")
+
+
+def measured(programs, work, is_kept=True):
+    """Does the work by each program in turn: the least times, and what each printed last."""
+    times, printed = [[] for _ in programs], [b""] * len(programs)
+    for _ in range(ROUNDS):
+        for place, program in enumerate(programs):
+            time, printed[place] = program.run(work, is_kept)
+            times[place].append(time)
+    return [min(each) for each in times], printed
+
+
+def times_of(programs, once, often, turns, is_kept=True):
+    """Returns the time of a turn by each program, without that of a run of one turn, and what they printed."""
+    base, _ = measured(programs, once, is_kept)
+    times, printed = measured(programs, often, is_kept)
+    return [(whole - one) / turns for whole, one in zip(times, base)], printed
+
+
+def counts_of(program, once, often, turns):
+    """Returns the instructions and the allocations of a turn, or nothing where valgrind is not there."""
+    if not shutil.which("valgrind"):
+        return None, None
+    return [(last - first) / turns for last, first in zip(program.counts(often), program.counts(once))]
+
+
+def shown(count, digits):
+    return "-" if count is None else f"{count:,.{digits}f}"
+
+
+def row(name, times, instructions, allocations):
+    """Returns a row of the table; of each pair the first is of the program, and the other of plain Rust."""
+    ours, plain = times
+    cells = [name, f"{ours:.2f}", f"{plain:.2f}", f"{ours / plain:.2f}", *instructions, *allocations]
+    return f"| {' | '.join(cells)} |"
+
+
+def table(case, item, turn, rows):
+    """Prints the table of the rows, as each is measured."""
+    load = os.getloadavg()[0]
+    head = [case, f"ns {item}", "plain Rust", "ratio", f"instructions {item}", "plain Rust", f"allocations {turn}", "plain Rust"]
+    print(f"| {' | '.join(head)} |\n{'|---' * len(head)}|")
+    for line in rows:
+        print(line, flush=True)
+    print(f"\n{os.cpu_count()} processors; load {load:.1f} before, {os.getloadavg()[0]:.1f} after.")
