@@ -1,0 +1,2 @@
+-- The words of this crate's contracts.
+pub mod Tuples

@@ -1,0 +1,114 @@
+//! Why a COPY stopped.
+
+use postgres_types::Fault;
+use std::alloc::{AllocError, AllocFailed};
+use std::error::Error;
+use std::fmt;
+
+/// A row, counted from 1, by what it is read from.
+#[derive(Debug, Clone, Copy, PartialEq, Eq)]
+pub enum Row {
+    /// A tuple of a binary COPY.
+    Tuple(u64),
+    /// A line of text.
+    Line(u64),
+}
+
+impl fmt::Display for Row {
+    fn fmt<W: fmt::Write>(&self, f: &mut fmt::Formatter<W>) -> fmt::Result {
+        match self {
+            Row::Tuple(number) => write!(f, "row {number}"),
+            Row::Line(number) => write!(f, "line {number}"),
+        }
+    }
+}
+
+/// Why a COPY stopped before its end. Columns are counted from 1.
+#[derive(Debug, Drop)]
+pub enum CopyFault {
+    /// The input could not be read.
+    Read,
+    /// The output could not be written.
+    Write,
+    /// Memory was refused.
+    Memory,
+    /// The input does not begin as a binary COPY does.
+    Signature,
+    /// The tuples have OIDs, as those of servers before version 12 could.
+    Oids,
+    /// A critical flag that is not known.
+    Flags,
+    /// The length of the header extension is negative.
+    Extension,
+    /// The input ends before the trailer.
+    Truncated,
+    /// Bytes come after the trailer.
+    Trailing,
+    /// There are more columns than two bytes can say.
+    TooManyColumns,
+    /// A row has another number of columns than there are types.
+    Columns {
+        row: Row,
+        expected: usize,
+        got: i64,
+    },
+    /// The length of a field is negative, and not that of NULL.
+    Length {
+        row: Row,
+        column: usize,
+    },
+    /// A value is refused.
+    Value {
+        row: Row,
+        column: usize,
+        fault: Fault,
+    },
+}
+
+impl fmt::Display for CopyFault {
+    fn fmt<W: fmt::Write>(&self, f: &mut fmt::Formatter<W>) -> fmt::Result {
+        match self {
+            CopyFault::Read => write!(f, "the input cannot be read"),
+            CopyFault::Write => write!(f, "the output cannot be written"),
+            CopyFault::Memory => write!(f, "out of memory"),
+            CopyFault::Signature => write!(f, "the input is no binary COPY"),
+            CopyFault::Oids => write!(f, "a COPY with OIDs is not read"),
+            CopyFault::Flags => write!(f, "the header has an unknown critical flag"),
+            CopyFault::Extension => write!(f, "the header extension has a negative length"),
+            CopyFault::Truncated => write!(f, "the input ends before the trailer"),
+            CopyFault::Trailing => write!(f, "bytes come after the trailer"),
+            CopyFault::TooManyColumns => write!(f, "more columns than a COPY can have"),
+            CopyFault::Columns { row, expected, got } => {
+                write!(f, "{row}: {got} columns in place of {expected}")
+            }
+            CopyFault::Length { row, column } => {
+                write!(f, "{row}, column {column}: negative length")
+            }
+            CopyFault::Value { row, column, fault } => {
+                write!(f, "{row}, column {column}: {fault}")
+            }
+        }
+    }
+}
+
+impl Error for CopyFault {}
+
+impl From<AllocError> for CopyFault {
+    fn from(_error: AllocError) -> CopyFault {
+        CopyFault::Memory
+    }
+}
+
+impl<T: Drop> From<AllocFailed<T>> for CopyFault {
+    fn from(_error: AllocFailed<T>) -> CopyFault {
+        CopyFault::Memory
+    }
+}
+
+/// The fault of a value in that row and column; out of memory is no value's.
+pub fn value_fault(row: Row, column: usize, fault: Fault) -> CopyFault {
+    match fault {
+        Fault::Memory => CopyFault::Memory,
+        fault => CopyFault::Value { row, column, fault },
+    }
+}

@@ -1,0 +1,68 @@
+//! The escapes of COPY's text format.
+
+use std::alloc::AllocError;
+
+/// The letter that stands for the byte after a backslash, of a byte that has one.
+fn escape_of(byte: u8) -> Option<u8> {
+    match byte {
+        0x08 => Some(b'b'),
+        b'\t' => Some(b't'),
+        b'\n' => Some(b'n'),
+        0x0b => Some(b'v'),
+        0x0c => Some(b'f'),
+        b'\r' => Some(b'r'),
+        b'\\' => Some(b'\\'),
+        _ => None,
+    }
+}
+
+/// The byte that the letter stands for after a backslash; any other is the byte itself.
+fn escaped_by(letter: u8) -> u8 {
+    match letter {
+        b'b' => 0x08,
+        b't' => b'\t',
+        b'n' => b'\n',
+        b'v' => 0x0b,
+        b'f' => 0x0c,
+        b'r' => b'\r',
+        other => other,
+    }
+}
+
+/// Appends the text with a backslash and a letter for each byte that has one (`CopyAttributeOutText`).
+pub fn escape(text: &[u8], out: &mut Vec<u8>) -> Result<(), AllocError> {
+    // Most texts have no such byte.
+    if text.iter().all(|byte| escape_of(*byte).is_none()) {
+        return out.extend_from_slice(text);
+    }
+    for byte in text {
+        match escape_of(*byte) {
+            Some(letter) => out.extend_from_slice(&[b'\\', letter])?,
+            None => out.push(*byte)?,
+        }
+    }
+    Ok(())
+}
+
+/// Appends what the escaped text says, and answers whether it is one. A backslash at its end escapes
+/// nothing, and a carriage return is always escaped; an octal or a hexadecimal number and a period,
+/// which ends the data, are not read after a backslash. The server writes none of them.
+pub fn unescape(text: &[u8], out: &mut Vec<u8>) -> Result<bool, AllocError> {
+    let mut is_escaped = false;
+    for byte in text {
+        if is_escaped {
+            if matches!(*byte, b'0'..=b'7' | b'x' | b'.') {
+                return Ok(false);
+            }
+            out.push(escaped_by(*byte))?;
+            is_escaped = false;
+        } else {
+            match *byte {
+                b'\\' => is_escaped = true,
+                b'\r' => return Ok(false),
+                other => out.push(other)?,
+            }
+        }
+    }
+    Ok(!is_escaped)
+}

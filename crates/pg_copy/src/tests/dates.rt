@@ -1,0 +1,296 @@
+//! Cells and texts from PostgreSQL 15.18, as `COPY .. TO STDOUT` in both formats gave them.
+
+use super::Row;
+
+/// Dates, times of day, timestamps and intervals.
+pub const DATES: &[Row] = &[
+    ("date", Some(b"\x00\x00\x00\x00"), b"2000-01-01"),
+    ("date", Some(b"\xff\xff\xd53"), b"1970-01-01"),
+    ("date", Some(b"\x00\x00\x00;"), b"2000-02-29"),
+    ("date", Some(b"\xff\xffq\x8f"), b"1900-03-01"),
+    ("date", Some(b"\xff\xf4\xdb\xf9"), b"0001-01-01"),
+    ("date", Some(b"\xff\xf4\xdb\xf8"), b"0001-12-31 BC"),
+    ("date", Some(b"\xff\xf4\x9d{"), b"0044-03-15 BC"),
+    ("date", Some(b"\xff\xda\x99\x15"), b"4713-11-24 BC"),
+    ("date", Some(b"\x00,\x95\xd3"), b"9999-12-31"),
+    ("date_inf", Some(b"\x7f\xff\xff\xff"), b"infinity"),
+    ("date_inf", Some(b"\x80\x00\x00\x00"), b"-infinity"),
+    ("date_inf", Some(b"\xff\xff\xff\xff"), b"1999-12-31"),
+    (
+        "date_inf[]",
+        Some(
+            b"\x00\x00\x00\x01\x00\x00\x00\x01\x00\x00\x04:\x00\x00\x00\x03\x00\x00\x00\x01\x00\x00\x00\x04\x7f\xff\xff\xff\xff\xff\xff\xff\x00\x00\x00\x04\x00\x00\x00\x00",
+        ),
+        b"{infinity,NULL,2000-01-01}",
+    ),
+    (
+        "time",
+        Some(b"\x00\x00\x00\x00\x00\x00\x00\x00"),
+        b"00:00:00",
+    ),
+    (
+        "time",
+        Some(b"\x00\x00\x00\x14\x1d\xd7_\xff"),
+        b"23:59:59.999999",
+    ),
+    ("time", Some(b"\x00\x00\x00\x03l\x96n\xe0"), b"04:05:06.7"),
+    (
+        "time",
+        Some(b"\x00\x00\x00\x0a\x0e\xeb\xb0\x0a"),
+        b"12:00:00.00001",
+    ),
+    (
+        "timestamp",
+        Some(b"\x00\x00\x00\x00\x00\x00\x00\x00"),
+        b"2000-01-01 00:00:00",
+    ),
+    (
+        "timestamp",
+        Some(b"\xff\xff\xff\xff\xff\xff\xff\xff"),
+        b"1999-12-31 23:59:59.999999",
+    ),
+    (
+        "timestamp",
+        Some(b"\x03\x80\xe7\x0b\x91;\x7f\xff"),
+        b"9999-12-31 23:59:59.999999",
+    ),
+    (
+        "timestamp",
+        Some(b"\xff\x1f\xe2\xff\xc5\x94\xbe\xe0"),
+        b"0001-12-31 23:59:59.5 BC",
+    ),
+    (
+        "timestamp",
+        Some(b"\xfd\x0f\x99\x83\xeb\x0a\xe0\x00"),
+        b"4713-11-24 00:00:00 BC",
+    ),
+    (
+        "timestamp_inf",
+        Some(b"\x7f\xff\xff\xff\xff\xff\xff\xff"),
+        b"infinity",
+    ),
+    (
+        "timestamp_inf",
+        Some(b"\x80\x00\x00\x00\x00\x00\x00\x00"),
+        b"-infinity",
+    ),
+    (
+        "timestamp_inf",
+        Some(b"\xff\xfc\xa2\xfe\xc4\xc8 \x01"),
+        b"1970-01-01 00:00:00.000001",
+    ),
+    (
+        "timestamptz",
+        Some(b"\x00\x00\x00\x00\x00\x00\x00\x00"),
+        b"2000-01-01 00:00:00+00",
+    ),
+    (
+        "timestamptz",
+        Some(b"\xff\x1f\xc6=\x1b\xb1 \x00"),
+        b"0001-01-01 00:00:00+00 BC",
+    ),
+    (
+        "timestamptz",
+        Some(b"\xff\xff\xff\xff\xff\xf2D`"),
+        b"1999-12-31 23:59:59.1+00",
+    ),
+    (
+        "timestamptz",
+        Some(b"\xfd\x0f\x99\x83\xeb\x0a\xe0\x00"),
+        b"4713-11-24 00:00:00+00 BC",
+    ),
+    (
+        "timestamptz",
+        Some(b"\x03\x80\xe6\xf5\xc6L\x1a?"),
+        b"9999-12-30 22:00:00.999999+00",
+    ),
+    (
+        "timestamptz[]",
+        Some(
+            b"\x00\x00\x00\x01\x00\x00\x00\x01\x00\x00\x04\xa0\x00\x00\x00\x02\x00\x00\x00\x01\x00\x00\x00\x08\x00\x00\x00\x00\x00\x00\x00\x00\xff\xff\xff\xff",
+        ),
+        b"{\"2000-01-01 00:00:00+00\",NULL}",
+    ),
+    (
+        "unix",
+        Some(b"\x7f\xff\xff[\xb3\xb2\x9f\xff"),
+        b"294276-12-31 23:59:59.999999",
+    ),
+    (
+        "unix",
+        Some(b"\xfd\x0f\x99\x83\xeb\x0a\xe0\x00"),
+        b"4713-11-24 00:00:00 BC",
+    ),
+    (
+        "unix",
+        Some(b"\xff\xfc\xa2\xfe\xc4\xc8 \x00"),
+        b"1970-01-01 00:00:00",
+    ),
+    (
+        "unix",
+        Some(b"\xff\xfc\xa2\xfe\xc4\xc8\x1f\xff"),
+        b"1969-12-31 23:59:59.999999",
+    ),
+    (
+        "unix",
+        Some(b"\x03\x80\xe7\x0b\x91;\x80\x00"),
+        b"10000-01-01 00:00:00",
+    ),
+    (
+        "unix",
+        Some(b"\x00\x00\x04\xac\xef\x8e\xd0\x00"),
+        b"2000-02-29 12:00:00",
+    ),
+    (
+        "unix",
+        Some(b"\x00\x0b:\xc8\x82_\xbd\xc0"),
+        b"2100-02-28 23:59:59",
+    ),
+    (
+        "unix",
+        Some(b"\x00,\xdc\xfd\x0eL\x80\x00"),
+        b"2400-02-29 00:00:00",
+    ),
+    (
+        "unix",
+        Some(b"*\xeb*\xfc?,\xc0\x00"),
+        b"100000-12-31 00:00:00",
+    ),
+    (
+        "unix",
+        Some(b"\xff\xd3,H\xb2\xf9\xc0\x00"),
+        b"1600-02-29 00:00:00",
+    ),
+    (
+        "unix",
+        Some(b"\xff\xc7\xf67/\x05@\x00"),
+        b"1500-03-01 00:00:00",
+    ),
+    (
+        "unix_inf",
+        Some(b"\x7f\xff\xff\xff\xff\xff\xff\xff"),
+        b"infinity",
+    ),
+    (
+        "unix_inf",
+        Some(b"\x80\x00\x00\x00\x00\x00\x00\x00"),
+        b"-infinity",
+    ),
+    (
+        "unix_inf",
+        Some(b"\x7f\xff\xff[\xb3\xb2\x9f\xff"),
+        b"294276-12-31 23:59:59.999999",
+    ),
+    (
+        "interval",
+        Some(b"\x00\x00\x00\x00\x00\x00\x00\x00\x00\x00\x00\x00\x00\x00\x00\x00"),
+        b"00:00:00",
+    ),
+    (
+        "interval",
+        Some(b"\x00\x00\x00\x03l\x97\xca\x88\xff\xff\xff\xfd\x00\x00\x00\x0e"),
+        b"1 year 2 mons -3 days +04:05:06.789",
+    ),
+    (
+        "interval",
+        Some(b"\x00\x00\x00\x00\x00\x00\x00\x00\x00\x00\x00\x00\x7f\xff\xff\xff"),
+        b"178956970 years 7 mons",
+    ),
+    (
+        "interval",
+        Some(b"\x00\x00\x00\x00\x00\x00\x00\x00\x00\x00\x00\x00\x80\x00\x00\x00"),
+        b"-178956970 years -8 mons",
+    ),
+    (
+        "interval",
+        Some(b"\x00\x00\x00\x00\x00\x00\x00\x00\xff\xff\xff\xff\x00\x00\x00\x01"),
+        b"1 mon -1 days",
+    ),
+    (
+        "interval",
+        Some(b"\x00\x00\x00\x00\x00\x16\xe3`\x00\x00\x00\x01\xff\xff\xff\xff"),
+        b"-1 mons +1 day 00:00:01.5",
+    ),
+    (
+        "interval",
+        Some(b"\x00\x00\x00\x00\xd6\x93\xa4\x00\xff\xff\xff\xff\x00\x00\x00\x00"),
+        b"-1 days +01:00:00",
+    ),
+    (
+        "interval",
+        Some(b"\x80\x00\x00\x00\x00\x00\x00\x01\x00\x00\x00\x00\x00\x00\x00\x00"),
+        b"-2562047788:00:54.775807",
+    ),
+    (
+        "interval",
+        Some(b"\x7f\xff\xff\xff\xff\xff\xff\xff\x00\x00\x00\x00\x00\x00\x00\x00"),
+        b"2562047788:00:54.775807",
+    ),
+    (
+        "interval",
+        Some(b"\xff\xff\xff\xff\xff\xf8^\xe0\x00\x00\x00\x01\x00\x00\x00\x00"),
+        b"1 day -00:00:00.5",
+    ),
+    (
+        "interval",
+        Some(b"\x00\x00\x00\x00\x00\x00\x00\x00\x00\x00\x00\x00\xff\xff\xff\xf6"),
+        b"-10 mons",
+    ),
+    (
+        "interval",
+        Some(b"\x00\x00\x00\x00\x00\x00\x00\x00\x00\x00\x00\x00\xff\xff\xff\xff"),
+        b"-1 mons",
+    ),
+    (
+        "interval",
+        Some(b"\x00\x00\x00\x00\x00\x00\x00\x00\x00\x00\x00\x00\x00\x00\x00\x0c"),
+        b"1 year",
+    ),
+    (
+        "interval",
+        Some(b"\x00\x00\x00\x00\x00\x00\x00\x00\x00\x00\x00\x00\xff\xff\xff\xf4"),
+        b"-1 years",
+    ),
+    (
+        "interval",
+        Some(b"\x00\x00\x00\x00\x00\x00\x00\x00\x80\x00\x00\x00\x00\x00\x00\x00"),
+        b"-2147483648 days",
+    ),
+    (
+        "interval",
+        Some(b"\x00\x00\x00\x00\x00\x00\x00\x00\x7f\xff\xff\xff\x00\x00\x00\x00"),
+        b"2147483647 days",
+    ),
+    (
+        "interval",
+        Some(b"\x00\x00\x00\x00\x00\x00\x00\x01\x00\x00\x00\x00\x00\x00\x00\x00"),
+        b"00:00:00.000001",
+    ),
+    (
+        "interval",
+        Some(b"\xff\xff\xff\xff\xff\xff\xff\xff\x00\x00\x00\x00\x00\x00\x00\x00"),
+        b"-00:00:00.000001",
+    ),
+    (
+        "interval",
+        Some(b"\x00\x00\x00\x00\x00\x00\x00\x00\x00\x00\x00\x01\x00\x00\x00\x00"),
+        b"1 day",
+    ),
+    (
+        "interval",
+        Some(b"\xff\xff\xff\xff\xff\xf0\xbd\xc0\x00\x00\x00\x02\x00\x00\x00\x00"),
+        b"2 days -00:00:01",
+    ),
+    (
+        "interval",
+        Some(b"\x00\x00\x00\x00\x00\x0fB@\xff\xff\xff\xff\x00\x00\x00\x0c"),
+        b"1 year -1 days +00:00:01",
+    ),
+    (
+        "interval[]",
+        Some(
+            b"\x00\x00\x00\x01\x00\x00\x00\x00\x00\x00\x04\xa2\x00\x00\x00\x02\x00\x00\x00\x01\x00\x00\x00\x10\x00\x00\x00\x00\x00\x00\x00\x00\x00\x00\x00\x00\x00\x00\x00\x00\x00\x00\x00\x10\x00\x00\x00\x00\x00\x00\x00\x00\x00\x00\x00\x01\x00\x00\x00\x00",
+        ),
+        b"{00:00:00,\"1 day\"}",
+    ),
+];

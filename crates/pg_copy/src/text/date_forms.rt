@@ -1,0 +1,185 @@
+//! The texts that dates, times of day and timestamps are made of.
+ghost use Rattle.std.specs.Prelude.{◌<◌};
+
+use crate::calendar::Civil;
+use crate::digits::{push_fraction, push_padded};
+use crate::scanner::Scanner;
+use std::alloc::AllocError;
+
+/// How many seconds a day has.
+const DAY: i64 = 86_400;
+
+/// A time of day.
+#[derive(Debug, Clone, Copy, PartialEq, Eq)]
+pub struct Clock {
+    pub hour: u32,
+    pub minute: u32,
+    pub second: u32,
+    pub micros: u32,
+}
+
+impl Clock {
+    /// The time that many seconds after midnight, and the microseconds after that second.
+    pub fn new(seconds: u32, micros: u32) -> Clock {
+        Clock {
+            hour: seconds / 3_600,
+            minute: seconds / 60 % 60,
+            second: seconds % 60,
+            micros,
+        }
+    }
+
+    /// The microseconds from midnight; `None` where there is no such time. 24:00:00 is none.
+    fn to_micros(self) -> Option<i64> {
+        let Clock {
+            hour,
+            minute,
+            second,
+            micros,
+        } = self;
+        if hour > 23 || minute > 59 || second > 59 || micros > 999_999 {
+            return None;
+        }
+        let seconds = (hour * 60 + minute) * 60 + second;
+        Some(i64::from(seconds) * 1_000_000 + i64::from(micros))
+    }
+}
+
+/// A day and a time of day.
+#[derive(Debug, Clone, Copy, PartialEq, Eq)]
+pub struct DateTime {
+    pub date: Civil,
+    pub clock: Clock,
+}
+
+impl DateTime {
+    /// What stands that many seconds after 1970-01-01 00:00:00, and the microseconds after that
+    /// second.
+    pub fn new(seconds: i64, micros: u32) -> DateTime {
+        let second_of_day = seconds.rem_euclid(DAY) as u32;
+        DateTime {
+            date: Civil::from_day(seconds.div_euclid(DAY)),
+            clock: Clock::new(second_of_day, micros),
+        }
+    }
+
+    /// The microseconds from midnight of a day, which is told in days from 1970-01-01; `None` where
+    /// there is no such date or time, or they leave 64 bits.
+    pub fn micros_from(self, day: i64) -> Option<i64> {
+        let days = i128::from(self.date.to_day()?).checked_sub(i128::from(day))?;
+        // The first day may begin before what 64 bits hold, and the time of day not.
+        let micros = days
+            .checked_mul(86_400_000_000)?
+            .checked_add(i128::from(self.clock.to_micros()?))?;
+        i64::try_from(micros).ok()
+    }
+}
+
+/// Appends the date without its era. Years before year 1 are counted from 1 back.
+pub fn push_date(date: Civil, out: &mut Vec<u8>) -> Result<(), AllocError> {
+    let year = if date.year > 0 {
+        date.year.unsigned_abs()
+    } else {
+        date.year.unsigned_abs().saturating_add(1)
+    };
+    push_padded(year, 4, out)?;
+    out.push(b'-')?;
+    push_padded(u64::from(date.month), 2, out)?;
+    out.push(b'-')?;
+    push_padded(u64::from(date.day), 2, out)
+}
+
+/// Appends the era of a year before year 1, and nothing for another.
+pub fn push_era(date: Civil, out: &mut Vec<u8>) -> Result<(), AllocError> {
+    if date.year > 0 {
+        return Ok(());
+    }
+    out.extend_from_slice(b" BC")
+}
+
+/// Appends the time of day, with a fraction of the second where there is one.
+pub fn push_clock(clock: Clock, out: &mut Vec<u8>) -> Result<(), AllocError> {
+    push_padded(u64::from(clock.hour), 2, out)?;
+    out.push(b':')?;
+    push_padded(u64::from(clock.minute), 2, out)?;
+    out.push(b':')?;
+    push_padded(u64::from(clock.second), 2, out)?;
+    push_fraction(clock.micros, out)
+}
+
+/// Appends the date, the time of day, the zone and the era.
+pub fn push_datetime(datetime: DateTime, zone: &[u8], out: &mut Vec<u8>) -> Result<(), AllocError> {
+    push_date(datetime.date, out)?;
+    out.push(b' ')?;
+    push_clock(datetime.clock, out)?;
+    out.extend_from_slice(zone)?;
+    push_era(datetime.date, out)
+}
+
+/// Takes a date without its era.
+fn take_date(scanner: &mut Scanner<'_>) -> Option<Civil> {
+    let year = i64::try_from(scanner.number()?).ok()?;
+    if year == 0 {
+        return None;
+    }
+    scanner.expect(b"-")?;
+    let month = scanner.number_u32()?;
+    scanner.expect(b"-")?;
+    let day = scanner.number_u32()?;
+    Some(Civil { year, month, day })
+}
+
+/// Takes the era that comes at the end: the date in that era.
+fn take_era(date: Civil, scanner: &mut Scanner<'_>) -> Option<Civil> {
+    let year = if scanner.take(b" BC") {
+        1i64.checked_sub(date.year)?
+    } else {
+        date.year
+    };
+    if scanner.is_done() {
+        Some(Civil { year, ..date })
+    } else {
+        None
+    }
+}
+
+/// Takes a time of day.
+fn take_clock(scanner: &mut Scanner<'_>) -> Option<Clock> {
+    let hour = scanner.number_u32()?;
+    scanner.expect(b":")?;
+    let minute = scanner.number_u32()?;
+    scanner.expect(b":")?;
+    let second = scanner.number_u32()?;
+    let micros = scanner.fraction()?;
+    Some(Clock {
+        hour,
+        minute,
+        second,
+        micros,
+    })
+}
+
+/// The date of a text.
+pub fn parse_date(text: &str) -> Option<Civil> {
+    let mut scanner = Scanner::new(text);
+    let date = take_date(&mut scanner)?;
+    take_era(date, &mut scanner)
+}
+
+/// The time of day of a text.
+pub fn parse_clock(text: &str) -> Option<Clock> {
+    let mut scanner = Scanner::new(text);
+    let clock = take_clock(&mut scanner)?;
+    if scanner.is_done() { Some(clock) } else { None }
+}
+
+/// The day and time of day of a text that has this zone.
+pub fn parse_datetime(text: &str, zone: &[u8]) -> Option<DateTime> {
+    let mut scanner = Scanner::new(text);
+    let date = take_date(&mut scanner)?;
+    scanner.expect(b" ")?;
+    let clock = take_clock(&mut scanner)?;
+    scanner.expect(zone)?;
+    let date = take_era(date, &mut scanner)?;
+    Some(DateTime { date, clock })
+}
