@@ -1,12 +1,11 @@
 -- What a line asks for.
 use Rattle.std.specs.Prelude.{ℕ, ◌==◌, ◌&&◌, ◌^◌, List, [], length, Option, Some, None, option_map, option_and_then}
-use Rattle.std.specs.Prelude.{Result, Ok, Err, if◌then◌else◌, codes, nat_lt, Vec}
-use Rattle.std.specs.Global.{Global}
+use Rattle.std.specs.Prelude.{Result, Ok, Err, if◌then◌else◌, codes, nat_lt}
 use Rattle.std.specs.Str.{all_ascii_digits, is_utf8}
 use Rattle.std.specs.Str.Parse.{digits_value}
 use Rattle.hex.specs.Hex.{decode_of}
 use Rattle.hex.specs.declared.error.FromHexError.{FromHexError}
-use Rattle.postgres_types.specs.Cells.{Cell}
+use Rattle.postgres_types.specs.Cells.{Cell, cell_of}
 use Rattle.pgcell_norm.specs.Forms.{same_word}
 use Rattle.pgcell_norm.specs.Names.{name_of, name_view}
 use Rattle.pgcell_norm.specs.declared.names.Form.{Form}
@@ -63,13 +62,8 @@ asked_by command rest =
 abbrev pub request_of : List ℕ → Option Asked
 request_of line = option_and_then (λ parts. asked_by parts.0 parts.1) (split 32 line)
 
--- the cell that a request holds
-abbrev pub cell_view : Option (Vec ℕ Global) → Cell
-cell_view None = None
-cell_view (Some bytes) = Some bytes.items
-
 -- what a request asks for
 abbrev pub view : Request → Asked
-view (Norm name cell) = norm (name_view name) (cell_view cell)
+view (Norm name cell) = norm (name_view name) (cell_of cell)
 view (TypeOf oid) = type_of oid
 view (Lsn text) = lsn text.now

@@ -1,38 +1,48 @@
 //! The answer to a line.
 ghost use Rattle.std.specs.Prelude.{◌≡◌, ◌++◌, ℕ, List, OnOk, OnErr};
-ghost use Rattle.postgres_types.specs.Cells.{cell_of};
 ghost use Rattle.postgres_types.specs.Lsn.{lsn_of};
 ghost use Rattle.pgcell.specs.Answer.{Answer, AnswersType, lsn_answer};
-ghost use Rattle.pgcell.specs.Request.{cell_view};
 
 use crate::request::Request;
-use pgcell_norm::norm::norm;
+use pgcell_norm::norm::Rewriter;
 use postgres_types::{Oid, PgLsn, Type};
 use std::alloc::{AllocError, Global};
 
-/// Puts the answer to a line, without a byte 10, after what is pending; where memory is refused
-/// that stays as it was.
-pub fn answer(alloc: Global, line: &[u8], pending: &mut Vec<u8>) -> Result<(), AllocError>
-    ensures ok { OnOk result ((text : List ℕ)
-        × Answer line.now text
-        × (pending.new.items ≡ pending.old.items ++ text)) }
-    ensures err { OnErr result (pending.new.items ≡ pending.old.items) }
-{
-    match Request::parse(alloc, line)? {
-        None => pending.extend_from_slice(b"bad line"),
-        Some(Request::Norm(name, cell)) => norm(alloc, name, borrowed(&cell), pending),
-        Some(Request::TypeOf(oid)) => show_type(alloc, oid, pending),
-        Some(Request::Lsn(text)) => show_lsn(alloc, text, pending),
-    }
+/// What answering keeps from line to line: the bytes of a cell, and what rewriting keeps.
+#[derive(Drop)]
+pub struct Answerer {
+    bytes: Vec<u8>,
+    rewriter: Rewriter,
 }
 
-/// The cell, borrowed.
-fn borrowed(cell: &Option<Vec<u8>>) -> Option<&[u8]>
-    ensures { cell_of result ≡ cell_view cell.now }
-{
-    match cell {
-        Some(bytes) => Some(bytes.as_slice()),
-        None => None,
+impl Answerer {
+    pub fn new(alloc: Global) -> Result<Answerer, AllocError> {
+        let rewriter = Rewriter::new(alloc)?;
+        Ok(Answerer {
+            bytes: Vec::new(alloc),
+            rewriter,
+        })
+    }
+
+    /// Puts the answer to a line, without a byte 10, after what is pending; where memory is refused
+    /// that stays as it was.
+    pub fn answer(
+        &mut self,
+        alloc: Global,
+        line: &[u8],
+        pending: &mut Vec<u8>,
+    ) -> Result<(), AllocError>
+        ensures ok { OnOk result ((text : List ℕ)
+            × Answer line.now text
+            × (pending.new.items ≡ pending.old.items ++ text)) }
+        ensures err { OnErr result (pending.new.items ≡ pending.old.items) }
+    {
+        match Request::parse(line, &mut self.bytes)? {
+            None => pending.extend_from_slice(b"bad line"),
+            Some(Request::Norm(name, cell)) => self.rewriter.norm(alloc, name, cell, pending),
+            Some(Request::TypeOf(oid)) => show_type(alloc, oid, pending),
+            Some(Request::Lsn(text)) => show_lsn(alloc, text, pending),
+        }
     }
 }
 

@@ -1,20 +1,21 @@
 //! What a line asks for.
-ghost use Rattle.std.specs.Prelude.{◌≡◌, ◌∷◌, [], ◌==◌, IfSome, IfNone, IfOk, option_map};
+ghost use Rattle.std.specs.Prelude.{◌≡◌, ◌∷◌, [], ◌==◌, Some, IfSome, IfNone, IfOk, option_map};
+ghost use Rattle.hex.specs.Hex.{decode_of};
 ghost use Rattle.pgcell.specs.Split.{split};
 ghost use Rattle.pgcell.specs.Request.{cell_of_word, lsn_of_text, norm_of, oid_of_word, request_of, view};
-ghost use Rattle.pgcell.specs.Request.{cell_view, type_of};
+ghost use Rattle.pgcell.specs.Request.{digits_cell, type_of};
+ghost use Rattle.postgres_types.specs.Cells.{cell_of};
 
 use crate::split::split_once;
-use hex::FromHexError;
 use pgcell_norm::names::Name;
 use postgres_types::Oid;
-use std::alloc::{AllocError, Global};
+use std::alloc::AllocError;
 
 /// A line that is well formed.
-#[derive(Debug, Drop)]
+#[derive(Debug, Clone, Copy)]
 pub enum Request<'a> {
     /// `norm NAME CELL`: to rewrite a cell, of which `None` is NULL.
-    Norm(Name<'a>, Option<Vec<u8>>),
+    Norm(Name<'a>, Option<&'a [u8]>),
     /// `type OID`: to show a type.
     TypeOf(Oid),
     /// `lsn TEXT`: to show a log position.
@@ -22,15 +23,16 @@ pub enum Request<'a> {
 }
 
 impl<'a> Request<'a> {
-    /// What the line asks for, or `None` where it is not well formed.
-    pub fn parse(alloc: Global, line: &'a [u8]) -> Result<Option<Request<'a>>, AllocError>
+    /// What the line asks for, or `None` where it is not well formed. A cell's bytes are put into
+    /// `bytes`, in place of what is there.
+    pub fn parse(line: &'a [u8], bytes: &'a mut Vec<u8>) -> Result<Option<Request<'a>>, AllocError>
         ensures { IfOk result (λ request. option_map view request ≡ request_of line.now) }
     {
         let Some((command, rest)) = split_word(line) else {
             return Ok(None);
         };
         if command == b"norm".as_slice() {
-            return Request::parse_norm(alloc, rest);
+            return Request::parse_norm(rest, bytes);
         }
         if command == b"type".as_slice() {
             return Ok(Request::parse_type(rest));
@@ -42,7 +44,10 @@ impl<'a> Request<'a> {
     }
 
     /// What `norm` and these words ask for.
-    fn parse_norm(alloc: Global, words: &'a [u8]) -> Result<Option<Request<'a>>, AllocError>
+    fn parse_norm(
+        words: &'a [u8],
+        bytes: &'a mut Vec<u8>,
+    ) -> Result<Option<Request<'a>>, AllocError>
         ensures { IfOk result (λ request. option_map view request ≡ norm_of words.now) }
     {
         let Some((name, cell)) = split_word(words) else {
@@ -51,7 +56,7 @@ impl<'a> Request<'a> {
         let Some(name) = Name::parse(name) else {
             return Ok(None);
         };
-        let Some(cell) = parse_cell(alloc, cell)? else {
+        let Some(cell) = parse_cell(cell, bytes)? else {
             return Ok(None);
         };
         Ok(Some(Request::Norm(name, cell)))
@@ -77,19 +82,34 @@ impl<'a> Request<'a> {
 }
 
 /// The cell that the word spells: `NULL`, `-` for no bytes, or an even, positive number of
-/// hexadecimal digits.
-fn parse_cell(alloc: Global, word: &[u8]) -> Result<Option<Option<Vec<u8>>>, AllocError>
-    ensures { IfOk result (λ cell. option_map cell_view cell ≡ cell_of_word word.now) }
+/// hexadecimal digits. Its bytes are put into `bytes`.
+fn parse_cell<'a>(
+    word: &[u8],
+    bytes: &'a mut Vec<u8>,
+) -> Result<Option<Option<&'a [u8]>>, AllocError>
+    ensures { IfOk result (λ cell. option_map cell_of cell ≡ cell_of_word word.now) }
 {
     match word {
         b"NULL" => Ok(Some(None)),
-        b"-" => Ok(Some(Some(Vec::new(alloc)))),
+        b"-" => Ok(Some(Some(&[]))),
         [] => Ok(None),
-        digits => match hex::decode(alloc, digits) {
-            Ok(bytes) => Ok(Some(Some(bytes))),
-            Err(FromHexError::OutOfMemory) => Err(AllocError),
-            Err(_) => Ok(None),
+        digits => match decode(digits, bytes)? {
+            Some(bytes) => Ok(Some(Some(bytes))),
+            None => Ok(None),
         },
+    }
+}
+
+/// The bytes that the digits spell, put into `bytes` in place of what is there; `None` where they
+/// spell none.
+fn decode<'a>(digits: &[u8], bytes: &'a mut Vec<u8>) -> Result<Option<&'a [u8]>, AllocError>
+    ensures { IfOk result (λ cell. option_map (λ b. Some b.now) cell ≡ digits_cell (decode_of digits.now)) }
+{
+    bytes.clear();
+    bytes.resize(digits.len() / 2, 0)?;
+    match hex::decode_to_slice(digits, bytes.as_mut_slice()) {
+        Ok(()) => Ok(Some(bytes.as_slice())),
+        Err(_) => Ok(None),
     }
 }
 

@@ -9,7 +9,7 @@ ghost use Rattle.pgcell.specs.Lines.{lines_of, IsOneLine};
 ghost use Rattle.pgcell.specs.Run.{GainsAnswers, WritesAnswers, WritesPart, AnswersAll, AnswersSome};
 ghost use Rattle.pgcell.specs.Run.{AnswersPart, AnswersGiven, TakesLines, TakesSome};
 
-use crate::answer::answer;
+use crate::answer::Answerer;
 use crate::split::split_once;
 use std::alloc::{AllocError, Global};
 use std::io::{ErrorKind, Read, Write};
@@ -46,6 +46,9 @@ pub fn run<R: Read, W: Write>(alloc: Global, input: &mut R, output: &mut W) -> R
     ensures partial { IfErr result (λ e. e ≡ RunFault.Write → AnswersPart (R.remaining input.old)
         (W.contents output.old) (W.contents output.new)) }
 {
+    let Ok(mut answerer) = Answerer::new(alloc) else {
+        return Err(RunFault::Memory);
+    };
     let mut line = Vec::new(alloc);
     let mut pending = Vec::new(alloc);
     let mut block = [0; BLOCK];
@@ -56,9 +59,9 @@ pub fn run<R: Read, W: Write>(alloc: Global, input: &mut R, output: &mut W) -> R
             Err(_) => return Err(RunFault::Read),
         };
         if n == 0 {
-            return finish(alloc, line.as_slice(), &mut pending, output);
+            return finish(alloc, &mut answerer, line.as_slice(), &mut pending, output);
         }
-        let taken = take_block(alloc, &block[..n], &mut line, &mut pending);
+        let taken = take_block(alloc, &mut answerer, &block[..n], &mut line, &mut pending);
         // The lines before the one that memory was refused for are still answered.
         write_whole(output, pending.as_slice())?;
         if taken.is_err() {
@@ -72,6 +75,7 @@ pub fn run<R: Read, W: Write>(alloc: Global, input: &mut R, output: &mut W) -> R
 /// Answers each line that ends in the block, and keeps the bytes after the last of them.
 fn take_block(
     alloc: Global,
+    answerer: &mut Answerer,
     block: &[u8],
     line: &mut Vec<u8>,
     pending: &mut Vec<u8>,
@@ -85,7 +89,7 @@ fn take_block(
 {
     let mut rest = block;
     'lines: while let Some((last, after)) = split_once(rest, b'\n') {
-        end_line(alloc, last, line, pending)?;
+        end_line(alloc, answerer, last, line, pending)?;
         rest = after;
     }
     line.extend_from_slice(rest)
@@ -94,6 +98,7 @@ fn take_block(
 /// Answers the line whose last bytes these are, and forgets what was there of it.
 fn end_line(
     alloc: Global,
+    answerer: &mut Answerer,
     last: &[u8],
     line: &mut Vec<u8>,
     pending: &mut Vec<u8>,
@@ -105,21 +110,26 @@ fn end_line(
 {
     // A line that lies whole in a block is answered where it lies.
     if line.is_empty() {
-        return answer_line(alloc, last, pending);
+        return answer_line(alloc, answerer, last, pending);
     }
     line.extend_from_slice(last)?;
-    answer_line(alloc, line.as_slice(), pending)?;
+    answer_line(alloc, answerer, line.as_slice(), pending)?;
     line.clear();
     Ok(())
 }
 
 /// Puts the answer to a line and byte 10 after what is pending.
-fn answer_line(alloc: Global, line: &[u8], pending: &mut Vec<u8>) -> Result<(), AllocError>
+fn answer_line(
+    alloc: Global,
+    answerer: &mut Answerer,
+    line: &[u8],
+    pending: &mut Vec<u8>,
+) -> Result<(), AllocError>
     ensures ok { OnOk result (GainsAnswers (line.now ∷ []) pending.old.items pending.new.items) }
     ensures err { OnErr result (pending.new.items ≡ pending.old.items) }
 {
     let start = pending.len();
-    answer(alloc, line, pending)?;
+    answerer.answer(alloc, line, pending)?;
     if pending.push(b'\n').is_err() {
         pending.truncate(start);
         return Err(AllocError);
@@ -152,6 +162,7 @@ fn write_whole<W: Write>(output: &mut W, bytes: &[u8]) -> Result<(), RunFault>
 /// Answers the last line, which no byte 10 ends.
 fn finish<W: Write>(
     alloc: Global,
+    answerer: &mut Answerer,
     line: &[u8],
     pending: &mut Vec<u8>,
     output: &mut W,
@@ -168,7 +179,7 @@ fn finish<W: Write>(
     if line.is_empty() {
         return Ok(());
     }
-    if answer_line(alloc, line, pending).is_err() {
+    if answer_line(alloc, answerer, line, pending).is_err() {
         return Err(RunFault::Memory);
     }
     write_whole(output, pending.as_slice())

@@ -1,8 +1,8 @@
 -- The user-defined types of the table of base names, in the schema public.
-use Rattle.std.specs.Prelude.{ℕ, [], ◌∷◌, codes}
+use Rattle.std.specs.Prelude.{ℕ, Bool, [], ◌∷◌, codes}
 use Prim.Native.String.{String as Literal}
 use Rattle.postgres_types.specs.Content.{Content, BuiltInType, UserDefinedType, KindContent, SimpleKind, EnumKind}
-use Rattle.postgres_types.specs.Content.{ArrayKind, CompositeKind, DomainKind, FieldAnd, NoFields}
+use Rattle.postgres_types.specs.Content.{ArrayKind, CompositeKind, DomainKind, FieldAnd, NoFields, same_type}
 use Rattle.pg_types.specs.declared.types.built_in.BuiltIn.TheVariants.{Bytea as ByteaRow, Int4 as Int4Row}
 use Rattle.pg_types.specs.declared.types.built_in.BuiltIn.TheVariants.{Int8 as Int8Row, Text as TextRow}
 
@@ -30,3 +30,7 @@ mood_type = user_type "Mood" 100005 (EnumKind (codes "Sad" ∷ codes "Ok" ∷ co
 -- the domain SessionId over BYTEA
 abbrev pub session_id_type : Content
 session_id_type = user_type "SessionId" 100006 (DomainKind (BuiltInType ByteaRow))
+
+-- whether a type is that one
+unfoldable pub is_type : Content → Content → Bool
+is_type other ty = same_type ty other

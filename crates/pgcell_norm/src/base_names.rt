@@ -1,5 +1,6 @@
 //! The table of base names. In each line stand a base name, its Rust type, its Postgres type and,
-//! where it has arrays, their Postgres type.
+//! where it has arrays, their Postgres type: a constant of `Type`, or `user` and one of the
+//! user-defined types.
 ghost use Rattle.std.specs.Prelude.{◌≡◌};
 ghost use Rattle.pgcell_norm.specs.BaseNames.{entry_of, has_form, other_entry_of, timestamp_entry_of};
 
@@ -20,7 +21,7 @@ macro_rules! numbers_and_texts {
             "bpchar" => $row!($args String, BPCHAR, BPCHAR_ARRAY),
             "name" => $row!($args String, NAME, NAME_ARRAY),
             "unknown" => $row!($args String, UNKNOWN),
-            "ltree" => $row!($args String, simple_type("ltree", 100_001)),
+            "ltree" => $row!($args String, user.ltree),
             _ => $other,
         }
     };
@@ -59,10 +60,10 @@ macro_rules! others {
             "pg_lsn" => $row!($args PgLsn, PG_LSN, PG_LSN_ARRAY),
             "int2vector" => $row!($args Vec<i16>, INT2_VECTOR),
             "oidvector" => $row!($args Vec<u32>, OID_VECTOR),
-            "hstore" => $row!($args Map, simple_type("hstore", 100_002)),
-            "item" => $row!($args InventoryItem, item_type(), item_array_type()),
-            "mood" => $row!($args Mood, mood_type()),
-            "session" => $row!($args SessionId, session_id_type()),
+            "hstore" => $row!($args Map, user.hstore),
+            "item" => $row!($args InventoryItem, user.item, user.item_array),
+            "mood" => $row!($args Mood, user.mood),
+            "session" => $row!($args SessionId, user.session),
             _ => $other,
         }
     };
@@ -77,7 +78,7 @@ macro_rules! has_form {
     (($form:ident) $rust:ty, $own:ident, $arrays:ident) => {
         true
     };
-    (($form:ident) $rust:ty, $own:ident(), $arrays:ident()) => {
+    (($form:ident) $rust:ty, user.$own:ident, user.$arrays:ident) => {
         true
     };
     (($form:ident) $rust:ty, $($own:tt)*) => {

@@ -12,7 +12,7 @@ ghost use Rattle.pgcell_norm.specs.Rewritten.{RewrittenAs, accepted_as};
 
 use crate::base_names::{dates_and_times, numbers_and_texts, others};
 use crate::names::{Form, Name};
-use crate::user_types::{item_array_type, item_type, mood_type, session_id_type, simple_type};
+use crate::user_types::UserTypes;
 use bytes::BytesMut;
 use jiff::civil;
 use pg_record::{InventoryItem, Mood, SessionId};
@@ -31,121 +31,148 @@ type Map = HashMap<String, Option<String>>;
 /// Rewrites a cell by a line of the table.
 macro_rules! norm_as {
     (
-        ($alloc:ident, $name:ident, $cell:ident, $pending:ident)
-        $rust:ty, $own:ident($($part:literal),*)
+        ($this:ident, $alloc:ident, $name:ident, $cell:ident, $pending:ident)
+        $rust:ty, user.$own:ident, user.$arrays:ident
     ) => {{
-        let own = $own($alloc $(, $part)*)?;
-        norm_as::<$rust>($alloc, $name.form, own, None, $cell, $pending)
+        let own = $this.types.$own()?;
+        let arrays = $this.types.$arrays()?;
+        $this.norm_as::<$rust>($alloc, $name.form, own, Some(arrays), $cell, $pending)
     }};
     (
-        ($alloc:ident, $name:ident, $cell:ident, $pending:ident)
-        $rust:ty, $own:ident(), $arrays:ident()
+        ($this:ident, $alloc:ident, $name:ident, $cell:ident, $pending:ident)
+        $rust:ty, user.$own:ident
     ) => {{
-        let own = $own($alloc)?;
-        let arrays = $arrays($alloc)?;
-        norm_as::<$rust>($alloc, $name.form, own, Some(arrays), $cell, $pending)
+        let own = $this.types.$own()?;
+        $this.norm_as::<$rust>($alloc, $name.form, own, None, $cell, $pending)
     }};
-    (($alloc:ident, $name:ident, $cell:ident, $pending:ident) $rust:ty, $own:ident) => {
-        norm_as::<$rust>($alloc, $name.form, Type::$own, None, $cell, $pending)
-    };
     (
-        ($alloc:ident, $name:ident, $cell:ident, $pending:ident)
-        $rust:ty, $own:ident, $arrays:ident
+        ($this:ident, $alloc:ident, $name:ident, $cell:ident, $pending:ident)
+        $rust:ty, $own:ident
     ) => {
-        norm_as::<$rust>($alloc, $name.form, Type::$own, Some(Type::$arrays), $cell, $pending)
+        $this.norm_as::<$rust>($alloc, $name.form, Type::$own, None, $cell, $pending)
     };
+    (
+        ($this:ident, $alloc:ident, $name:ident, $cell:ident, $pending:ident)
+        $rust:ty, $own:ident, $arrays:ident
+    ) => {{
+        let arrays = Some(Type::$arrays);
+        $this.norm_as::<$rust>($alloc, $name.form, Type::$own, arrays, $cell, $pending)
+    }};
 }
 
-/// Rewrites the cell by what the name stands for, and puts what came of it after what is pending.
-pub fn norm(
-    alloc: Global,
-    name: Name<'_>,
-    cell: Option<&[u8]>,
-    pending: &mut Vec<u8>,
-) -> Result<(), AllocError>
-    ensures ok { OnOk result ((text : List ℕ)
-        × AnswersNorm name.entry.base.now name.entry.form (cell_of cell.entry) text
-        × (pending.new.items ≡ pending.old.items ++ text)) }
-    ensures err { OnErr result (pending.new.items ≡ pending.old.items) }
-{
-    numbers_and_texts!(
-        name.base,
-        norm_as(alloc, name, cell, pending),
-        norm_timestamp(alloc, name, cell, pending)
-    )
+/// What rewriting keeps from cell to cell: the user-defined types, and a buffer for the cell that
+/// is written.
+#[derive(Drop)]
+pub struct Rewriter {
+    types: UserTypes,
+    written: BytesMut,
 }
 
-/// The same of a base name that is no number's and no text's.
-#[tactic(auto, unfolding(crate::specs::BaseNames::timestamp_entry_of))]
-fn norm_timestamp(
-    alloc: Global,
-    name: Name<'_>,
-    cell: Option<&[u8]>,
-    pending: &mut Vec<u8>,
-) -> Result<(), AllocError>
-    requires { IsTrue (has_form (timestamp_entry_of name.base.now) name.form) }
-    ensures ok { OnOk result ((text : List ℕ)
-        × AnswersEntry (timestamp_entry_of name.entry.base.now) name.entry.form
-        (cell_of cell.entry) text
-        × (pending.new.items ≡ pending.old.items ++ text)) }
-    ensures err { OnErr result (pending.new.items ≡ pending.old.items) }
-{
-    dates_and_times!(
-        name.base,
-        norm_as(alloc, name, cell, pending),
-        norm_other(alloc, name, cell, pending)
-    )
-}
+impl Rewriter {
+    pub fn new(alloc: Global) -> Result<Rewriter, AllocError> {
+        let types = UserTypes::new(alloc)?;
+        Ok(Rewriter {
+            types,
+            written: BytesMut::new(alloc),
+        })
+    }
 
-/// The same of one that is no date's, time's or timestamp's either.
-#[tactic(auto, unfolding(crate::specs::BaseNames::other_entry_of))]
-fn norm_other(
-    alloc: Global,
-    name: Name<'_>,
-    cell: Option<&[u8]>,
-    pending: &mut Vec<u8>,
-) -> Result<(), AllocError>
-    requires { IsTrue (has_form (other_entry_of name.base.now) name.form) }
-    ensures ok { OnOk result ((text : List ℕ)
-        × AnswersEntry (other_entry_of name.entry.base.now) name.entry.form
-        (cell_of cell.entry) text
-        × (pending.new.items ≡ pending.old.items ++ text)) }
-    ensures err { OnErr result (pending.new.items ≡ pending.old.items) }
-{
-    others!(
-        name.base,
-        norm_as(alloc, name, cell, pending),
-        unreachable!()
-    )
-}
+    /// Rewrites the cell by what the name stands for, and puts what came of it after what is
+    /// pending.
+    pub fn norm(
+        &mut self,
+        alloc: Global,
+        name: Name<'_>,
+        cell: Option<&[u8]>,
+        pending: &mut Vec<u8>,
+    ) -> Result<(), AllocError>
+        ensures ok { OnOk result ((text : List ℕ)
+            × AnswersNorm name.entry.base.now name.entry.form (cell_of cell.entry) text
+            × (pending.new.items ≡ pending.old.items ++ text)) }
+        ensures err { OnErr result (pending.new.items ≡ pending.old.items) }
+    {
+        numbers_and_texts!(
+            name.base,
+            norm_as(self, alloc, name, cell, pending),
+            self.norm_timestamp(alloc, name, cell, pending)
+        )
+    }
 
-/// The same as a `T` in that form, by the Postgres type or the type of its arrays.
-fn norm_as<'a, T: Paired<'a>>(
-    alloc: Global,
-    form: Form,
-    own: Type,
-    arrays: Option<Type>,
-    cell: Option<&'a [u8]>,
-    pending: &mut Vec<u8>,
-) -> Result<(), AllocError>
-    requires has_type { IsTrue (has_type form (option_map content arrays)) }
-    requires own_type { IsTrue (T.FromSql.accepted (content own)) }
-    requires array_type { IfSome (option_map content arrays)
-        (λ ty. IsTrue (accepted_list T.FromSql.accepted ty)) }
-    ensures ok { OnOk result ((text : List ℕ)
-        × AnswersIn (content own) (option_map content arrays) (RewrittenAs T.reads T.wire) form
-        (cell_of cell.entry) text
-        × (pending.new.items ≡ pending.old.items ++ text)) }
-    ensures err { OnErr result (pending.new.items ≡ pending.old.items) }
-{
-    let Some(ty) = form.pick(own, arrays) else {
-        unreachable!();
-    };
-    let mut out = BytesMut::new(alloc);
-    match rewrite_as::<T>(alloc, form, &ty, cell, &mut out) {
-        Ok(IsNull::Yes) => pending.extend_from_slice(b"null"),
-        Ok(IsNull::No) => print_bytes(&out, pending),
-        Err(fault) => print_fault(alloc, &fault, pending),
+    /// The same of a base name that is no number's and no text's.
+    #[tactic(auto, unfolding(crate::specs::BaseNames::timestamp_entry_of))]
+    fn norm_timestamp(
+        &mut self,
+        alloc: Global,
+        name: Name<'_>,
+        cell: Option<&[u8]>,
+        pending: &mut Vec<u8>,
+    ) -> Result<(), AllocError>
+        requires { IsTrue (has_form (timestamp_entry_of name.base.now) name.form) }
+        ensures ok { OnOk result ((text : List ℕ)
+            × AnswersEntry (timestamp_entry_of name.entry.base.now) name.entry.form
+            (cell_of cell.entry) text
+            × (pending.new.items ≡ pending.old.items ++ text)) }
+        ensures err { OnErr result (pending.new.items ≡ pending.old.items) }
+    {
+        dates_and_times!(
+            name.base,
+            norm_as(self, alloc, name, cell, pending),
+            self.norm_other(alloc, name, cell, pending)
+        )
+    }
+
+    /// The same of one that is no date's, time's or timestamp's either.
+    #[tactic(auto, unfolding(crate::specs::BaseNames::other_entry_of))]
+    fn norm_other(
+        &mut self,
+        alloc: Global,
+        name: Name<'_>,
+        cell: Option<&[u8]>,
+        pending: &mut Vec<u8>,
+    ) -> Result<(), AllocError>
+        requires { IsTrue (has_form (other_entry_of name.base.now) name.form) }
+        ensures ok { OnOk result ((text : List ℕ)
+            × AnswersEntry (other_entry_of name.entry.base.now) name.entry.form
+            (cell_of cell.entry) text
+            × (pending.new.items ≡ pending.old.items ++ text)) }
+        ensures err { OnErr result (pending.new.items ≡ pending.old.items) }
+    {
+        others!(
+            name.base,
+            norm_as(self, alloc, name, cell, pending),
+            unreachable!()
+        )
+    }
+
+    /// The same as a `T` in that form, by the Postgres type or the type of its arrays.
+    fn norm_as<'a, T: Paired<'a>>(
+        &mut self,
+        alloc: Global,
+        form: Form,
+        own: Type,
+        arrays: Option<Type>,
+        cell: Option<&'a [u8]>,
+        pending: &mut Vec<u8>,
+    ) -> Result<(), AllocError>
+        requires has_type { IsTrue (has_type form (option_map content arrays)) }
+        requires own_type { IsTrue (T.FromSql.accepted (content own)) }
+        requires array_type { IfSome (option_map content arrays)
+            (λ ty. IsTrue (accepted_list T.FromSql.accepted ty)) }
+        ensures ok { OnOk result ((text : List ℕ)
+            × AnswersIn (content own) (option_map content arrays) (RewrittenAs T.reads T.wire) form
+            (cell_of cell.entry) text
+            × (pending.new.items ≡ pending.old.items ++ text)) }
+        ensures err { OnErr result (pending.new.items ≡ pending.old.items) }
+    {
+        let Some(ty) = form.pick(own, arrays) else {
+            unreachable!();
+        };
+        self.written.clear();
+        match rewrite_as::<T>(alloc, form, &ty, cell, &mut self.written) {
+            Ok(IsNull::Yes) => pending.extend_from_slice(b"null"),
+            Ok(IsNull::No) => print_bytes(&self.written, pending),
+            Err(fault) => print_fault(alloc, &fault, pending),
+        }
     }
 }
 

@@ -1,5 +1,6 @@
 //! The tests, by topic.
 
+mod answers;
 mod bind;
 mod copy;
 mod formats;

@@ -24,8 +24,8 @@ pub returns-then-n-eq0-clause-ok : goal.returns-then-n-eq0-clause-ok
 returns-then-n-eq0-clause-ok g c =
     let b = g.R.Read.remaining c.reads.input in
     let d = g.R.Read.remaining c.read.new.self in
-    let nothing : Consumes b d [] = rw c.if-n-eq0.true at c.in-Ok.ensures.bytes.0 in
-    let end : IsAtEnd d = c.in-Ok.ensures.bytes.1 c.if-n-eq0.true (omega arith) in
+    let nothing : Consumes b d [] = rw c.if-n-eq0.true at c.in-Ok-read.ensures.bytes.0 in
+    let end : IsAtEnd d = c.in-Ok-read.ensures.bytes.1 c.if-n-eq0.true (omega arith) in
     ok_weaker c.finish.result (λ p.
     let all = rw c.as_slice.ensures.value at p in
     under_way-all _ b d _ _ _ _ c.reads.invariant.2 nothing end all) c.finish.ensures.ok
@@ -46,8 +46,8 @@ pub returns-then-n-eq0-clause-partial : goal.returns-then-n-eq0-clause-partial
 returns-then-n-eq0-clause-partial g c =
     let b = g.R.Read.remaining c.reads.input in
     let d = g.R.Read.remaining c.read.new.self in
-    let nothing : Consumes b d [] = rw c.if-n-eq0.true at c.in-Ok.ensures.bytes.0 in
-    let end : IsAtEnd d = c.in-Ok.ensures.bytes.1 c.if-n-eq0.true (omega arith) in
+    let nothing : Consumes b d [] = rw c.if-n-eq0.true at c.in-Ok-read.ensures.bytes.0 in
+    let end : IsAtEnd d = c.in-Ok-read.ensures.bytes.1 c.if-n-eq0.true (omega arith) in
     err_weaker c.finish.result (λ e p is.
     let part = rw c.as_slice.ensures.value at p is in
     under_way-end_partial _ b d _ _ _ _ c.reads.invariant.2 nothing end part) c.finish.ensures.partial
@@ -68,7 +68,7 @@ returns-in_err-write_whole-clause-partial g c =
     (take w.0 c.take_block-taken.new.pending.items)
     = rw c.as_slice-in-reads.ensures.value at w.2 in
     err_always c.from_residual.result (λ e is. under_way-partial _ _ _ _ _ _ _ _ _ _ _ c.reads.invariant.2
-    c.in-Ok.ensures.bytes.0 t c.reads.invariant.1 part)
+    c.in-Ok-read.ensures.bytes.0 t c.reads.invariant.1 part)
 
 pub returns-then-is_err-clause-whole : goal.returns-then-is_err-clause-whole
 returns-then-is_err-clause-whole g c =
@@ -76,7 +76,7 @@ returns-then-is_err-clause-whole g c =
     let w : Appends (g.W.Write.contents c.reads.output)
     (g.W.Write.contents c.write_whole.new.output) c.take_block-taken.new.pending.items
     = rw c.as_slice-in-reads.ensures.value at c.in_ok-write_whole.ensures.ok in
-    λ _. under_way-stopped _ _ _ _ _ _ _ _ _ _ c.reads.invariant.2 c.in-Ok.ensures.bytes.0 t c.reads.invariant.1 w
+    λ _. under_way-stopped _ _ _ _ _ _ _ _ _ _ c.reads.invariant.2 c.in-Ok-read.ensures.bytes.0 t c.reads.invariant.1 w
 
 pub reads-preserved : goal.reads-preserved
 reads-preserved g c =
@@ -87,7 +87,7 @@ reads-preserved g c =
     = rw c.as_slice-in-reads.ensures.value at c.in_ok-write_whole.ensures.ok in (
       l,
       c.clear.ensures.items,
-      under_way-taken _ _ _ _ _ _ _ _ _ _ _ c.reads.invariant.2 c.in-Ok.ensures.bytes.0 t
+      under_way-taken _ _ _ _ _ _ _ _ _ _ _ c.reads.invariant.2 c.in-Ok-read.ensures.bytes.0 t
           c.reads.invariant.1 w,
     )
 

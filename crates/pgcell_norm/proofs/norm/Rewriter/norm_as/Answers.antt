@@ -1,4 +1,4 @@
--- What the proof of `norm_as` answers by hand.
+-- What the proof of `Rewriter::norm_as` answers by hand.
 use Rattle.std.proofs.Common.{◌≡◌, ◌++◌, ℕ, List, Option, OnOk, option_map, subst}
 use Rattle.postgres_types.specs.Cells.{cell_of}
 use Rattle.postgres_types.specs.Content.{Content, content}
@@ -8,7 +8,7 @@ use Rattle.pgcell_norm.specs.Norm.{AnswersAt}
 use Rattle.pgcell_norm.specs.Rewritten.{RewrittenAs}
 use Rattle.pgcell_norm.proofs.Outcomes.{ok_weaker}
 use Rattle.pgcell_norm.proofs.Printing.{refusal_answers}
-use Rattle.pgcell_norm.proofs.norm.norm_as.Goals as goal
+use Rattle.pgcell_norm.proofs.norm.Rewriter.norm_as.Goals as goal
 
 pub returns-clause-ok : goal.returns-clause-ok
 returns-clause-ok g c =

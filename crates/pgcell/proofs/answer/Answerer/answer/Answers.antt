@@ -1,4 +1,4 @@
--- What the proof of `answer` answers by hand.
+-- What the proof of `Answerer::answer` answers by hand.
 use Rattle.std.proofs.Common.{◌≡◌, ◌++◌, ℕ, List, None, Some, refl, codes}
 use Rattle.postgres_types.specs.Lsn.{lsn_of}
 use Rattle.pgcell.proofs.Outcomes.{on_ok}
@@ -6,8 +6,9 @@ use Rattle.pgcell_norm.proofs.Outcomes.{ok_weaker}
 use Rattle.pgcell.proofs.Printing.{answers_line}
 use Rattle.pgcell.specs.Answer.{AnswersType, lsn_answer}
 use Rattle.pgcell_norm.specs.Norm.{AnswersNorm}
-use Rattle.pgcell.specs.Request.{norm, type_of, lsn, cell_view}
-use Rattle.pgcell.proofs.answer.answer.Goals as goal
+use Rattle.postgres_types.specs.Cells.{cell_of}
+use Rattle.pgcell.specs.Request.{norm, type_of, lsn}
+use Rattle.pgcell.proofs.answer.Answerer.answer.Goals as goal
 
 pub returns-in-None-clause-ok : goal.returns-in-None-clause-ok
 returns-in-None-clause-ok c =
@@ -21,18 +22,17 @@ returns-in-None-clause-ok c =
 pub returns-in-Some-Norm-clause-ok : goal.returns-in-Some-Norm-clause-ok
 returns-in-Some-Norm-clause-ok c =
     let name = c.in-Some-Norm.name in
-    let cell = cell_view c.in-Some-Norm.cell in
+    let cell = cell_of c.in-Some-Norm.cell in
     let old = c.args.pending.now.items in
     let new = c.norm.new.pending.items in
     let asked = rw c.in-Some-Norm.field-0-is at (rw c.in-Some-Norm.is at c.in_ok-parse.ensures) in
-    let told = rw c.borrowed.ensures at c.norm.ensures.ok in
     ok_weaker {P = (text : List ℕ) × AnswersNorm name.base.now name.form cell text × (new ≡ old ++ text)} c.norm.result
     (λ answer. (
       answer.0,
       answers_line c.args.line.now
           (Some (norm (name.base.now, name.form) cell)) answer.0 asked answer.1,
       answer.2,
-    )) told
+    )) c.norm.ensures.ok
 
 pub returns-in-Some-TypeOf-clause-ok : goal.returns-in-Some-TypeOf-clause-ok
 returns-in-Some-TypeOf-clause-ok c =
