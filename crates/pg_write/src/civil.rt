@@ -1,5 +1,5 @@
 //! Writing dates, times of day, and timestamps of `jiff`.
-ghost use Rattle.std.specs.Prelude.{◌≡◌, ◌/◌, ◌-ℤ◌, pos, true, codes};
+ghost use Rattle.std.specs.Prelude.{◌≡◌, ◌/◌, ◌-ℤ◌, int_div, pos, true, codes};
 ghost use Rattle.jiff.specs.Words.{civil_nanos, epoch_day, time_nanos};
 ghost use Rattle.pg_base.specs.Civil.{base_day, instant_nanos, wire_date, wire_datetime, wire_instant, wire_time};
 ghost use Rattle.pg_types.specs.Content.{is_row};
@@ -34,18 +34,29 @@ fn micros_of_time(time: Time) -> i64
     (time.to_plain().to_nanosecond() / 1_000) as i64
 }
 
+/// A thousandth of a number of nanoseconds, truncated toward zero. Within 64 bits, as of the years from 1708 to 2292, it is
+/// divided there: a division in 128 bits is a call and takes many times as long.
+fn thousandth(nanos: i128) -> i128
+    ensures { result ≡ int_div nanos (pos 1000) }
+{
+    match i64::try_from(nanos) {
+        Ok(nanos) => i128::from(nanos / 1_000),
+        Err(_) => nanos / 1_000,
+    }
+}
+
 /// The microseconds from 2000-01-01 00:00:00 to a civil datetime, truncated toward it.
 fn micros_of_datetime(datetime: DateTime) -> i64
     ensures { result ≡ whole_micros (civil_nanos datetime) }
 {
-    ((datetime.to_plain().to_nanosecond() - POSTGRES_EPOCH_NANOS) / 1_000) as i64
+    thousandth(datetime.to_plain().to_nanosecond() - POSTGRES_EPOCH_NANOS) as i64
 }
 
 /// The microseconds from 2000-01-01 00:00:00 UTC to an instant, truncated toward it.
 fn micros_of_instant(instant: Timestamp) -> i64
     ensures { result ≡ whole_micros (instant_nanos instant) }
 {
-    ((instant.as_nanosecond() - POSTGRES_EPOCH_NANOS) / 1_000) as i64
+    thousandth(instant.as_nanosecond() - POSTGRES_EPOCH_NANOS) as i64
 }
 
 /// DATE: 4 bytes, big-endian, in two's complement, the days from 2000-01-01 (`date_send`). No
