@@ -4,7 +4,8 @@ use Rattle.pg_base.specs.Cells.{Cell, Spells, SpellsAll}
 use Rattle.pg_copy.specs.Tuples.{FrameThen, FramesThen}
 
 -- cells after cells are cells in a row
-spelled_more : (s u rest : List ℕ) (cs ds : List Cell) → SpellsAll s cs u → SpellsAll u ds rest → SpellsAll s (cs ++ ds) rest
+spelled_more : (s u rest : List ℕ) (cs ds : List Cell) → SpellsAll s cs u → SpellsAll u ds rest
+    → SpellsAll s (cs ++ ds) rest
 spelled_more s u rest [] ds e r = subst (λ x. SpellsAll x ds rest) (sym e) r
 spelled_more s u rest (c ∷ cs) ds p r = record {
   front = p.front;

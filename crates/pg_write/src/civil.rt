@@ -34,8 +34,8 @@ fn micros_of_time(time: Time) -> i64
     (time.to_plain().to_nanosecond() / 1_000) as i64
 }
 
-/// A thousandth of a number of nanoseconds, truncated toward zero. Within 64 bits, as of the years from 1708 to 2292, it is
-/// divided there: a division in 128 bits is a call and takes many times as long.
+/// A thousandth of a number of nanoseconds, truncated toward zero. Within 64 bits, as of the years
+/// from 1708 to 2292, it is divided there: a division in 128 bits takes many times as long.
 fn thousandth(nanos: i128) -> i128
     ensures { result ≡ int_div nanos (pos 1000) }
 {

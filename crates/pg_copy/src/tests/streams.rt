@@ -14,7 +14,8 @@ const NAMES: &[&str] = &["int4", "text"];
 const LINES: &[u8] = b"1\ta\\tb\n-2\t\\N\n";
 
 const STREAM: &[u8] =
-    b"PGCOPY\n\xff\r\n\0\0\0\0\0\0\0\0\0\0\x02\0\0\0\x04\0\0\0\x01\0\0\0\x03a\tb\0\x02\0\0\0\x04\xff\xff\xff\xfe\xff\xff\xff\xff\xff\xff";
+    b"PGCOPY\n\xff\r\n\0\0\0\0\0\0\0\0\0\0\x02\0\0\0\x04\0\0\0\x01\0\0\0\x03a\tb\0\x02\0\0\0\x04\
+      \xff\xff\xff\xfe\xff\xff\xff\xff\xff\xff";
 
 /// How many bytes a stream moves at a time.
 const STEPS: [usize; 4] = [1, 2, 3, 7];

@@ -13,5 +13,6 @@ returns c =
     let is : c.in-Ok.len ≡ pos (length cell) = omega (arith, ints) in
     let parts : c.read_be_i32.new.buf.now ≡ cell ++ rest = grind (arith, common_steps) in
     let spelled =
-    cell_after_length c.args.bytes.now number.0 c.read_be_i32.new.buf.now cell rest c.in-Ok.len number.1 number.2 is parts in
+    cell_after_length c.args.bytes.now number.0 c.read_be_i32.new.buf.now cell rest c.in-Ok.len number.1 number.2 is
+    parts in
     (Some cell, spelled.0, spelled.1, spelled.2)
