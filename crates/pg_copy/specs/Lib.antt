@@ -1,2 +1,5 @@
 -- The words of this crate's contracts.
+pub mod Escapes
+pub mod Lines
+pub mod Outputs
 pub mod Tuples

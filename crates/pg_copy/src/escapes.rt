@@ -1,9 +1,14 @@
 //! The escapes of COPY's text format.
+ghost use Rattle.std.specs.Prelude.{◌≡◌, ◌++◌, OnOk, OnErr};
+ghost use Rattle.pg_copy.specs.Escapes.{escaped, escaped_byte, letter_of};
+ghost use Rattle.pg_copy.specs.Outputs.{Extends};
 
 use std::alloc::AllocError;
 
 /// The letter that stands for the byte after a backslash, of a byte that has one.
-fn escape_of(byte: u8) -> Option<u8> {
+fn escape_of(byte: u8) -> Option<u8>
+    ensures { result ≡ letter_of byte }
+{
     match byte {
         0x08 => Some(b'b'),
         b'\t' => Some(b't'),
@@ -30,18 +35,29 @@ fn escaped_by(letter: u8) -> u8 {
 }
 
 /// Appends the text with a backslash and a letter for each byte that has one (`CopyAttributeOutText`).
-pub fn escape(text: &[u8], out: &mut Vec<u8>) -> Result<(), AllocError> {
+pub fn escape(text: &[u8], out: &mut Vec<u8>) -> Result<(), AllocError>
+    ensures ok { OnOk result (out.new.items ≡ out.old.items ++ escaped text.now) }
+    ensures err { OnErr result (Extends out.old.items out.new.items) }
+{
     // Most texts have no such byte.
     if text.iter().all(|byte| escape_of(*byte).is_none()) {
         return out.extend_from_slice(text);
     }
-    for byte in text {
-        match escape_of(*byte) {
-            Some(letter) => out.extend_from_slice(&[b'\\', letter])?,
-            None => out.push(*byte)?,
-        }
+    'bytes: for byte in text {
+        push_escaped(*byte, out)?;
     }
     Ok(())
+}
+
+/// Appends the byte, or a backslash and the letter that stands for it.
+fn push_escaped(byte: u8, out: &mut Vec<u8>) -> Result<(), AllocError>
+    ensures ok { OnOk result (out.new.items ≡ out.old.items ++ escaped_byte byte (letter_of byte)) }
+    ensures err { OnErr result (out.new.items ≡ out.old.items) }
+{
+    match escape_of(byte) {
+        Some(letter) => out.extend_from_slice(&[b'\\', letter]),
+        None => Ok(out.push(byte)?),
+    }
 }
 
 /// Appends what the escaped text says, and answers whether it is one. A backslash at its end escapes

@@ -1,4 +1,7 @@
 //! The cell of a text, by the conversion of its column.
+ghost use Rattle.std.specs.Prelude.{◌≡◌, OnErr, OnOk};
+ghost use Rattle.pg_copy.specs.Outputs.{Gains};
+ghost use Rattle.pg_copy.specs.Tuples.{IsFrame};
 
 use crate::columns::{Column, Conversion};
 use crate::text::FromText;
@@ -25,7 +28,10 @@ type Framed = Result<(), Fault>;
 /// Appends the frame of the cell that the value of the text is written as. A text that is no value
 /// of the column's type is the fault `User`; another fault is that of writing. Either leaves the
 /// buffer's bytes as they were.
-pub fn push_frame(alloc: Global, column: &Column, text: Text<'_>, out: &mut BytesMut) -> Framed {
+pub fn push_frame(alloc: Global, column: &Column, text: Text<'_>, out: &mut BytesMut) -> Framed
+    ensures ok { OnOk result (Gains IsFrame out.old.items out.new.items) }
+    ensures err { OnErr result (out.new.items ≡ out.old.items) }
+{
     match column.conversion {
         Conversion::Bool => push_as::<bool>(alloc, column, text, out),
         Conversion::Char => push_as::<i8>(alloc, column, text, out),
@@ -69,7 +75,10 @@ fn push_as<T: FromText + ToSql>(
     column: &Column,
     text: Text<'_>,
     out: &mut BytesMut,
-) -> Framed {
+) -> Framed
+    ensures ok { OnOk result (Gains IsFrame out.old.items out.new.items) }
+    ensures err { OnErr result (out.new.items ≡ out.old.items) }
+{
     if column.is_array {
         return push_array_as::<T>(alloc, &column.ty, text, out);
     }
@@ -86,7 +95,10 @@ fn push_array_as<T: FromText + ToSql>(
     ty: &Type,
     text: Text<'_>,
     out: &mut BytesMut,
-) -> Framed {
+) -> Framed
+    ensures ok { OnOk result (Gains IsFrame out.old.items out.new.items) }
+    ensures err { OnErr result (out.new.items ≡ out.old.items) }
+{
     let elements: Option<Vec<Option<T>>> = match text {
         None => None,
         Some(text) => Some(parse_array(alloc, text)?),

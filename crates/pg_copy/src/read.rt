@@ -1,4 +1,7 @@
 //! From a binary COPY to lines of text.
+ghost use Rattle.std.specs.Prelude.{◌≡◌, ◌≢◌, ◌<◌, ◌++◌, OnOk, OnErr, IfErr, length};
+ghost use Rattle.pg_copy.specs.Lines.{IsField, IsLine, tab_before};
+ghost use Rattle.pg_copy.specs.Outputs.{AreRows, Extends, Gains, WritesPart, WritesWhole};
 
 use crate::columns::Column;
 use crate::copy_fault::{CopyFault, Row, value_fault};
@@ -47,7 +50,14 @@ pub fn read<R: Read, W: Write>(
     columns: &[Column],
     input: &mut R,
     output: &mut W,
-) -> Result<(), CopyFault> {
+) -> Result<(), CopyFault>
+    ensures ok { OnOk result (WritesWhole (AreRows (IsLine (length columns.now)))
+        (W.contents output.old) (W.contents output.new)) }
+    ensures whole { IfErr result (λ e. e ≢ CopyFault.Write →
+        WritesWhole (AreRows (IsLine (length columns.now))) (W.contents output.old) (W.contents output.new)) }
+    ensures part { OnErr result (WritesPart (AreRows (IsLine (length columns.now)))
+        (W.contents output.old) (W.contents output.new)) }
+{
     let mut reading = Reading {
         alloc,
         columns,
@@ -59,31 +69,49 @@ pub fn read<R: Read, W: Write>(
     let mut held = Vec::new(alloc);
     let mut spare = Vec::new(alloc);
     let mut block = [0; BLOCK];
-    for _ in 0..u64::MAX {
+    'reads: for _ in 0..u64::MAX {
         let len = read_block(input, &mut block)?;
         if len == 0 {
             return reading.finish();
         }
-        held.extend_from_slice(&block[..len])?;
-        let mut rest = held.as_slice();
-        let taken = reading.take(&mut rest);
+        let taken = reading.take_block(&block[..len], &mut held, &mut spare);
         write_whole(output, reading.lines.as_slice())?;
-        reading.lines.clear();
         taken?;
-        // A row that is longer than a block stays where it is until it is whole.
-        if rest.len() < held.len() {
-            spare.clear();
-            spare.extend_from_slice(rest)?;
-            mem::swap(&mut held, &mut spare);
-        }
+        reading.lines.clear();
     }
     Err(CopyFault::Read)
 }
 
 impl Reading<'_> {
+    /// Appends the lines of the tuples that end in the block, and holds what comes after them.
+    fn take_block(
+        &mut self,
+        block: &[u8],
+        held: &mut Vec<u8>,
+        spare: &mut Vec<u8>,
+    ) -> Result<(), CopyFault>
+        ensures columns { self.new.columns.now ≡ self.old.columns.now }
+        ensures lines { Gains (AreRows (IsLine (length self.old.columns.now)))
+            self.old.lines.items self.new.lines.items }
+    {
+        held.extend_from_slice(block)?;
+        let mut rest = held.as_slice();
+        self.take(&mut rest)?;
+        // A row that is longer than a block stays where it is until it is whole.
+        if rest.len() < held.len() {
+            spare.clear();
+            spare.extend_from_slice(rest)?;
+            mem::swap(held, spare);
+        }
+        Ok(())
+    }
+
     /// Takes what is whole off the front of the bytes, and appends the lines of its tuples. A fault
     /// leaves the lines of the tuples before it.
-    fn take(&mut self, bytes: &mut &[u8]) -> Result<(), CopyFault> {
+    fn take(&mut self, bytes: &mut &[u8]) -> Result<(), CopyFault>
+        ensures columns { self.new.columns.now ≡ self.old.columns.now }
+        ensures lines { Gains (AreRows (IsLine (length self.old.columns.now))) self.old.lines.items self.new.lines.items }
+    {
         if self.place == Place::Header {
             match take_header(bytes)? {
                 Some(len) => self.place = Place::Extension(len),
@@ -103,7 +131,10 @@ impl Reading<'_> {
     }
 
     /// Takes what is there of so many bytes of the header extension.
-    fn skip(&mut self, len: usize, bytes: &mut &[u8]) {
+    fn skip(&mut self, len: usize, bytes: &mut &[u8])
+        ensures columns { self.new.columns.now ≡ self.old.columns.now }
+        ensures lines { self.new.lines.items ≡ self.old.lines.items }
+    {
         match bytes.split_at_checked(len) {
             Some((_, rest)) => {
                 *bytes = rest;
@@ -117,9 +148,12 @@ impl Reading<'_> {
     }
 
     /// Takes the whole tuples, and the trailer.
-    fn take_tuples(&mut self, bytes: &mut &[u8]) -> Result<(), CopyFault> {
+    fn take_tuples(&mut self, bytes: &mut &[u8]) -> Result<(), CopyFault>
+        ensures columns { self.new.columns.now ≡ self.old.columns.now }
+        ensures lines { Gains (AreRows (IsLine (length self.old.columns.now))) self.old.lines.items self.new.lines.items }
+    {
         // A tuple has two bytes at least.
-        for _ in 0..bytes.len() {
+        'tuples: for _ in 0..bytes.len() {
             let row = self.row.saturating_add(1);
             match front_of(bytes, self.columns.len(), Row::Tuple(row))? {
                 Front::Part => return Ok(()),
@@ -138,7 +172,11 @@ impl Reading<'_> {
     }
 
     /// Takes a whole tuple, and appends its line. A fault leaves the lines as they were.
-    fn take_tuple(&mut self, bytes: &mut &[u8]) -> Result<(), CopyFault> {
+    fn take_tuple(&mut self, bytes: &mut &[u8]) -> Result<(), CopyFault>
+        ensures columns { self.new.columns.now ≡ self.old.columns.now }
+        ensures ok { OnOk result (Gains (IsLine (length self.old.columns.now)) self.old.lines.items self.new.lines.items) }
+        ensures err { OnErr result (self.new.lines.items ≡ self.old.lines.items) }
+    {
         let start = self.lines.len();
         take_count(bytes);
         let outcome = self.push_line(bytes);
@@ -149,22 +187,47 @@ impl Reading<'_> {
     }
 
     /// Appends the line of the fields, and takes them. A fault leaves a part of the line.
-    fn push_line(&mut self, fields: &mut &[u8]) -> Result<(), CopyFault> {
-        for (place, column) in self.columns.iter().enumerate() {
-            if place > 0 {
-                self.lines.push(b'\t')?;
-            }
-            self.value.clear();
-            match push_cell(self.alloc, column, fields, &mut self.value) {
-                Ok(true) => escape(self.value.as_slice(), &mut self.lines)?,
-                Ok(false) => self.lines.extend_from_slice(b"\\N")?,
-                Err(fault) => {
-                    let row = Row::Tuple(self.row);
-                    return Err(value_fault(row, place.saturating_add(1), fault));
-                }
-            }
+    fn push_line(&mut self, fields: &mut &[u8]) -> Result<(), CopyFault>
+        ensures columns { self.new.columns.now ≡ self.old.columns.now }
+        ensures ok { OnOk result (Gains (IsLine (length self.old.columns.now)) self.old.lines.items self.new.lines.items) }
+        ensures err { OnErr result (Extends self.old.lines.items self.new.lines.items) }
+    {
+        'columns: for place in 0..self.columns.len() {
+            self.push_tab(place)?;
+            self.push_field(place, fields)?;
         }
         Ok(self.lines.push(b'\n')?)
+    }
+
+    /// Appends the tab before the field at that place, where it is not the first.
+    fn push_tab(&mut self, place: usize) -> Result<(), CopyFault>
+        ensures columns { self.new.columns.now ≡ self.old.columns.now }
+        ensures ok { OnOk result (self.new.lines.items ≡ self.old.lines.items ++ tab_before place) }
+        ensures err { OnErr result (self.new.lines.items ≡ self.old.lines.items) }
+    {
+        if place > 0 {
+            self.lines.push(b'\t')?;
+        }
+        Ok(())
+    }
+
+    /// Appends the field of the column at that place, and takes it off the front of the fields. A
+    /// fault leaves a part of it.
+    fn push_field(&mut self, place: usize, fields: &mut &[u8]) -> Result<(), CopyFault>
+        requires { place < length self.old.columns.now }
+        ensures columns { self.new.columns.now ≡ self.old.columns.now }
+        ensures ok { OnOk result (Gains IsField self.old.lines.items self.new.lines.items) }
+        ensures err { OnErr result (Extends self.old.lines.items self.new.lines.items) }
+    {
+        self.value.clear();
+        match push_cell(self.alloc, &self.columns[place], fields, &mut self.value) {
+            Ok(true) => Ok(escape(self.value.as_slice(), &mut self.lines)?),
+            Ok(false) => Ok(self.lines.extend_from_slice(b"\\N")?),
+            Err(fault) => {
+                let row = Row::Tuple(self.row);
+                Err(value_fault(row, place.saturating_add(1), fault))
+            }
+        }
     }
 
     /// What the end of the input says.

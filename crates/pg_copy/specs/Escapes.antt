@@ -1,0 +1,28 @@
+-- The escapes of COPY's text format (CopyAttributeOutText).
+use Rattle.std.specs.Prelude.{ℕ, ◌==◌, Bool, List, [], ◌∷◌, ◌++◌, Option, Some, None, is_none, if◌then◌else◌}
+
+-- the letter that stands for a byte after a backslash, of a byte that has one
+abbrev pub letter_of : ℕ → Option ℕ
+letter_of byte =
+    if byte == 8 then Some 98
+    else if byte == 9 then Some 116
+    else if byte == 10 then Some 110
+    else if byte == 11 then Some 118
+    else if byte == 12 then Some 102
+    else if byte == 13 then Some 114
+    else if byte == 92 then Some 92
+    else None
+
+-- a byte, or a backslash and the letter that stands for it
+abbrev pub escaped_byte : ℕ → Option ℕ → List ℕ
+escaped_byte byte None = byte ∷ []
+escaped_byte byte (Some letter) = 92 ∷ letter ∷ []
+
+-- a text in which each byte that has a letter is escaped
+abbrev pub escaped : List ℕ → List ℕ
+escaped [] = []
+escaped (byte ∷ text) = escaped_byte byte (letter_of byte) ++ escaped text
+
+-- whether a byte stands for itself
+abbrev pub is_plain : ℕ → Bool
+is_plain byte = is_none (letter_of byte)
