@@ -6,8 +6,8 @@ use postgres_types::{Fault, Type};
 use serde_json::{Value, json};
 use std::alloc::Global;
 
-/// Does the case of that name, where it is of this file: a document has as many objects as its name states, or is of about
-/// that size.
+/// Does the case of that name, where it is of this file: a document has as many objects as its name
+/// states, or is of about that size.
 pub fn run(name: &str, work: Work) -> Result<Option<u64>, Fault> {
     if let Some(count) = stated(name, "jsonb-") {
         return Ok(Some(documents(work, count)?));

@@ -1,7 +1,8 @@
-//! Work of which `scripts/bench` takes the time: each conversion, rows of several columns, parameters, documents, and types.
+//! Work of which `scripts/bench` takes the time: each conversion, rows of several columns,
+//! parameters, documents, and types.
 //!
-//! `benchmark CASE TURNS` does a case so many times, and prints its name and the checksum of what it made. Without arguments
-//! it does each case once, but for those of a megabyte and more.
+//! `benchmark CASE TURNS` does a case so many times, and prints its name and the checksum of what it
+//! made. Without arguments it does each case once, but for those of a megabyte and more.
 #![tactic(auto)]
 
 mod cases;

@@ -2,8 +2,8 @@
 use Rattle.std.specs.Prelude.{◌&&◌}
 use Rattle.postgres_types.specs.Conversion.{ℤ, BackKept, Bool, Cell, Constrained, Equal, IsLawful, Outcome}
 use Rattle.postgres_types.specs.Conversion.{ReadsConstrained, ReadsSigned, ReadsSingle, Refusal, Wire, ap, codes}
-use Rattle.postgres_types.specs.Conversion.{constrained_lawful, constrained_single, int2_lawful, int2_single, int_le, pos}
-use Rattle.postgres_types.specs.Conversion.{user, w16, wire_constrained, wire_signed}
+use Rattle.postgres_types.specs.Conversion.{constrained_lawful, constrained_single, int2_lawful, int2_single, int_le}
+use Rattle.postgres_types.specs.Conversion.{pos, user, w16, wire_constrained, wire_signed}
 
 -- the constraint
 abbrev pub is_percentage : ℤ → Bool

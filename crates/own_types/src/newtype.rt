@@ -1,8 +1,9 @@
 //! A newtype over a plain format: days since 2000-01-01, sent as DATE.
 ghost use Rattle.std.specs.Prelude.{◌≡◌};
 ghost use Rattle.postgres_types.specs.Conversion.{BackKept, Date, Equal, EveryCell, ReadsSigned, ReadsThrough};
-ghost use Rattle.postgres_types.specs.Conversion.{Through, codes, content_equivalence, int4_lawful, int4_single, is_row};
-ghost use Rattle.postgres_types.specs.Conversion.{refl, signed_finite, through_lawful, through_single, w32, w64, wire_signed};
+ghost use Rattle.postgres_types.specs.Conversion.{Through, codes, content_equivalence, int4_lawful, int4_single};
+ghost use Rattle.postgres_types.specs.Conversion.{is_row, refl, signed_finite, through_lawful, through_single, w32};
+ghost use Rattle.postgres_types.specs.Conversion.{w64, wire_signed};
 
 use postgres_types::private::BytesMut;
 use postgres_types::protocol::{int4_from_sql, int4_to_sql};
@@ -77,7 +78,8 @@ impl<'a> Paired<'a> for Days {
 
     ghost types = { λ _. refl };
 
-    ghost lawful = { λ _ _. through_lawful (λ v. v.0) (ReadsSigned w32) Equal (wire_signed w32) (BackKept Equal) int4_lawful };
+    ghost lawful = { λ _ _. through_lawful (λ v. v.0) (ReadsSigned w32) Equal (wire_signed w32)
+        (BackKept Equal) int4_lawful };
 }
 
 impl<'a> Finite<'a> for Days {

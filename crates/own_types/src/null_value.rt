@@ -2,10 +2,10 @@
 ghost use Rattle.own_types.specs.Ratings.{stars};
 ghost use Rattle.std.specs.Prelude.{◌≡◌};
 ghost use Rattle.postgres_types.specs.Conversion.{BackKept, BackOption, Equal, EveryCell, Int2, ReadsOption};
-ghost use Rattle.postgres_types.specs.Conversion.{ReadsSigned, ReadsThrough, SameOption, Through, codes, equal_equivalence};
-ghost use Rattle.postgres_types.specs.Conversion.{inside_equivalence, int2_lawful, int2_single, is_row, option_equivalence};
-ghost use Rattle.postgres_types.specs.Conversion.{option_lawful, option_single, refl, through_lawful, through_single, w16};
-ghost use Rattle.postgres_types.specs.Conversion.{wire_option, wire_signed};
+ghost use Rattle.postgres_types.specs.Conversion.{ReadsSigned, ReadsThrough, SameOption, Through, codes};
+ghost use Rattle.postgres_types.specs.Conversion.{equal_equivalence, inside_equivalence, int2_lawful, int2_single};
+ghost use Rattle.postgres_types.specs.Conversion.{is_row, option_equivalence, option_lawful, option_single, refl};
+ghost use Rattle.postgres_types.specs.Conversion.{through_lawful, through_single, w16, wire_option, wire_signed};
 
 use postgres_types::private::BytesMut;
 use postgres_types::protocol::{int2_from_sql, int2_to_sql};

@@ -32,8 +32,8 @@ frames_next s mid rest n h f =
 pub no_frame : (a : List ℕ) → GainsFrames 0 a a
 no_frame a = ([], [], refl, refl, sym (append-nil a))
 
-next_frames : (cells : List Cell) (cell : Cell) (bytes more : List ℕ) → frames cells ≡ Some bytes → frame cell ≡ Some more
-    → frames (cells ++ cell ∷ []) ≡ Some (bytes ++ more)
+next_frames : (cells : List Cell) (cell : Cell) (bytes more : List ℕ) → frames cells ≡ Some bytes
+    → frame cell ≡ Some more → frames (cells ++ cell ∷ []) ≡ Some (bytes ++ more)
 next_frames cells cell bytes more so_far next =
     frames-append cells (cell ∷ []) ∙ ap (concat (frames cells)) (concat-nil (frame cell)) ∙ rw (so_far, next) refl
 

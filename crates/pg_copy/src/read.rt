@@ -110,7 +110,8 @@ impl Reading<'_> {
     /// leaves the lines of the tuples before it.
     fn take(&mut self, bytes: &mut &[u8]) -> Result<(), CopyFault>
         ensures columns { self.new.columns.now ≡ self.old.columns.now }
-        ensures lines { Gains (AreRows (IsLine (length self.old.columns.now))) self.old.lines.items self.new.lines.items }
+        ensures lines { Gains (AreRows (IsLine (length self.old.columns.now)))
+            self.old.lines.items self.new.lines.items }
     {
         if self.place == Place::Header {
             match take_header(bytes)? {
@@ -150,7 +151,8 @@ impl Reading<'_> {
     /// Takes the whole tuples, and the trailer.
     fn take_tuples(&mut self, bytes: &mut &[u8]) -> Result<(), CopyFault>
         ensures columns { self.new.columns.now ≡ self.old.columns.now }
-        ensures lines { Gains (AreRows (IsLine (length self.old.columns.now))) self.old.lines.items self.new.lines.items }
+        ensures lines { Gains (AreRows (IsLine (length self.old.columns.now)))
+            self.old.lines.items self.new.lines.items }
     {
         // A tuple has two bytes at least.
         'tuples: for _ in 0..bytes.len() {
@@ -174,7 +176,8 @@ impl Reading<'_> {
     /// Takes a whole tuple, and appends its line. A fault leaves the lines as they were.
     fn take_tuple(&mut self, bytes: &mut &[u8]) -> Result<(), CopyFault>
         ensures columns { self.new.columns.now ≡ self.old.columns.now }
-        ensures ok { OnOk result (Gains (IsLine (length self.old.columns.now)) self.old.lines.items self.new.lines.items) }
+        ensures ok { OnOk result (Gains (IsLine (length self.old.columns.now))
+            self.old.lines.items self.new.lines.items) }
         ensures err { OnErr result (self.new.lines.items ≡ self.old.lines.items) }
     {
         let start = self.lines.len();
@@ -189,7 +192,8 @@ impl Reading<'_> {
     /// Appends the line of the fields, and takes them. A fault leaves a part of the line.
     fn push_line(&mut self, fields: &mut &[u8]) -> Result<(), CopyFault>
         ensures columns { self.new.columns.now ≡ self.old.columns.now }
-        ensures ok { OnOk result (Gains (IsLine (length self.old.columns.now)) self.old.lines.items self.new.lines.items) }
+        ensures ok { OnOk result (Gains (IsLine (length self.old.columns.now))
+            self.old.lines.items self.new.lines.items) }
         ensures err { OnErr result (Extends self.old.lines.items self.new.lines.items) }
     {
         'columns: for place in 0..self.columns.len() {

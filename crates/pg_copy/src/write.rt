@@ -243,7 +243,8 @@ impl Writing<'_> {
         requires empty { self.old.out.items ≡ [] }
         ensures ok { OnOk result (WritesWhole (HasTrailer (length self.old.columns.now))
             (W.contents output.old) (W.contents output.new)) }
-        ensures whole { IfErr result (λ e. e ≢ CopyFault.Write → Keeps (W.contents output.old) (W.contents output.new)) }
+        ensures whole { IfErr result (λ e. e ≢ CopyFault.Write →
+            Keeps (W.contents output.old) (W.contents output.new)) }
         ensures part { OnErr result (WritesPart (HasTrailer (length self.old.columns.now))
             (W.contents output.old) (W.contents output.new)) }
     {

@@ -2,7 +2,8 @@
 ghost use Rattle.std.specs.Prelude.{◌≡◌, IsTrue, IfOk, codes};
 ghost use Rattle.postgres_types.specs.Content.{SimpleKind, UserDefinedType, content, field_name, field_type};
 ghost use Rattle.postgres_types.specs.Content.{kind_content};
-ghost use Rattle.pgcell_norm.specs.UserTypes.{is_type, item_array_type, item_type, mood_type, session_id_type, simple_type};
+ghost use Rattle.pgcell_norm.specs.UserTypes.{is_type, item_array_type, item_type, mood_type, session_id_type};
+ghost use Rattle.pgcell_norm.specs.UserTypes.{simple_type};
 
 use postgres_types::{Field, Kind, Oid, Type};
 use std::alloc::{AllocError, Global};

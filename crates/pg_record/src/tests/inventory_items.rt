@@ -271,8 +271,8 @@ fn any_negative_length_is_null(rt: HostRuntime) -> Result<(), Fail> {
 }
 
 /// The array of the one item.
-const NUTS: &[u8] =
-    b"\0\0\0\x01\0\0\0\0\0\x01\x86\xa3\0\0\0\x01\0\0\0\x01\0\0\0\x23\0\0\0\x03\0\0\0\x19\0\0\0\x03nut\0\0\0\x17\0\0\0\x04\0\0\0\x07\0\0\0\x14\xff\xff\xff\xff";
+const NUTS: &[u8] = b"\0\0\0\x01\0\0\0\0\0\x01\x86\xa3\0\0\0\x01\0\0\0\x01\0\0\0\x23\
+    \0\0\0\x03\0\0\0\x19\0\0\0\x03nut\0\0\0\x17\0\0\0\x04\0\0\0\x07\0\0\0\x14\xff\xff\xff\xff";
 
 #[test]
 fn items_nest_in_wrappers(rt: HostRuntime) -> Result<(), Fail> {
