@@ -17,9 +17,13 @@ pub mod user_types;
 use types::Type;
 
 /// Why a value is not read or not written, by the numbers of docs/SPECIFICATION.md.
+/// With `large_fault` it is as large as the library's, which has the text of a refusal in place.
 #[rustfmt::skip]
+#[cfg_attr(large_fault, repr(u8))]
 #[derive(Clone, Copy, Debug)]
 pub enum Fault {
+    #[cfg(large_fault)]
+    Text([u8; 95]) = 1,
     WasNull = 2, WrongType = 3, Size = 4, Utf8 = 5, Count = 6, KeyLength = 7, Dimensions = 8, TooFew = 9, Excess = 10,
     Decode = 11, Transmit = 12, JsonVersion = 13, TextVersion = 14, JsonText = 15, JsonNumber = 16, Family = 17,
     Netmask = 18, AddressLength = 19, HostBits = 20, User = 21, FieldCount = 22, FieldOid = 23,

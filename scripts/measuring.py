@@ -10,6 +10,8 @@ from itertools import zip_longest
 TOP = os.path.dirname(os.path.dirname(os.path.abspath(__file__)))
 # One unit, so that how plain Rust is divided into files does not decide what is inlined.
 RUSTC = ["rustc", "--edition", "2024", "-C", "opt-level=3", "-C", "codegen-units=1", "-C", "target-cpu=x86-64-v2"]
+# What Rattle's language does not have: the assumption that a `&mut` is alone, and a `Fault` of one byte.
+LIKE_RATTLE = ["-Z", "mutable-noalias=no", "-Z", "box-noalias=no", "--cfg", "large_fault"]
 ROUNDS = 5
 
 
@@ -67,9 +69,9 @@ def number(pattern, text):
     return int(re.search(pattern, text)[1].replace(",", ""))
 
 
-def plain_rust(name, folder):
+def plain_rust(name, folder, flags=()):
     """Builds a program of plain Rust in a folder."""
-    said_of([*RUSTC, "-o", f"{folder}/{name}", f"{TOP}/bench/{name}.rs"])
+    said_of(["env", "RUSTC_BOOTSTRAP=1", *RUSTC, *flags, "-o", f"{folder}/{name}", f"{TOP}/bench/{name}.rs"])
     return Program(f"{folder}/{name}")
 
 
