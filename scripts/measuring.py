@@ -45,7 +45,10 @@ class Program:
 
     def resident(self, work):
         """Does the work: the most bytes that the process had resident."""
-        return self.done(work, is_kept=False)[0].ru_maxrss * 1024
+        with open(work.source, "rb") as source:
+            ran = subprocess.run(timed([self.path, *work.words]), stdin=source, stdout=subprocess.DEVNULL,
+                                 stderr=subprocess.PIPE, check=True)
+        return used(ran.stderr)[1]
 
     def counts(self, work):
         """Returns how many instructions and how many allocations valgrind counts in the work."""
@@ -54,6 +57,19 @@ class Program:
         instructions = said_of(["valgrind", *cachegrind, *command], source=work.source)
         allocations = said_of(["valgrind", *command], source=work.source)
         return number(r"I\s+refs:\s+([\d,]+)", instructions), number(r"total heap usage: ([\d,]+) allocs", allocations)
+
+
+def timed(command):
+    """The command under `time`: of a process that Python starts itself, the system counts Python's memory as the process's."""
+    if not os.path.exists("/usr/bin/time"):
+        sys.exit("/usr/bin/time is not there; Debian's package time has it")
+    return ["/usr/bin/time", "-f", "%U %S %M", *command]
+
+
+def used(told):
+    """Returns the processor seconds and the most resident bytes that `time` told at the end."""
+    user, system, kilobytes = told.split()[-3:]
+    return float(user) + float(system), int(kilobytes) * 1024
 
 
 def said_of(command, folder=TOP, source=os.devnull):
