@@ -1,6 +1,6 @@
 //! The conversions of the crate postgres-types and its usual companions in plain Rust, but with std alone: values are
 //! appended to a `Vec<u8>`, and the length of a frame is set once its cell stands after it. The programs beside this
-//! file have them.
+//! file have them. With the option `equal_terms` they keep what the library promises of faults and of memory.
 #![allow(dead_code, reason = "each program has a part of them")]
 
 pub mod dates;
@@ -17,12 +17,12 @@ pub mod user_types;
 use types::Type;
 
 /// Why a value is not read or not written, by the numbers of docs/SPECIFICATION.md.
-/// With `large_fault` it is as large as the library's, which has the text of a refusal in place.
+/// On equal terms it is as large as the library's, which has the text of a refusal in place.
 #[rustfmt::skip]
-#[cfg_attr(large_fault, repr(u8))]
+#[cfg_attr(equal_terms, repr(u8))]
 #[derive(Clone, Copy, Debug)]
 pub enum Fault {
-    #[cfg(large_fault)]
+    #[cfg(equal_terms)]
     Text([u8; 95]) = 1,
     WasNull = 2, WrongType = 3, Size = 4, Utf8 = 5, Count = 6, KeyLength = 7, Dimensions = 8, TooFew = 9, Excess = 10,
     Decode = 11, Transmit = 12, JsonVersion = 13, TextVersion = 14, JsonText = 15, JsonNumber = 16, Family = 17,

@@ -1,7 +1,7 @@
 """The cases of crates/benchmark that scripts/bench measures: conversions, rows, parameters and types."""
 import os
 
-from measuring import LIKE_RATTLE, TOP, Program, Work, compare, counts_of, plain_rust, row, said_of, shown, table, times_of
+from measuring import EQUAL_TERMS, TOP, Program, Work, compare, counts_of, plain_rust, row, said_of, shown, table, times_of
 
 CRATE = f"{TOP}/crates/benchmark"
 # Conversions that are read and written, and how many items a turn of theirs has: values, entries, elements, or bytes.
@@ -46,11 +46,11 @@ def work_of(case, turns):
     return Work((case, str(turns)))
 
 
-def built(given, folder, like_rattle):
+def built(given, folder, equal_terms=False):
     """Returns the library's program, which is proved and built first where it is not given, and plain Rust."""
     if not given:
         said_of(["rt", "run", "--jobs", str(os.cpu_count()), "--", "read-int4", "1"], CRATE)
-    return [Program(given or f"{CRATE}/out/benchmark"), plain_rust("plain", folder, LIKE_RATTLE if like_rattle else ())]
+    return [Program(given or f"{CRATE}/out/benchmark"), plain_rust("plain", folder, EQUAL_TERMS if equal_terms else ())]
 
 
 def row_of(programs, case):

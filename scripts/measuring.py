@@ -10,8 +10,9 @@ from itertools import zip_longest
 TOP = os.path.dirname(os.path.dirname(os.path.abspath(__file__)))
 # One unit, so that how plain Rust is divided into files does not decide what is inlined.
 RUSTC = ["rustc", "--edition", "2024", "-C", "opt-level=3", "-C", "codegen-units=1", "-C", "target-cpu=x86-64-v2"]
-# What Rattle's language does not have: the assumption that a `&mut` is alone, and a `Fault` of one byte.
-LIKE_RATTLE = ["-Z", "mutable-noalias=no", "-Z", "box-noalias=no", "--cfg", "large_fault"]
+# Without what Rattle's compiler does not tell LLVM, that nothing else reaches what a `&mut` points to, and with what the library
+# promises of faults and of memory.
+EQUAL_TERMS = ["-Z", "mutable-noalias=no", "-Z", "box-noalias=no", "--cfg", "equal_terms"]
 ROUNDS = 5
 
 

@@ -25,9 +25,9 @@ pub fn read_value<'a, T: FromSql<'a>>(ty: &Type, buf: &mut &'a [u8]) -> Result<T
     T::from_sql_nullable(ty, Some(cell))
 }
 
-/// Reads so many frames. No more is reserved than the frames that the bytes may hold.
+/// Reads so many frames. No more is reserved than the frames that the bytes may hold, and on equal terms nothing.
 pub fn read_values<'a, T: FromSql<'a>>(ty: &Type, count: usize, buf: &mut &'a [u8]) -> Result<Vec<T>, Fault> {
-    let mut values = Vec::with_capacity(count.min(buf.len() / 4));
+    let mut values = Vec::with_capacity(if cfg!(equal_terms) { 0 } else { count.min(buf.len() / 4) });
     for _ in 0..count {
         values.push(read_value(ty, buf)?);
     }

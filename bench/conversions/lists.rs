@@ -1,6 +1,8 @@
 //! Options, lists and arrays.
 
-use super::frames::{count_to_sql, frame_to_sql, read_count, read_end, read_value, read_values};
+#[cfg(not(equal_terms))]
+use super::frames::frame_to_sql;
+use super::frames::{count_to_sql, read_count, read_end, read_value, read_values};
 use super::types::Type;
 use super::{Fault, FromSql, IsNull, ToSql, accepts, to_sql_checked};
 
@@ -73,22 +75,58 @@ impl<'a, T: FromSql<'a> + Copy + Default, const N: usize> FromSql<'a> for [T; N]
     accepts!(|ty: &Type| ty.element().is_ok_and(T::accepts));
 }
 
-/// Appends the array of these elements: the head, and the frame of each.
-fn list_to_sql<T: ToSql>(values: &[T], ty: &Type, out: &mut Vec<u8>) -> Result<IsNull, Fault> {
-    let element = ty.element()?;
+/// Appends the head of an array of so many elements, and answers where its flags stand.
+fn head_to_sql(count: usize, ty: &Type, out: &mut Vec<u8>) -> Result<usize, Fault> {
     let lower_bound = i32::from(!matches!(ty, Type::OidVector | Type::Int2Vector));
-    out.reserve(20 + 8 * values.len());
     count_to_sql(1, out)?;
     let flags = out.len();
     out.extend_from_slice(&[0; 4]);
-    out.extend_from_slice(&element.oid().to_be_bytes());
-    count_to_sql(values.len(), out)?;
+    out.extend_from_slice(&ty.element()?.oid().to_be_bytes());
+    count_to_sql(count, out)?;
     out.extend_from_slice(&lower_bound.to_be_bytes());
+    Ok(flags)
+}
+
+/// Appends the array of these elements: the head, and the frame of each.
+#[cfg(not(equal_terms))]
+fn list_to_sql<T: ToSql>(values: &[T], ty: &Type, out: &mut Vec<u8>) -> Result<IsNull, Fault> {
+    let element = ty.element()?;
+    out.reserve(20 + 8 * values.len());
+    let flags = head_to_sql(values.len(), ty, out)?;
     let mut has_null = false;
     for value in values {
         has_null |= frame_to_sql(out, |out| value.to_sql(element, out))? == IsNull::Yes;
     }
     out[flags..flags + 4].copy_from_slice(&i32::from(has_null).to_be_bytes());
+    Ok(IsNull::No)
+}
+
+/// The same, but `out` is touched only after the last element: the cells stand in a buffer of their own first, and
+/// their lengths in a list.
+#[cfg(equal_terms)]
+fn list_to_sql<T: ToSql>(values: &[T], ty: &Type, out: &mut Vec<u8>) -> Result<IsNull, Fault> {
+    let element = ty.element()?;
+    let mut scratch = Vec::with_capacity(size_of_val(values));
+    let mut lens = Vec::with_capacity(values.len());
+    for value in values {
+        let start = scratch.len();
+        let is_null = value.to_sql(element, &mut scratch)?;
+        lens.push((is_null == IsNull::No).then(|| scratch.len() - start));
+    }
+    out.reserve(20 + 4 * lens.len() + scratch.len());
+    let flags = head_to_sql(lens.len(), ty, out)?;
+    let mut rest = scratch.as_slice();
+    for len in &lens {
+        let Some(len) = *len else {
+            out.extend_from_slice(&(-1i32).to_be_bytes());
+            continue;
+        };
+        let (cell, after) = rest.split_at(len);
+        count_to_sql(len, out)?;
+        out.extend_from_slice(cell);
+        rest = after;
+    }
+    out[flags..flags + 4].copy_from_slice(&i32::from(lens.contains(&None)).to_be_bytes());
     Ok(IsNull::No)
 }
 
