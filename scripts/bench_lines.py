@@ -61,7 +61,7 @@ def file_of(lines, folder, name):
     return Work(source=path)
 
 
-def built(given, folder, _like_rattle):
+def built(given, folder):
     """Returns pgcell, which is proved and built first where it is not given, and plain Rust."""
     if not given:
         said_of([f"{TOP}/pgcell"])
