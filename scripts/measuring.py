@@ -61,7 +61,7 @@ class Program:
 
 
 def timed(command):
-    """The command under `time`: of a process that Python starts itself, the system counts Python's memory as the process's."""
+    """The command under `time`: of a process that Python starts, the system counts Python's own memory too."""
     if not os.path.exists("/usr/bin/time"):
         sys.exit("/usr/bin/time is not there; Debian's package time has it")
     return ["/usr/bin/time", "-f", "%U %S %M", *command]
