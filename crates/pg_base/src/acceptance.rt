@@ -32,7 +32,7 @@ pub fn is_text(ty: &PgType) -> bool
 pub fn has_version(ty: &PgType) -> bool
     ensures { result ≡ has_version (content ty.now) }
 {
-    ty.name() == "ltree" || ty.name() == "lquery" || ty.name() == "ltxtquery"
+    matches!(ty.name(), "ltree" | "lquery" | "ltxtquery")
 }
 
 /// Whether maps are read from cells of that type and written to them: it is named hstore, whatever

@@ -42,6 +42,7 @@ impl Model for IpInet {
 impl IpInet {
     /// The address with a netmask of `len` bits, which is refused with `Netmask` where the address
     /// has fewer: 32 in IPv4, 128 in IPv6.
+    #[inline(always)]
     pub fn new(addr: IpAddr, len: u8) -> Result<IpInet, Fault>
         ensures outcome { Answers (NetworkOrFault (with_netmask addr len)
             (first_fault_netmask (with_netmask addr len))) result }
@@ -90,6 +91,7 @@ impl IpCidr {
     /// The network of that first address and a netmask of `len` bits. It is refused with `Netmask`
     /// where the address has fewer bits, 32 in IPv4 and 128 in IPv6, and then with `HostBits` where
     /// a bit of the address after the first `len` is 1.
+    #[inline(always)]
     pub fn new(addr: IpAddr, len: u8) -> Result<IpCidr, Fault>
         ensures outcome { Answers (NetworkOrFault (with_netmask addr len)
             (first_fault_network (with_netmask addr len))) result }
@@ -120,6 +122,7 @@ impl IpCidr {
 }
 
 /// Whether a bit of the address after the first `len` is 1.
+#[inline(always)]
 #[tactic(auto, using(crate::proofs::HostBits::v4_host_part, crate::proofs::HostBits::v6_host_part))]
 fn has_host_bits(addr: IpAddr, len: u8) -> bool
     ensures { result ≡ not (host_part (address_octets addr) len == 0) }

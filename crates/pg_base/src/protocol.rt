@@ -4,6 +4,9 @@
 //! An appender appends the bytes of its value, or leaves the buffer as it was with `Memory`, and
 //! that only where the buffer had less spare room than these bytes; where a limit is passed it
 //! answers `Transmit`.
+//!
+//! Appenders are inlined into the conversions, since each call would hand over a `Result` with a
+//! `Fault`, of about 100 bytes, through memory.
 
 mod arrays;
 mod bits;

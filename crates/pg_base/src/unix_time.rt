@@ -1,5 +1,6 @@
 //! Timestamps in seconds.
-ghost use Rattle.std.specs.Prelude.{◌≡◌, ◌≤◌, ◌<◌, false, MatchOption};
+ghost use Rattle.std.specs.Prelude.{◌≡◌, ◌≤◌, ◌<◌, false, MatchOption, int_div, pos};
+ghost use Rattle.pg_base.specs.Numbers.{fits_signed};
 ghost use Rattle.std.specs.Int.{w64};
 
 pub mod laws;
@@ -19,7 +20,6 @@ pub struct UnixTime {
 
 impl UnixTime {
     ghost use Rattle.pg_base.specs.Timestamps.{IsAfterBase, nanos_of, whole_micros};
-    ghost use Rattle.pg_base.specs.Numbers.{fits_signed};
 
     /// The timestamp `nanos` nanoseconds after second `secs`; `None` where `nanos` is 1,000,000,000
     /// or more.
@@ -65,6 +65,19 @@ impl UnixTime {
     {
         let secs = i128::from(self.secs) - i128::from(POSTGRES_EPOCH_SECS);
         let nanos = secs * 1_000_000_000 + i128::from(self.nanos);
-        i64::try_from(nanos / 1_000).ok()
+        thousandth(nanos)
+    }
+}
+
+/// A thousandth, truncated toward zero; `None` where an `i64` does not hold it. Within 64 bits, as
+/// of the years from 1708 to 2292, it is divided there: a division in 128 bits takes many times as
+/// long.
+fn thousandth(nanos: i128) -> Option<i64>
+    ensures { MatchOption result (fits_signed w64 (int_div nanos (pos 1000)) ≡ false)
+        (λ n. n ≡ int_div nanos (pos 1000)) }
+{
+    match i64::try_from(nanos) {
+        Ok(nanos) => Some(nanos / 1_000),
+        Err(_) => i64::try_from(nanos / 1_000).ok(),
     }
 }

@@ -34,14 +34,17 @@ pub fn frame_value<T: ToSql>(
         out.old.items out.new.items result }
 {
     let start = out.len();
-    let outcome = value_to_sql(alloc, value, ty, out);
-    if outcome.is_err() {
-        out.truncate(start);
+    match value_to_sql(alloc, value, ty, out) {
+        Ok(()) => Ok(()),
+        Err(fault) => {
+            out.truncate(start);
+            Err(fault)
+        }
     }
-    outcome
 }
 
 /// Appends the frame of the value. A refusal leaves what was appended so far.
+#[inline(always)]
 fn value_to_sql<T: ToSql>(
     alloc: Global,
     value: &T,
@@ -52,11 +55,13 @@ fn value_to_sql<T: ToSql>(
         out.old.items out.new.items result }
 {
     let start = out.len();
+    // The frame of NULL, whose length is put right once a cell stands after it.
     out.put_i32(-1)?;
-    let IsNull::No = value.to_sql_checked(alloc, ty, out)? else {
-        return Ok(());
-    };
-    frame_from(start, out)
+    match value.to_sql_checked(alloc, ty, out) {
+        Ok(IsNull::Yes) => Ok(()),
+        Ok(IsNull::No) => frame_from(start, out),
+        Err(fault) => Err(fault),
+    }
 }
 
 /// Appends the frames of the parameters in their order, each for the type that stands at its place:
@@ -87,6 +92,7 @@ pub fn params_to_sql(
 }
 
 /// Appends the frame of the parameter. A refusal leaves what was appended so far.
+#[inline(always)]
 fn param_to_sql(
     alloc: Global,
     param: &Box<dyn ToSql>,
@@ -108,6 +114,7 @@ fn param_to_sql(
 }
 
 /// Makes what stands from `start` on a frame: its first 4 bytes become the number of the others.
+#[inline(always)]
 fn frame_from(start: usize, out: &mut BytesMut) -> Result<(), Fault>
     requires { start + LEN ≤ length out.old.items }
     ensures { FramesFrom start out.old.items out.new.items result }

@@ -38,6 +38,7 @@ impl<'a> FromSql<'a> for IpAddr {
 
     ghost single = { λ _ _. plain_single (λ v w. v ≡ w) FormAddress first_fault_inet address_grammar };
 
+    #[inline(always)]
     fn from_sql(_alloc: Global, _ty: &PgType, raw: &'a [u8]) -> Result<IpAddr, Fault> {
         Ok(inet_from_sql(raw)?.addr())
     }
@@ -65,6 +66,7 @@ impl<'a> FromSql<'a> for IpInet {
 
     ghost single = { λ _ _. plain_single (λ v w. v ≡ w) FormInet first_fault_inet inet_grammar };
 
+    #[inline(always)]
     fn from_sql(_alloc: Global, _ty: &PgType, raw: &'a [u8]) -> Result<IpInet, Fault> {
         let inet = inet_from_sql(raw)?;
         IpInet::new(inet.addr(), inet.netmask())
@@ -94,6 +96,7 @@ impl<'a> FromSql<'a> for IpCidr {
 
     ghost single = { λ _ _. plain_single (λ v w. v ≡ w) FormCidr first_fault_cidr cidr_grammar };
 
+    #[inline(always)]
     fn from_sql(_alloc: Global, _ty: &PgType, raw: &'a [u8]) -> Result<IpCidr, Fault> {
         let inet = inet_from_sql(raw)?;
         IpCidr::new(inet.addr(), inet.netmask())

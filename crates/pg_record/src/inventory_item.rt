@@ -68,7 +68,8 @@ fn read_fields(
     requires name { IsTrue (accepted_text (content (field_type name.now))) }
     requires supplier_id { IsTrue (is_row Int4 (content (field_type supplier_id.now))) }
     requires price { IsTrue (is_row Int8 (content (field_type price.now))) }
-    ensures { Answers (reads_item (fields_content (name.now ∷ supplier_id.now ∷ price.now ∷ [])) (Some raw.now)) result }
+    ensures { Answers
+        (reads_item (fields_content (name.now ∷ supplier_id.now ∷ price.now ∷ [])) (Some raw.now)) result }
 {
     let mut buf = raw;
     read_field_count(3, &mut buf)?;

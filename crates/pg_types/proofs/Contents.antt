@@ -68,8 +68,8 @@ one-test false true f g = g refl
 one-test false false f g = refl
 
 -- the derived == of rows compares their OIDs
-pub eq-rows : (a b : Row) → rows.eq a b ≡ (row_oid a == row_oid b)
-eq-rows a b =
+pub eq_rows : (a b : Row) → rows.eq a b ≡ (row_oid a == row_oid b)
+eq_rows a b =
     one-test _ _ (λ h. eq-eqb _ _ (ap row_oid (same_true the_type (search rules) a b h)))
     (λ h. true_same the_type a b (row-same a b h))
 

@@ -37,7 +37,7 @@ use Rattle.pg_types.specs.Content.{Content, SameField, content, field_name, fiel
 use Rattle.pg_types.specs.Content.{inner_content, kind_content, row_content, same_fields, same_kind_content}
 use Rattle.pg_types.specs.Content.{same_type}
 use Rattle.pg_types.specs.KindRefs.{kind_ref_view}
-use Rattle.pg_types.proofs.Contents.{bytes-same, bytes-self, eq-rows, kind-same, kind-self, type-same, type-self}
+use Rattle.pg_types.proofs.Contents.{bytes-same, bytes-self, eq_rows, kind-same, kind-self, type-same, type-self}
 
 -- lists of strings are compared by their texts
 strings : (xs ys : List (String Global)) → pointwise string_eq xs ys
@@ -52,7 +52,7 @@ mutual
 
   -- == of the insides of two types
   eq-inner : (a b : Inner) → inners.eq a b ≡ same_type (inner_content a) (inner_content b)
-  eq-inner (BuiltIn x) (BuiltIn y) = inner_laws.is (BuiltIn x) (BuiltIn y) ∙ eq-rows x y
+  eq-inner (BuiltIn x) (BuiltIn y) = inner_laws.is (BuiltIn x) (BuiltIn y) ∙ eq_rows x y
   eq-inner (Other' p n o k s) (Other' q m i l t) =
       inner_laws.is (Other' p n o k s) (Other' q m i l t)
       ∙ other_laws.is (record { name = n; oid = o; kind = k; schema = s })

@@ -107,6 +107,7 @@ impl PgType {
 
     /// The kind of this type. The element type of a built-in array is owned; whatever a
     /// user-defined type holds is borrowed from it.
+    #[inline(always)]
     #[tactic(auto, using(crate::proofs::Fields::composite_content))]
     pub fn kind(&self) -> KindRef<'_>
         ensures { kind_ref_view result ≡ kind_of (content self.now) }
@@ -124,11 +125,17 @@ impl PgType {
 
     /// Whether this is that type, as `==` answers. The contract is in the words of an acceptance, so
     /// a test of acceptance over it is proved without a lemma.
-    #[tactic(auto, using(crate::proofs::DerivedTypes::eq_content))]
+    #[inline]
+    #[tactic(auto, using(crate::proofs::DerivedTypes::eq_content, crate::proofs::Contents::eq_rows))]
     pub fn is(&self, other: &PgType) -> bool
         ensures { result ≡ same_type (content self.now) (content other.now) }
     {
-        *self == *other
+        match (&self.inner, &other.inner) {
+            // Most types are built in, and then no call is made.
+            (Inner::BuiltIn(row), Inner::BuiltIn(other)) => *row == *other,
+            (Inner::Other(_), Inner::Other(_)) => *self == *other,
+            _ => false,
+        }
     }
 
     /// An equal type. A built-in one is never refused, and a user-defined one with

@@ -256,11 +256,10 @@ fn frame_len(is_null: IsNull, len: usize) -> Option<Option<usize>>
 }
 
 /// The number of the first element of an array of that type.
-#[tactic(auto, using(pg_types::proofs::DerivedTypes::eq_content))]
 fn lower_bound(ty: &PgType) -> i32
     ensures { result ≡ lower_bound_of (content ty.now) }
 {
-    if *ty == PgType::OID_VECTOR || *ty == PgType::INT2_VECTOR {
+    if ty.is(&PgType::OID_VECTOR) || ty.is(&PgType::INT2_VECTOR) {
         0
     } else {
         1

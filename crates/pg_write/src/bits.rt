@@ -26,6 +26,7 @@ impl ToSql for BitVec {
 
     ghost refuses_memory_free = { true };
 
+    #[inline(always)]
     fn to_sql(&self, alloc: Global, _ty: &PgType, out: &mut BytesMut) -> Result<IsNull, Fault> {
         varbit_to_sql(alloc, self.len(), self.as_bytes(), out)?;
         Ok(IsNull::No)

@@ -26,6 +26,7 @@ impl<'b> ToSql for &'b [u8] {
 
     ghost refuses_memory_free = { true };
 
+    #[inline(always)]
     fn to_sql(&self, alloc: Global, _ty: &PgType, out: &mut BytesMut) -> Result<IsNull, Fault> {
         bytea_to_sql(alloc, *self, out)?;
         Ok(IsNull::No)
@@ -67,6 +68,7 @@ impl ToSql for Vec<u8> {
 
     ghost refuses_memory_free = { true };
 
+    #[inline(always)]
     fn to_sql(&self, alloc: Global, _ty: &PgType, out: &mut BytesMut) -> Result<IsNull, Fault> {
         bytea_to_sql(alloc, self.as_slice(), out)?;
         Ok(IsNull::No)
@@ -106,6 +108,7 @@ impl<const N: usize> ToSql for [u8; N] {
 
     ghost refuses_memory_free = { true };
 
+    #[inline(always)]
     fn to_sql(&self, alloc: Global, _ty: &PgType, out: &mut BytesMut) -> Result<IsNull, Fault> {
         bytea_to_sql(alloc, self.as_slice(), out)?;
         Ok(IsNull::No)
@@ -145,6 +148,7 @@ impl<'b> ToSql for CowSlice<'b, u8> {
 
     ghost refuses_memory_free = { true };
 
+    #[inline(always)]
     fn to_sql(&self, alloc: Global, _ty: &PgType, out: &mut BytesMut) -> Result<IsNull, Fault> {
         bytea_to_sql(alloc, self.as_slice(), out)?;
         Ok(IsNull::No)

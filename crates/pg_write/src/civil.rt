@@ -73,6 +73,7 @@ impl ToSql for Date {
 
     ghost refuses_memory_free = { true };
 
+    #[inline(always)]
     fn to_sql(&self, alloc: Global, _ty: &PgType, out: &mut BytesMut) -> Result<IsNull, Fault> {
         date_to_sql(alloc, days_of(*self), out)?;
         Ok(IsNull::No)
@@ -113,6 +114,7 @@ impl ToSql for Time {
 
     ghost refuses_memory_free = { true };
 
+    #[inline(always)]
     fn to_sql(&self, alloc: Global, _ty: &PgType, out: &mut BytesMut) -> Result<IsNull, Fault> {
         time_to_sql(alloc, micros_of_time(*self), out)?;
         Ok(IsNull::No)
@@ -154,6 +156,7 @@ impl ToSql for DateTime {
 
     ghost refuses_memory_free = { true };
 
+    #[inline(always)]
     fn to_sql(&self, alloc: Global, _ty: &PgType, out: &mut BytesMut) -> Result<IsNull, Fault> {
         timestamp_to_sql(alloc, micros_of_datetime(*self), out)?;
         Ok(IsNull::No)
@@ -195,6 +198,7 @@ impl ToSql for Timestamp {
 
     ghost refuses_memory_free = { true };
 
+    #[inline(always)]
     fn to_sql(&self, alloc: Global, _ty: &PgType, out: &mut BytesMut) -> Result<IsNull, Fault> {
         timestamp_to_sql(alloc, micros_of_instant(*self), out)?;
         Ok(IsNull::No)

@@ -26,6 +26,7 @@ impl ToSql for Interval {
 
     ghost refuses_memory_free = { true };
 
+    #[inline(always)]
     fn to_sql(&self, alloc: Global, _ty: &PgType, out: &mut BytesMut) -> Result<IsNull, Fault> {
         interval_to_sql(alloc, self.microseconds, self.days, self.months, out)?;
         Ok(IsNull::No)

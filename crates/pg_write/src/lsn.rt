@@ -26,6 +26,7 @@ impl ToSql for PgLsn {
 
     ghost refuses_memory_free = { true };
 
+    #[inline(always)]
     fn to_sql(&self, alloc: Global, _ty: &PgType, out: &mut BytesMut) -> Result<IsNull, Fault> {
         lsn_to_sql(alloc, u64::from(*self), out)?;
         Ok(IsNull::No)

@@ -28,6 +28,7 @@ impl ToSql for IpAddr {
 
     ghost refuses_memory_free = { true };
 
+    #[inline(always)]
     fn to_sql(&self, alloc: Global, _ty: &PgType, out: &mut BytesMut) -> Result<IsNull, Fault> {
         inet_to_sql(alloc, *self, address_bits(*self), out)?;
         Ok(IsNull::No)
@@ -67,6 +68,7 @@ impl ToSql for IpInet {
 
     ghost refuses_memory_free = { true };
 
+    #[inline(always)]
     fn to_sql(&self, alloc: Global, _ty: &PgType, out: &mut BytesMut) -> Result<IsNull, Fault> {
         inet_to_sql(alloc, self.address(), self.network_length(), out)?;
         Ok(IsNull::No)
@@ -106,6 +108,7 @@ impl ToSql for IpCidr {
 
     ghost refuses_memory_free = { true };
 
+    #[inline(always)]
     fn to_sql(&self, alloc: Global, _ty: &PgType, out: &mut BytesMut) -> Result<IsNull, Fault> {
         inet_to_sql(alloc, self.first_address(), self.network_length(), out)?;
         Ok(IsNull::No)
@@ -145,6 +148,7 @@ impl ToSql for MacAddress {
 
     ghost refuses_memory_free = { true };
 
+    #[inline(always)]
     fn to_sql(&self, alloc: Global, _ty: &PgType, out: &mut BytesMut) -> Result<IsNull, Fault> {
         macaddr_to_sql(alloc, self.to_array(), out)?;
         Ok(IsNull::No)

@@ -27,6 +27,7 @@ impl ToSql for bool {
 
     ghost refuses_memory_free = { true };
 
+    #[inline(always)]
     fn to_sql(&self, alloc: Global, _ty: &PgType, out: &mut BytesMut) -> Result<IsNull, Fault> {
         bool_to_sql(alloc, *self, out)?;
         Ok(IsNull::No)
@@ -66,6 +67,7 @@ impl ToSql for i8 {
 
     ghost refuses_memory_free = { true };
 
+    #[inline(always)]
     fn to_sql(&self, alloc: Global, _ty: &PgType, out: &mut BytesMut) -> Result<IsNull, Fault> {
         char_to_sql(alloc, *self, out)?;
         Ok(IsNull::No)
@@ -105,6 +107,7 @@ impl ToSql for i16 {
 
     ghost refuses_memory_free = { true };
 
+    #[inline(always)]
     fn to_sql(&self, alloc: Global, _ty: &PgType, out: &mut BytesMut) -> Result<IsNull, Fault> {
         int2_to_sql(alloc, *self, out)?;
         Ok(IsNull::No)
@@ -144,6 +147,7 @@ impl ToSql for i32 {
 
     ghost refuses_memory_free = { true };
 
+    #[inline(always)]
     fn to_sql(&self, alloc: Global, _ty: &PgType, out: &mut BytesMut) -> Result<IsNull, Fault> {
         int4_to_sql(alloc, *self, out)?;
         Ok(IsNull::No)
@@ -183,6 +187,7 @@ impl ToSql for i64 {
 
     ghost refuses_memory_free = { true };
 
+    #[inline(always)]
     fn to_sql(&self, alloc: Global, _ty: &PgType, out: &mut BytesMut) -> Result<IsNull, Fault> {
         int8_to_sql(alloc, *self, out)?;
         Ok(IsNull::No)
@@ -222,6 +227,7 @@ impl ToSql for u32 {
 
     ghost refuses_memory_free = { true };
 
+    #[inline(always)]
     fn to_sql(&self, alloc: Global, _ty: &PgType, out: &mut BytesMut) -> Result<IsNull, Fault> {
         oid_to_sql(alloc, *self, out)?;
         Ok(IsNull::No)

@@ -19,6 +19,7 @@ use std::borrow::CowStr;
 use std::boxed::BoxedStr;
 
 /// Appends the cell of a text for that type.
+#[inline(always)]
 fn append_text(alloc: Global, ty: &PgType, text: &str, out: &mut BytesMut) -> Result<(), Fault>
     ensures { Appends (Some (versioned_cell (has_version (content ty.now)) text.now)) out.old out.new result }
 {
@@ -43,6 +44,7 @@ impl<'b> ToSql for &'b str {
 
     ghost refuses_memory_free = { true };
 
+    #[inline(always)]
     #[tactic(auto, using(pg_base::proofs::TextLemmas::wire_utf8))]
     fn to_sql(&self, alloc: Global, ty: &PgType, out: &mut BytesMut) -> Result<IsNull, Fault> {
         let text: &str = *self;
@@ -88,6 +90,7 @@ impl ToSql for String {
 
     ghost refuses_memory_free = { true };
 
+    #[inline(always)]
     #[tactic(auto, using(pg_base::proofs::TextLemmas::wire_utf8))]
     fn to_sql(&self, alloc: Global, ty: &PgType, out: &mut BytesMut) -> Result<IsNull, Fault> {
         let text: &str = self.as_str();
@@ -131,6 +134,7 @@ impl ToSql for BoxedStr {
 
     ghost refuses_memory_free = { true };
 
+    #[inline(always)]
     #[tactic(auto, using(pg_base::proofs::TextLemmas::wire_utf8))]
     fn to_sql(&self, alloc: Global, ty: &PgType, out: &mut BytesMut) -> Result<IsNull, Fault> {
         let text: &str = self.as_str();
@@ -174,6 +178,7 @@ impl<'b> ToSql for CowStr<'b> {
 
     ghost refuses_memory_free = { true };
 
+    #[inline(always)]
     #[tactic(auto, using(pg_base::proofs::TextLemmas::wire_utf8))]
     fn to_sql(&self, alloc: Global, ty: &PgType, out: &mut BytesMut) -> Result<IsNull, Fault> {
         let text: &str = self.as_str();

@@ -26,6 +26,7 @@ impl ToSql for UnixTime {
 
     ghost refuses_memory_free = { true };
 
+    #[inline(always)]
     fn to_sql(&self, alloc: Global, _ty: &PgType, out: &mut BytesMut) -> Result<IsNull, Fault> {
         let micros = self.to_postgres_micros().ok_or(Fault::Transmit)?;
         timestamp_to_sql(alloc, micros, out)?;

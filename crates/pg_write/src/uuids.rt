@@ -25,6 +25,7 @@ impl ToSql for Uuid {
 
     ghost refuses_memory_free = { true };
 
+    #[inline(always)]
     fn to_sql(&self, alloc: Global, _ty: &PgType, out: &mut BytesMut) -> Result<IsNull, Fault> {
         uuid_to_sql(alloc, self.into_bytes(), out)?;
         Ok(IsNull::No)

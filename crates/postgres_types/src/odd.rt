@@ -100,7 +100,8 @@ impl<'a> Paired<'a> for Short {
 
     ghost lawful = { λ _ _. through_lawful (λ v. v.0) (ReadsPlain (FormSigned w32) first_fault_short) Equal
         (wire_signed w32) (BackKept Equal)
-        (plain_lawful (λ z. z) (FormSigned w32) first_fault_short short_grammar (wire_signed w32) (signed_written w32)) };
+        (plain_lawful (λ z. z) (FormSigned w32) first_fault_short short_grammar (wire_signed w32)
+        (signed_written w32)) };
 }
 
 /// What is read from a finite cell is written as that cell.
@@ -274,7 +275,8 @@ impl<'a> Paired<'a> for Moment {
 
 /// What is read from a finite cell is written as that cell.
 impl<'a> Finite<'a> for Moment {
-    ghost dates = { λ _ _ _. through_finite (λ v. v.0) (ReadsSigned w64) w32 (wire_signed w64) (signed_finite w32 w64) };
+    ghost dates = { λ _ _ _. through_finite (λ v. v.0) (ReadsSigned w64) w32 (wire_signed w64)
+        (signed_finite w32 w64) };
 
     ghost timestamps = { λ _ _ _. through_finite (λ v. v.0) (ReadsSigned w64) w64 (wire_signed w64)
         (signed_finite w64 w64) };

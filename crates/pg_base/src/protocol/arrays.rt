@@ -79,6 +79,7 @@ impl<'a> Item<'a> for Option<&'a [u8]> {
 
     ghost checks = { cell_checks };
 
+    #[inline(always)]
     fn split(bytes: &'a [u8]) -> Result<(Option<&'a [u8]>, &'a [u8]), Fault> {
         split_cell(bytes)
     }
@@ -96,6 +97,7 @@ impl<'a> ArrayCells<'a> {
     /// bytes. Where the length or a part of the bytes is truncated it answers `Size`, and so it
     /// does where bytes are left after the last cell. After a fault, and after the last cell, it
     /// answers `None`, for good. It takes no memory.
+    #[inline(always)]
     pub fn next(&mut self) -> Option<Result<Option<&'a [u8]>, Fault>>
         ensures { TakesElement self.old result self.new }
     {

@@ -58,6 +58,7 @@ pub fn varbit_from_sql(raw: &[u8]) -> Result<Varbit<'_>, Fault>
 /// Appends BIT and VARBIT: the number of bits in 4 bytes, big-endian, and the bytes, of which
 /// there must be as many as the bits take (`bit_send`, `varbit_send`). What pads the last byte is
 /// written 0. More than 2,147,483,647 bits are `Transmit`.
+#[inline(always)]
 pub fn varbit_to_sql(
     _alloc: Global,
     len: usize,
@@ -77,6 +78,7 @@ pub fn varbit_to_sql(
 }
 
 /// Appends the bytes of the bits, with 0 for what pads the last one. There must be room for them.
+#[inline(always)]
 fn extend_by_bits(len: usize, bytes: &[u8], out: &mut BytesMut)
     requires whole { length bytes.now ≡ bytes_for len }
     requires room { length bytes.now ≤ out.old.spare }

@@ -14,6 +14,7 @@ pub fn bytea_from_sql(raw: &[u8]) -> &[u8]
 }
 
 /// Appends BYTEA: the bytes themselves (`byteasend`).
+#[inline(always)]
 pub fn bytea_to_sql(_alloc: Global, v: &[u8], out: &mut BytesMut) -> Result<(), Fault>
     ensures { Appends (Some v.now) out.old out.new result }
 {

@@ -24,6 +24,7 @@ pub fn date_from_sql(raw: &[u8]) -> Result<i32, Fault>
 
 /// Appends DATE: the days from 2000-01-01, in 4 bytes, big-endian, in two's complement
 /// (`date_send`).
+#[inline(always)]
 pub fn date_to_sql(alloc: Global, v: i32, out: &mut BytesMut) -> Result<(), Fault>
     ensures { Appends (Some (be w32 v)) out.old out.new result }
 {
@@ -41,6 +42,7 @@ pub fn time_from_sql(raw: &[u8]) -> Result<i64, Fault>
 
 /// Appends TIME: the microseconds from midnight, in 8 bytes, big-endian, in two's complement
 /// (`time_send`).
+#[inline(always)]
 pub fn time_to_sql(alloc: Global, v: i64, out: &mut BytesMut) -> Result<(), Fault>
     ensures { Appends (Some (be w64 v)) out.old out.new result }
 {

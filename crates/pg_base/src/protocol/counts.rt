@@ -12,6 +12,7 @@ use crate::fault::Fault;
 use std::marker::Model;
 
 /// The prefix, and the bytes after it.
+#[inline(always)]
 pub(super) fn split_number(bytes: &[u8]) -> Result<(i32, &[u8]), Fault>
     ensures outcome { Answers (Decodes (StartsWith (IsBe w32))
         (λ s. first_fault_of ((has_number s, size) ∷ [])) bytes.now) result }
@@ -25,6 +26,7 @@ pub(super) fn split_number(bytes: &[u8]) -> Result<(i32, &[u8]), Fault>
 }
 
 /// The count prefix, which is refused with `Count` where it is negative, and the bytes after it.
+#[inline(always)]
 pub(super) fn split_count(bytes: &[u8]) -> Result<(usize, &[u8]), Fault>
     ensures outcome { Answers (Decodes (StartsWith IsCount) (λ s. first_fault_of (count_checks s)) bytes.now) result }
     ensures never_memory { NeverMemory result }
@@ -37,6 +39,7 @@ pub(super) fn split_count(bytes: &[u8]) -> Result<(usize, &[u8]), Fault>
 }
 
 /// The first cell, of which every negative length is NULL, and the bytes after its frame.
+#[inline(always)]
 pub(super) fn split_cell(bytes: &[u8]) -> Result<(Option<&[u8]>, &[u8]), Fault>
     ensures outcome { Answers (Decodes (StartsWith (λ s cell. Spells s (cell_of cell)))
         (λ s. first_fault_of (cell_checks s)) bytes.now) result }
@@ -99,6 +102,7 @@ impl<'a> Items<'a> {
     /// The next item, or the fault of the first check that it fails. Where bytes are left after the
     /// last item it answers `Size`. After a fault, and after the last item, it answers `None`, for
     /// good.
+    #[inline(always)]
     pub(super) fn next<T: Item<'a>>(&mut self) -> Option<Result<T, Fault>>
         ensures { TakesNext T.spells T.checks self.old result self.new }
     {

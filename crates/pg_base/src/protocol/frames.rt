@@ -14,6 +14,7 @@ pub const MAX_LEN: usize = 2_147_483_647;
 
 /// Appends the frame of a cell, of which `None` is NULL: its length in 4 bytes, big-endian, and
 /// its bytes; for NULL the length -1. A cell of more than 2,147,483,647 bytes is `Transmit`.
+#[inline(always)]
 pub fn frame_to_sql(_alloc: Global, cell: Option<&[u8]>, out: &mut BytesMut) -> Result<(), Fault>
     ensures { Appends (frame (cell_of cell.entry)) out.old out.new result }
 {
@@ -23,6 +24,7 @@ pub fn frame_to_sql(_alloc: Global, cell: Option<&[u8]>, out: &mut BytesMut) -> 
 }
 
 /// How many bytes the frame of the cell takes.
+#[inline(always)]
 pub(super) fn frame_len(cell: Option<&[u8]>) -> Result<usize, Fault>
     ensures len { Measures (frame (cell_of cell.entry)) result }
     ensures short { IfOk result (λ n. n ≤ number_width + max_length) }

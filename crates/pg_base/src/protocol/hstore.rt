@@ -118,6 +118,7 @@ pub fn hstore_to_sql(
 }
 
 /// Appends the frame of a text, of which `None` is NULL.
+#[inline(always)]
 fn text_frame_to_sql(alloc: Global, text: Option<&str>, out: &mut BytesMut) -> Result<(), Fault>
     ensures { Appends (frame (cell_of text.entry)) out.old out.new result }
 {
@@ -140,6 +141,7 @@ fn hstore_len(entries: &[(&str, Option<&str>)]) -> Result<usize, Fault>
 }
 
 /// How many bytes the frame of the text takes.
+#[inline(always)]
 fn text_frame_len(text: Option<&str>) -> Result<usize, Fault>
     ensures len { Measures (frame (cell_of text.entry)) result }
     ensures short { IfOk result (λ n. n ≤ number_width + max_length) }

@@ -34,6 +34,7 @@ pub fn interval_from_sql(raw: &[u8]) -> Result<(i64, i32, i32), Fault>
 
 /// Appends INTERVAL: the microseconds in 8 bytes, then the days and the months in 4 each,
 /// big-endian, in two's complement (`interval_send`).
+#[inline(always)]
 pub fn interval_to_sql(
     _alloc: Global,
     microseconds: i64,

@@ -22,6 +22,7 @@ pub fn lsn_from_sql(raw: &[u8]) -> Result<u64, Fault>
 }
 
 /// Appends PG_LSN: 8 bytes, unsigned, big-endian (`pg_lsn_send`).
+#[inline(always)]
 pub fn lsn_to_sql(_alloc: Global, v: u64, out: &mut BytesMut) -> Result<(), Fault>
     ensures { Appends (Some (to_be_bytes w64 v)) out.old out.new result }
 {

@@ -60,6 +60,7 @@ impl Inet {
 /// Fewer than 4 bytes are `Size`; then another family is `Family`, a netmask of more than 32 or 128
 /// bits `Netmask`, another number of octets than the family's `AddressLength`, and octets of
 /// another length than that `Size`. Bits after the netmask are not looked at.
+#[inline(always)]
 pub fn inet_from_sql(raw: &[u8]) -> Result<Inet, Fault>
     ensures outcome { Answers (Decodes FormInet first_fault_inet raw.now) result }
     ensures never_memory { NeverMemory result }
@@ -86,6 +87,7 @@ pub fn inet_from_sql(raw: &[u8]) -> Result<Inet, Fault>
 
 /// The address of that family with these octets. Another number of octets than the family's is
 /// `Size`.
+#[inline(always)]
 #[tactic(auto, using(crate::proofs::Octets::octets_back))]
 fn address_from_octets(family: u8, octets: &[u8]) -> Result<IpAddr, Fault>
     requires { (family ≡ 2) ⊎ (family ≡ 3) }
@@ -109,6 +111,7 @@ fn address_from_octets(family: u8, octets: &[u8]) -> Result<IpAddr, Fault>
 /// Appends INET or CIDR: the family's number, 2 for IPv4 and 3 for IPv6, the length of the netmask,
 /// the flag 0, the number of octets, and the octets, 4 or 16 (`inet_send`, `cidr_send`). The
 /// netmask must be no longer than the address: 32 or 128 bits.
+#[inline(always)]
 pub fn inet_to_sql(
     _alloc: Global,
     addr: IpAddr,
@@ -128,6 +131,7 @@ pub fn inet_to_sql(
 
 /// Appends the family's number, the length of the netmask, the flag 0, the number of octets, and
 /// the octets.
+#[inline(always)]
 fn octets_to_sql(family: u8, netmask: u8, octets: &[u8], out: &mut BytesMut) -> Result<(), Fault>
     requires { length octets.now < 256 }
     ensures { Appends (Some (family ∷ netmask ∷ 0 ∷ length octets.now ∷ octets.now)) out.old out.new result }
@@ -150,6 +154,7 @@ pub fn macaddr_from_sql(raw: &[u8]) -> Result<[u8; 6], Fault>
 }
 
 /// Appends MACADDR: 6 bytes (`macaddr_send`).
+#[inline(always)]
 pub fn macaddr_to_sql(_alloc: Global, v: [u8; 6], out: &mut BytesMut) -> Result<(), Fault>
     ensures { Appends (Some v) out.old out.new result }
 {

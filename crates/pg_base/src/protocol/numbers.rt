@@ -24,6 +24,7 @@ pub fn bool_from_sql(raw: &[u8]) -> Result<bool, Fault>
 }
 
 /// Appends BOOL: 1 byte, 0 or 1 (`boolsend`).
+#[inline(always)]
 pub fn bool_to_sql(_alloc: Global, v: bool, out: &mut BytesMut) -> Result<(), Fault>
     ensures { Appends (Some ((if v then 1 else 0) ∷ [])) out.old out.new result }
 {
@@ -43,6 +44,7 @@ pub fn char_from_sql(raw: &[u8]) -> Result<i8, Fault>
 }
 
 /// Appends CHAR: 1 byte, in two's complement (`charsend`).
+#[inline(always)]
 pub fn char_to_sql(_alloc: Global, v: i8, out: &mut BytesMut) -> Result<(), Fault>
     ensures { Appends (Some (be w8 v)) out.old out.new result }
 {
@@ -63,6 +65,7 @@ pub fn int2_from_sql(raw: &[u8]) -> Result<i16, Fault>
 }
 
 /// Appends INT2: 2 bytes, big-endian, in two's complement (`int2send`).
+#[inline(always)]
 pub fn int2_to_sql(_alloc: Global, v: i16, out: &mut BytesMut) -> Result<(), Fault>
     ensures { Appends (Some (be w16 v)) out.old out.new result }
 {
@@ -83,6 +86,7 @@ pub fn int4_from_sql(raw: &[u8]) -> Result<i32, Fault>
 }
 
 /// Appends INT4: 4 bytes, big-endian, in two's complement (`int4send`).
+#[inline(always)]
 pub fn int4_to_sql(_alloc: Global, v: i32, out: &mut BytesMut) -> Result<(), Fault>
     ensures { Appends (Some (be w32 v)) out.old out.new result }
 {
@@ -103,6 +107,7 @@ pub fn int8_from_sql(raw: &[u8]) -> Result<i64, Fault>
 }
 
 /// Appends INT8: 8 bytes, big-endian, in two's complement (`int8send`).
+#[inline(always)]
 pub fn int8_to_sql(_alloc: Global, v: i64, out: &mut BytesMut) -> Result<(), Fault>
     ensures { Appends (Some (be w64 v)) out.old out.new result }
 {
@@ -122,6 +127,7 @@ pub fn oid_from_sql(raw: &[u8]) -> Result<u32, Fault>
 }
 
 /// Appends OID: 4 bytes, unsigned, big-endian (`oidsend`).
+#[inline(always)]
 pub fn oid_to_sql(_alloc: Global, v: u32, out: &mut BytesMut) -> Result<(), Fault>
     ensures { Appends (Some (to_be_bytes w32 v)) out.old out.new result }
 {

@@ -22,6 +22,7 @@ pub fn text_from_sql(raw: &[u8]) -> Result<&str, Fault>
 }
 
 /// Appends a text: its bytes (`textsend`).
+#[inline(always)]
 pub fn text_to_sql(_alloc: Global, v: &str, out: &mut BytesMut) -> Result<(), Fault>
     ensures { Appends (Some v.now) out.old out.new result }
 {
@@ -45,6 +46,7 @@ fn versioned_from_sql(raw: &[u8]) -> Result<&str, Fault>
 }
 
 /// Appends the version 1 and the text.
+#[inline(always)]
 fn versioned_to_sql(v: &str, out: &mut BytesMut) -> Result<(), Fault>
     ensures { Appends (Some (1 ∷ v.now)) out.old out.new result }
 {
@@ -64,6 +66,7 @@ pub fn ltree_from_sql(raw: &[u8]) -> Result<&str, Fault>
 }
 
 /// Appends ltree: the version 1 and the text (`ltree_send`).
+#[inline(always)]
 pub fn ltree_to_sql(_alloc: Global, v: &str, out: &mut BytesMut) -> Result<(), Fault>
     ensures { Appends (Some (1 ∷ v.now)) out.old out.new result }
 {

@@ -24,6 +24,7 @@ pub fn timestamp_from_sql(raw: &[u8]) -> Result<i64, Fault>
 
 /// Appends TIMESTAMP and TIMESTAMPTZ: the microseconds from 2000-01-01 00:00:00, UTC for the
 /// latter, in 8 bytes, big-endian, in two's complement (`timestamp_send`, `timestamptz_send`).
+#[inline(always)]
 pub fn timestamp_to_sql(alloc: Global, v: i64, out: &mut BytesMut) -> Result<(), Fault>
     ensures { Appends (Some (be w64 v)) out.old out.new result }
 {

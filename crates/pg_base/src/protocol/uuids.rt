@@ -22,6 +22,7 @@ pub fn uuid_from_sql(raw: &[u8]) -> Result<[u8; 16], Fault>
 }
 
 /// Appends UUID: 16 bytes (`uuid_send`).
+#[inline(always)]
 pub fn uuid_to_sql(_alloc: Global, v: [u8; 16], out: &mut BytesMut) -> Result<(), Fault>
     ensures { Appends (Some v) out.old out.new result }
 {

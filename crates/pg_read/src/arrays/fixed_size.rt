@@ -104,6 +104,7 @@ impl<'a, 'p, T: FromSql<'a>> ElementSource<T> for ElementReader<'a, 'p, T> {
 
     ghost stops = { Stops T.reads T.memory_free };
 
+    #[inline(always)]
     fn next(&mut self) -> Option<T> {
         let cell = match self.cells.next()? {
             Ok(cell) => cell,

@@ -79,6 +79,7 @@ impl Kind {
         })
     }
 
+    #[inline(always)]
     #[tactic(auto, using(crate::proofs::Fields::composite_content))]
     pub(super) fn as_kind_ref(&self) -> KindRef<'_>
         ensures { kind_ref_view result ≡ kind_content self.now }

@@ -183,11 +183,13 @@ impl<A: ToSql, B: ToFields> ToFields for And<A, B> {
         };
         let start = out.len();
         field_to_sql(alloc, &self.0, field.type_(), out)?;
-        let outcome = self.1.to_fields(alloc, fields, out);
-        if outcome.is_err() {
-            out.truncate(start);
+        match self.1.to_fields(alloc, fields, out) {
+            Ok(()) => Ok(()),
+            Err(fault) => {
+                out.truncate(start);
+                Err(fault)
+            }
         }
-        outcome
     }
 
     fn accepts(fields: &[Field]) -> bool {

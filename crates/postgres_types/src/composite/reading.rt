@@ -13,6 +13,7 @@ use pg_read::private::{read_be_i32, read_value};
 use std::alloc::Global;
 
 /// The fields of a composite type; none of another.
+#[inline(always)]
 #[tactic(auto, using(crate::proofs::RecordSteps::counted))]
 pub fn fields_of(ty: &PgType) -> &[Field]
     ensures fields { fields_content result.now ≡ fields_of_kind (kind_of (content ty.now)) }

@@ -159,11 +159,13 @@ fn record_to_sql<T: Record>(
 {
     let start = out.len();
     field_count_to_sql(alloc, fields.len(), out)?;
-    let outcome = value.row_to_sql(alloc, fields, out);
-    if outcome.is_err() {
-        out.truncate(start);
+    match value.row_to_sql(alloc, fields, out) {
+        Ok(()) => Ok(()),
+        Err(fault) => {
+            out.truncate(start);
+            Err(fault)
+        }
     }
-    outcome
 }
 
 impl<T: Record> ToSql for Composite<T> {

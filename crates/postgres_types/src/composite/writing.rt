@@ -41,9 +41,11 @@ pub fn field_to_sql<T: ToSql>(
 {
     let start = out.len();
     out.put_u32(ty.oid())?;
-    let outcome = frame_value(alloc, value, ty, out);
-    if outcome.is_err() {
-        out.truncate(start);
+    match frame_value(alloc, value, ty, out) {
+        Ok(()) => Ok(()),
+        Err(fault) => {
+            out.truncate(start);
+            Err(fault)
+        }
     }
-    outcome
 }
