@@ -57,11 +57,15 @@ fn value_to_sql<T: ToSql>(
     let start = out.len();
     // The frame of NULL, whose length is put right once a cell stands after it.
     out.put_i32(-1)?;
-    match value.to_sql_checked(alloc, ty, out) {
-        Ok(IsNull::Yes) => Ok(()),
-        Ok(IsNull::No) => frame_from(start, out),
-        Err(fault) => Err(fault),
+    // A match moves the fault of a refusal alone, where `?` would move each answer.
+    let is_null = match value.to_sql_checked(alloc, ty, out) {
+        Ok(is_null) => is_null,
+        Err(fault) => return Err(fault),
+    };
+    if let IsNull::Yes = is_null {
+        return Ok(());
     }
+    frame_from(start, out)
 }
 
 /// Appends the frames of the parameters in their order, each for the type that stands at its place:
