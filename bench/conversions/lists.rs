@@ -60,13 +60,14 @@ impl<'a, T: FromSql<'a>> FromSql<'a> for Vec<T> {
 impl<'a, T: FromSql<'a> + Copy + Default, const N: usize> FromSql<'a> for [T; N] {
     fn from_sql(ty: &Type, raw: &'a [u8]) -> Result<[T; N], Fault> {
         let (element, mut buf) = (ty.element()?, raw);
-        let count = read_array_head(&mut buf)?;
-        if count != N {
-            return Err(if count < N { Fault::TooFew } else { Fault::Excess });
-        }
+        let mut left = read_array_head(&mut buf)?;
         let mut values = [T::default(); N];
         for value in &mut values {
+            left = left.checked_sub(1).ok_or(Fault::TooFew)?;
             *value = read_value(element, &mut buf)?;
+        }
+        if left > 0 {
+            return Err(Fault::Excess);
         }
         read_end(buf)?;
         Ok(values)

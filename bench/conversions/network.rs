@@ -16,13 +16,24 @@ pub struct IpInet {
     pub netmask: u8,
 }
 
+impl IpInet {
+    /// As the crate cidr does, it refuses a netmask that is longer than the address, whoever calls.
+    fn new(address: IpAddr, netmask: u8) -> Result<IpInet, Fault> {
+        if netmask > if address.is_ipv4() { 32 } else { 128 } {
+            return Err(Fault::Netmask);
+        }
+        Ok(IpInet { address, netmask })
+    }
+}
+
 /// A network: its first address, with no bit after the netmask.
 pub struct IpCidr(pub IpInet);
 
 impl IpCidr {
-    fn new(first: IpInet) -> Result<IpCidr, Fault> {
-        let netmask = u32::from(first.netmask);
-        let has_host_bits = match first.address {
+    fn new(address: IpAddr, netmask: u8) -> Result<IpCidr, Fault> {
+        let first = IpInet::new(address, netmask)?;
+        let netmask = u32::from(netmask);
+        let has_host_bits = match address {
             IpAddr::V4(address) => netmask + address.to_bits().trailing_zeros() < Ipv4Addr::BITS,
             IpAddr::V6(address) => netmask + address.to_bits().trailing_zeros() < Ipv6Addr::BITS,
         };
@@ -30,7 +41,8 @@ impl IpCidr {
     }
 }
 
-fn inet_from_sql(_: &Type, raw: &[u8]) -> Result<IpInet, Fault> {
+/// The address and the length of its netmask.
+fn inet_from_sql(raw: &[u8]) -> Result<(IpAddr, u8), Fault> {
     let [family, netmask, _, len, octets @ ..] = raw else {
         return Err(Fault::Size);
     };
@@ -49,7 +61,7 @@ fn inet_from_sql(_: &Type, raw: &[u8]) -> Result<IpInet, Fault> {
         IPV4 => IpAddr::from(fixed::<4>(octets)?),
         _ => IpAddr::from(fixed::<16>(octets)?),
     };
-    Ok(IpInet { address, netmask: *netmask })
+    Ok((address, *netmask))
 }
 
 fn inet_to_sql(inet: &IpInet, ty: &Type, out: &mut Vec<u8>) -> Result<(), Fault> {
@@ -74,6 +86,13 @@ fn cidr_to_sql(network: &IpCidr, ty: &Type, out: &mut Vec<u8>) -> Result<(), Fau
     inet_to_sql(&network.0, ty, out)
 }
 
-conversions!(IpAddr, is!(Inet), |ty, raw| inet_from_sql(ty, raw).map(|inet| inet.address), addr_to_sql);
-conversions!(IpInet, is!(Inet), inet_from_sql, inet_to_sql);
-conversions!(IpCidr, is!(Cidr), |ty, raw| inet_from_sql(ty, raw).and_then(IpCidr::new), cidr_to_sql);
+/// Reads an address and its netmask, of which `$make` makes the value.
+macro_rules! from_inet {
+    ($make:expr) => {
+        |_, raw| inet_from_sql(raw).and_then(|(address, netmask)| $make(address, netmask))
+    };
+}
+
+conversions!(IpAddr, is!(Inet), from_inet!(|address, _| Ok(address)), addr_to_sql);
+conversions!(IpInet, is!(Inet), from_inet!(IpInet::new), inet_to_sql);
+conversions!(IpCidr, is!(Cidr), from_inet!(IpCidr::new), cidr_to_sql);
