@@ -15,6 +15,7 @@ use std::borrow::Cow;
 /// Whether texts are read from cells of that type and written to them: VARCHAR, TEXT, BPCHAR, NAME,
 /// UNKNOWN, and any type that is named citext, ltree, lquery or ltxtquery, whatever its schema and
 /// its kind.
+#[inline(always)]
 pub fn is_text(ty: &PgType) -> bool
     ensures { result ≡ accepted_text (content ty.now) }
 {
@@ -29,6 +30,7 @@ pub fn is_text(ty: &PgType) -> bool
 
 /// Whether a text's cell begins with a version: the type is named ltree, lquery or ltxtquery, which
 /// share one format.
+#[inline(always)]
 pub fn has_version(ty: &PgType) -> bool
     ensures { result ≡ has_version (content ty.now) }
 {

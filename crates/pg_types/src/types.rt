@@ -86,6 +86,7 @@ impl PgType {
     }
 
     /// The name of this type, without its schema.
+    #[inline(always)]
     pub fn name(&self) -> &str
         ensures { result.now ≡ name_of (content self.now) }
     {

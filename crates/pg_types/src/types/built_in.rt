@@ -163,6 +163,7 @@ impl BuiltIn {
         built_in_types!(oid_of(self))
     }
 
+    #[inline(always)]
     pub(super) fn name(self) -> &'static str
         ensures { result.now ≡ row_name self }
     {
