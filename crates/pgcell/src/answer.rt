@@ -16,6 +16,7 @@ pub struct Answerer {
 }
 
 impl Answerer {
+    /// Makes the user-defined types that cells are rewritten by.
     pub fn new(alloc: Global) -> Result<Answerer, AllocError> {
         let rewriter = Rewriter::new(alloc)?;
         Ok(Answerer {

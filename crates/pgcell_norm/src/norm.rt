@@ -69,6 +69,7 @@ pub struct Rewriter {
 }
 
 impl Rewriter {
+    /// Makes the user-defined types; the buffer takes no memory before the first cell.
     pub fn new(alloc: Global) -> Result<Rewriter, AllocError> {
         let types = UserTypes::new(alloc)?;
         Ok(Rewriter {

@@ -26,6 +26,7 @@ pub struct UserTypes {
 }
 
 impl UserTypes {
+    /// Makes each type, with the OID that a server could have given it.
     #[tactic(auto, using(crate::proofs::Types::known))]
     pub fn new(alloc: Global) -> Result<UserTypes, AllocError> {
         Ok(UserTypes {
@@ -38,6 +39,7 @@ impl UserTypes {
         })
     }
 
+    /// The type of ltree, OID 100001.
     #[tactic(auto, using(crate::proofs::Types::copied))]
     pub fn ltree(&self) -> Result<Type, AllocError>
         ensures { IfOk result (λ ty. content ty ≡ simple_type "ltree" 100001) }
@@ -45,6 +47,7 @@ impl UserTypes {
         self.ltree.clone()
     }
 
+    /// The type of hstore, OID 100002.
     #[tactic(auto, using(crate::proofs::Types::copied))]
     pub fn hstore(&self) -> Result<Type, AllocError>
         ensures { IfOk result (λ ty. content ty ≡ simple_type "hstore" 100002) }
