@@ -1,7 +1,7 @@
 """The cases of crates/benchmark that scripts/bench measures: conversions, rows, parameters and types."""
 import os
 
-from measuring import EQUAL_TERMS, TOP, Program, Work, compare, counts_of, plain_rust, row, said_of, shown, table, times_of
+from measuring import EQUAL_TERMS, TOP, Program, Work, compare, counts_of, least, plain_rust, row, said_of, shown, table, times_of
 
 CRATE = f"{TOP}/crates/benchmark"
 # Conversions that are read and written, and how many items a turn of theirs has: values, entries, elements, or bytes.
@@ -53,12 +53,17 @@ def built(given, folder, equal_terms=False):
     return [Program(given or f"{CRATE}/out/benchmark"), plain_rust("plain", folder, EQUAL_TERMS if equal_terms else ())]
 
 
-def row_of(programs, case):
-    """Returns the row of a case."""
-    items = CASES[case]
-    turns = max(1, ITEMS // items)
+def times_of_case(programs, case):
+    """Returns the time of a turn by each program."""
+    turns = max(1, ITEMS // CASES[case])
     times, printed = times_of(programs, work_of(case, 1), work_of(case, 1 + turns), turns)
     compare(case, printed)
+    return times
+
+
+def row_of(programs, case, before):
+    """Returns the row of a case, after the times of earlier passes."""
+    items, times = CASES[case], least([*before, times_of_case(programs, case)])
     turns = max(1, COUNTED // items)
     counts = [counts_of(program, work_of(case, 1), work_of(case, 1 + turns), turns) for program in programs]
     instructions, allocations = zip(*counts)
@@ -66,8 +71,9 @@ def row_of(programs, case):
     return row(case, [time / items for time in times], [shown(it, 1) for it in each], [shown(it, 0) for it in allocations])
 
 
-def show_table(programs, cases, _folder):
-    table("case", "an item", "a turn", (row_of(programs, case) for case in cases))
+def show_table(programs, cases, _folder, passes):
+    before = [{case: times_of_case(programs, case) for case in cases} for _ in range(1, passes)]
+    table("case", "an item", "a turn", (row_of(programs, case, [it[case] for it in before]) for case in cases))
 
 
 def smoke(programs, cases, _folder):

@@ -1,7 +1,7 @@
 """The lines of pgcell that scripts/bench measures: cells of each base name."""
 import sys
 
-from measuring import TOP, Program, Work, compare, counts_of, plain_rust, row, said_of, shown, table, times_of
+from measuring import TOP, Program, Work, compare, counts_of, least, plain_rust, row, said_of, shown, table, times_of
 
 sys.path.append(f"{TOP}/.ci")
 from formats import FORMATS, array, forms, framed
@@ -68,21 +68,28 @@ def built(given, folder):
     return [Program(given or f"{TOP}/crates/pgcell/out/pgcell"), plain_rust("plain_pgcell", folder)]
 
 
-def row_of(programs, name, folder):
-    """Returns the row of a name."""
+def times_of_line(programs, name, folder):
+    """Returns the time of a line by each program."""
     line = CASES[name]
     once, often = file_of(line, folder, "line"), file_of(line * (1 + LINES), folder, "lines")
     compare(name, [program.run(often)[1] for program in programs])
     # What is printed is not kept meanwhile, so that no reader of it is waited for.
-    times, _ = times_of(programs, once, often, LINES, is_kept=False)
-    some = file_of(line * (1 + COUNTED), folder, "some")
+    return times_of(programs, once, often, LINES, is_kept=False)[0]
+
+
+def row_of(programs, name, folder, before):
+    """Returns the row of a name, after the times of earlier passes."""
+    times = least([*before, times_of_line(programs, name, folder)])
+    line = CASES[name]
+    once, some = file_of(line, folder, "line"), file_of(line * (1 + COUNTED), folder, "some")
     counts = [counts_of(program, once, some, COUNTED) for program in programs]
     instructions, allocations = zip(*counts)
     return row(name, times, [shown(it, 0) for it in instructions], [shown(it, 1) for it in allocations])
 
 
-def show_table(programs, names, folder):
-    table("name", "a line", "a line", (row_of(programs, name, folder) for name in names))
+def show_table(programs, names, folder, passes):
+    before = [{name: times_of_line(programs, name, folder) for name in names} for _ in range(1, passes)]
+    table("name", "a line", "a line", (row_of(programs, name, folder, [it[name] for it in before]) for name in names))
 
 
 def smoke(programs, names, folder):

@@ -14,6 +14,9 @@ RUSTC = ["rustc", "--edition", "2024", "-C", "opt-level=3", "-C", "codegen-units
 # promises of faults and of memory.
 EQUAL_TERMS = ["-Z", "mutable-noalias=no", "-Z", "box-noalias=no", "--cfg", "equal_terms"]
 ROUNDS = 5
+# What a turn frees stays with the process. Else the C library gives the end of its heap and its largest blocks back to the system
+# after each turn, or does not, by how they lie, and the next turn's time is that of fresh pages.
+KEEPS_MEMORY = {"GLIBC_TUNABLES": f"glibc.malloc.trim_threshold={2**64 - 1}:glibc.malloc.mmap_max=0"}
 
 
 @dataclass(frozen=True)
@@ -31,7 +34,7 @@ class Program:
         """Does the work: what the process used, and what it printed where that is kept."""
         with open(work.source, "rb") as source:
             sink = subprocess.PIPE if is_kept else subprocess.DEVNULL
-            child = subprocess.Popen([self.path, *work.words], stdin=source, stdout=sink)
+            child = subprocess.Popen([self.path, *work.words], stdin=source, stdout=sink, env={**os.environ, **KEEPS_MEMORY})
         printed = child.stdout.read() if is_kept else b""
         _, status, usage = os.wait4(child.pid, 0)
         child.returncode = os.waitstatus_to_exitcode(status)
@@ -115,6 +118,11 @@ def times_of(programs, once, often, turns, is_kept=True):
     base, _ = measured(programs, once, is_kept)
     times, printed = measured(programs, often, is_kept)
     return [(whole - one) / turns for whole, one in zip(times, base)], printed
+
+
+def least(times):
+    """Returns the least time of each program."""
+    return [min(each) for each in zip(*times)]
 
 
 def counts_of(program, once, often, turns):
