@@ -1,7 +1,8 @@
 """The cases of crates/benchmark that scripts/bench measures: conversions, rows, parameters and types."""
 import os
 
-from measuring import EQUAL_TERMS, TOP, Program, Work, compare, counts_of, least, plain_rust, row, said_of, shown, table, times_of
+from measuring import (EQUAL_TERMS, TOP, Program, Work, compare, counts_of, least_times, plain_rust, row, said_of, shown, table,
+                       times_of)
 
 CRATE = f"{TOP}/crates/benchmark"
 # Conversions that are read and written, and how many items a turn of theirs has: values, entries, elements, or bytes.
@@ -37,8 +38,9 @@ OTHERS = {
     "type-from_oid": 1,
 }
 CASES = {**{f"{way}-{name}": items for name, items in CONVERSIONS.items() for way in ("read", "write")}, **OTHERS}
-# How many items are measured in a run, and how many are counted by valgrind, at least in one turn.
+# How many items are measured in a run, in TURNS turns at least, and how many are counted by valgrind, in one turn at least.
 ITEMS = 5_000_000
+TURNS = 5
 COUNTED = 20_000
 
 
@@ -55,7 +57,7 @@ def built(given, folder, equal_terms=False):
 
 def times_of_case(programs, case):
     """Returns the time of a turn by each program."""
-    turns = max(1, ITEMS // CASES[case])
+    turns = max(TURNS, ITEMS // CASES[case])
     times, printed = times_of(programs, work_of(case, 1), work_of(case, 1 + turns), turns)
     compare(case, printed)
     return times
@@ -63,7 +65,7 @@ def times_of_case(programs, case):
 
 def row_of(programs, case, before):
     """Returns the row of a case, after the times of earlier passes."""
-    items, times = CASES[case], least([*before, times_of_case(programs, case)])
+    items, times = CASES[case], least_times([*before, times_of_case(programs, case)])
     turns = max(1, COUNTED // items)
     counts = [counts_of(program, work_of(case, 1), work_of(case, 1 + turns), turns) for program in programs]
     instructions, allocations = zip(*counts)

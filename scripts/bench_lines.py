@@ -1,7 +1,7 @@
 """The lines of pgcell that scripts/bench measures: cells of each base name."""
 import sys
 
-from measuring import TOP, Program, Work, compare, counts_of, least, plain_rust, row, said_of, shown, table, times_of
+from measuring import TOP, Program, Work, compare, counts_of, least_times, plain_rust, row, said_of, shown, table, times_of
 
 sys.path.append(f"{TOP}/.ci")
 from formats import FORMATS, array, forms, framed
@@ -79,7 +79,7 @@ def times_of_line(programs, name, folder):
 
 def row_of(programs, name, folder, before):
     """Returns the row of a name, after the times of earlier passes."""
-    times = least([*before, times_of_line(programs, name, folder)])
+    times = least_times([*before, times_of_line(programs, name, folder)])
     line = CASES[name]
     once, some = file_of(line, folder, "line"), file_of(line * (1 + COUNTED), folder, "some")
     counts = [counts_of(program, once, some, COUNTED) for program in programs]

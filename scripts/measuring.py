@@ -120,9 +120,9 @@ def times_of(programs, once, often, turns, is_kept=True):
     return [(whole - one) / turns for whole, one in zip(times, base)], printed
 
 
-def least(times):
-    """Returns the least time of each program."""
-    return [min(each) for each in zip(*times)]
+def least_times(passes):
+    """Returns the least time of each program, of those that each pass has of them."""
+    return [min(each) for each in zip(*passes)]
 
 
 def counts_of(program, once, often, turns):
