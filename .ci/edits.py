@@ -39,9 +39,9 @@ class Edit:
 
     def reach(self, functions, texts):
         """Returns the paths of the functions whose bodies the edit changes, or None where it changes anything else."""
-        reached, edited = [], texts
+        reached = []
         for file, old, new in self.pairs:
-            if edited[file].count(old) != 1 or texts[file].count(old) > 1:
+            if texts[file].count(old) != 1:
                 return None
             begin, end = changed_part(old, new)
             at = texts[file].find(old)
@@ -49,7 +49,6 @@ class Edit:
             if not inside and "".join(old.split()) != "".join(new.split()):
                 return None
             reached += inside
-            edited = {**edited, file: edited[file].replace(old, new)}
         return list(dict.fromkeys(reached))
 
     def target(self, reached):
