@@ -125,10 +125,10 @@ class Server:
 
 
 def make_program(name):
-    """Returns a program of the repository, which is proved and built first."""
+    """Has a script at the top prove and build its program: the script, which runs it."""
     words = ["--help"] if name != "pgcell" else []
     subprocess.run([f"{TOP}/{name}", *words], stdin=subprocess.DEVNULL, stdout=subprocess.DEVNULL, check=True)
-    return f"{TOP}/crates/{name}/out/{name}"
+    return f"{TOP}/{name}"
 
 
 def run_with_server(main):

@@ -1,0 +1,70 @@
+//! Turns a binary COPY on standard input into lines of COPY's text format on standard output, or such
+//! lines into a binary COPY.
+//!
+//! The exit status is 0 where the whole input was turned, and 1 otherwise; a message on standard error
+//! says why.
+#![tactic(auto)]
+
+use anyhow::{Result, bail};
+use pg_copy::arguments::{Request, parse};
+use pg_copy::columns::Column;
+use pg_copy::read::read;
+use pg_copy::write::write;
+use std::alloc::Global;
+use std::env;
+
+/// What `--help` prints.
+const HELP: &str = "\
+copy_cells read [--oid NAME=OID].. TYPE.. reads a binary COPY of columns of these types, and writes each row as a line
+of COPY's text format:
+    psql -c 'COPY t TO STDOUT (FORMAT binary)' | copy_cells read int8 text timestamptz
+copy_cells write [--oid NAME=OID].. TYPE.. reads such lines, and writes a binary COPY of a row for each:
+    copy_cells write int8 text timestamptz < lines | psql -c 'COPY t FROM STDIN (FORMAT binary)'
+copy_read and copy_write stand for these two commands. Values are written, and read, as the server writes them with
+DateStyle ISO, TimeZone UTC and IntervalStyle postgres.
+Types: bool char int2 int4 int8 oid text varchar bpchar name bytea bit varbit inet addr cidr macaddr uuid pg_lsn
+date date_inf time timestamp timestamp_inf timestamptz unix unix_inf interval json jsonb
+int2vector oidvector ltree hstore item mood session. After a name [] says arrays, but for the last line, of which
+item alone has arrays; ? may stand there, since every column and element may be NULL.
+--oid item=OID is the OID of \"InventoryItem\" on the server, which stands in cells of its arrays.
+Whole rows alone are written. A fault is told on standard error, with its row or line and its column, and the status is 1.
+";
+
+/// Which way a COPY is turned.
+#[derive(Debug, Clone, Copy)]
+enum Direction {
+    /// From a binary COPY to lines.
+    Read,
+    /// From lines to a binary COPY.
+    Write,
+}
+
+fn main(rt: HostRuntime) -> Result<()> {
+    let words: Vec<String> = env::args(&rt)?.skip(1).collect(rt.alloc())?;
+    let Some((direction, columns)) = asked(rt.alloc(), words.as_slice())? else {
+        return Ok(rt.print(HELP)?);
+    };
+    let (alloc, mut input, mut output) = (rt.alloc(), rt.stdin(), rt.stdout());
+    match direction {
+        Direction::Read => read(alloc, columns.as_slice(), &mut input, &mut output)?,
+        Direction::Write => write(alloc, columns.as_slice(), &mut input, &mut output)?,
+    }
+    Ok(())
+}
+
+/// The direction and the columns that the words of a command line ask for, or `None` where they ask for help.
+fn asked(alloc: Global, words: &[String]) -> Result<Option<(Direction, Vec<Column>)>> {
+    let Some((word, rest)) = words.split_first() else {
+        bail!("no direction is given; --help says how");
+    };
+    let direction = match word.as_str() {
+        "--help" => return Ok(None),
+        "read" => Direction::Read,
+        "write" => Direction::Write,
+        _ => bail!("no direction {word}; --help says which"),
+    };
+    match parse(alloc, rest)? {
+        Request::Help => Ok(None),
+        Request::Copy(columns) => Ok(Some((direction, columns))),
+    }
+}
