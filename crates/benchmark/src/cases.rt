@@ -1,12 +1,12 @@
 //! The cases by their names.
 
-use crate::work::{Way, Work};
+use crate::work::{Made, Way, Work};
 use crate::{columns, dates, documents, lists, maps, numbers, records, small_values, texts, types};
-use postgres_types::Fault;
+use postgres_types::private::BytesMut;
 use std::alloc::Global;
 
 /// The names of the cases, but for those of a megabyte and more. A conversion is read and written.
-pub const NAMES: [&str; 85] = [
+pub const NAMES: &[&str] = &[
     "read-bool",
     "write-bool",
     "read-char",
@@ -94,73 +94,59 @@ pub const NAMES: [&str; 85] = [
     "type-from_oid",
 ];
 
-/// Does the case so many times: the checksum of what it made, or `None` where there is no such case.
-pub fn run(alloc: Global, name: &str, turns: u32) -> Result<Option<u64>, Fault> {
+/// Does the case so many times.
+pub fn run(alloc: Global, name: &str, turns: u32) -> Made {
+    let work = Work {
+        alloc,
+        way: Way::Read,
+        turns,
+    };
     if let Some(conversion) = name.strip_prefix("read-") {
-        return run_conversion(
-            conversion,
-            Work {
-                alloc,
-                way: Way::Read,
-                turns,
-            },
-        );
+        return run_conversion(conversion, work);
     }
     if let Some(conversion) = name.strip_prefix("write-") {
-        return run_conversion(
-            conversion,
-            Work {
-                alloc,
-                way: Way::Write,
-                turns,
-            },
-        );
+        let way = Way::Write;
+        return run_conversion(conversion, Work { way, ..work });
     }
-    run_other(
-        name,
-        Work {
-            alloc,
-            way: Way::Read,
-            turns,
-        },
-    )
+    run_other(name, work)
 }
 
 /// Reads or writes values by the conversion of that name.
-fn run_conversion(name: &str, work: Work) -> Result<Option<u64>, Fault> {
-    if let Some(sum) = numbers::run(name, work)? {
-        return Ok(Some(sum));
+fn run_conversion(name: &str, work: Work) -> Made {
+    let mut frames = BytesMut::new(work.alloc);
+    if let Some(made) = numbers::run(name, work, &mut frames) {
+        return Some(made);
     }
-    if let Some(sum) = texts::run(name, work)? {
-        return Ok(Some(sum));
+    if let Some(made) = texts::run(name, work, &mut frames) {
+        return Some(made);
     }
-    if let Some(sum) = small_values::run(name, work)? {
-        return Ok(Some(sum));
+    if let Some(made) = small_values::run(name, work, &mut frames) {
+        return Some(made);
     }
-    if let Some(sum) = dates::run(name, work)? {
-        return Ok(Some(sum));
+    if let Some(made) = dates::run(name, work, &mut frames) {
+        return Some(made);
     }
-    run_compound(name, work)
+    run_compound(name, work, &mut frames)
 }
 
 /// The same of conversions of values that hold others.
-fn run_compound(name: &str, work: Work) -> Result<Option<u64>, Fault> {
-    if let Some(sum) = maps::run(name, work)? {
-        return Ok(Some(sum));
+fn run_compound(name: &str, work: Work, frames: &mut BytesMut) -> Made {
+    if let Some(made) = maps::run(name, work, frames) {
+        return Some(made);
     }
-    if let Some(sum) = documents::run(name, work)? {
-        return Ok(Some(sum));
+    if let Some(made) = documents::run(name, work, frames) {
+        return Some(made);
     }
-    if let Some(sum) = lists::run(name, work)? {
-        return Ok(Some(sum));
+    if let Some(made) = lists::run(name, work, frames) {
+        return Some(made);
     }
-    records::run(name, work)
+    records::run(name, work, frames)
 }
 
 /// Does a case that is of no conversion.
-fn run_other(name: &str, work: Work) -> Result<Option<u64>, Fault> {
-    if let Some(sum) = columns::run(name, work)? {
-        return Ok(Some(sum));
+fn run_other(name: &str, work: Work) -> Made {
+    if let Some(made) = columns::run(name, work) {
+        return Some(made);
     }
     types::run(name, work)
 }

@@ -1,43 +1,62 @@
 //! Dates, times of day, timestamps and intervals.
 
-use crate::values::{COUNT, Seed, values};
-use crate::work::{Way, Work, frames_of, measure, read_turns, write_turns};
+use crate::values::{FromSeed, Seed};
+use crate::work::{Made, Work, measure};
 use jiff::civil;
+use postgres_types::private::BytesMut;
 use postgres_types::{Date, Fault, Interval, Timestamp, Type, UnixTime};
+use std::alloc::Global;
 
 /// Does the case of that name, where it is of this file.
-pub fn run(name: &str, work: Work) -> Result<Option<u64>, Fault> {
-    let sum = match name {
-        "date" => dates(work)?,
-        "date_inf" => dates_and_infinities(work)?,
-        "time" => times(work)?,
-        "timestamp" => datetimes(work)?,
-        "timestamptz" => timestamps(work)?,
-        "unix" => unix_times(work)?,
-        "unix_inf" => unix_times_and_infinities(work)?,
-        "interval" => intervals(work)?,
-        _ => return Ok(None),
-    };
-    Ok(Some(sum))
+pub fn run(name: &str, work: Work, frames: &mut BytesMut) -> Made {
+    Some(match name {
+        "date" => measure::<civil::Date>(work, frames, &Type::DATE),
+        "date_inf" => measure::<Date<civil::Date>>(work, frames, &Type::DATE),
+        "time" => measure::<civil::Time>(work, frames, &Type::TIME),
+        "timestamp" => measure::<civil::DateTime>(work, frames, &Type::TIMESTAMP),
+        "timestamptz" => measure::<jiff::Timestamp>(work, frames, &Type::TIMESTAMPTZ),
+        "unix" => measure::<UnixTime>(work, frames, &Type::TIMESTAMP),
+        "unix_inf" => measure::<Timestamp<UnixTime>>(work, frames, &Type::TIMESTAMP),
+        "interval" => measure::<Interval>(work, frames, &Type::INTERVAL),
+        _ => return None,
+    })
 }
 
 /// A date from 2000 to 2255, in the first eight months.
-fn date(seed: Seed) -> Result<civil::Date, Fault> {
-    let [a, b, c, _] = seed.bytes();
-    let year = i16::from(a).wrapping_add(2_000);
-    let month = i8::from_be_bytes([b & 7]).wrapping_add(1);
-    let day = i8::from_be_bytes([c & 15]).wrapping_add(1);
-    civil::Date::new(year, month, day).map_err(|_| Fault::Decode)
+impl FromSeed for civil::Date {
+    fn from_seed(_alloc: Global, seed: Seed) -> Result<civil::Date, Fault> {
+        let [a, b, c, _] = seed.bytes();
+        let year = i16::from(a).wrapping_add(2_000);
+        let month = i8::from_be_bytes([b & 7]).wrapping_add(1);
+        let day = i8::from_be_bytes([c & 15]).wrapping_add(1);
+        match civil::Date::new(year, month, day) {
+            Ok(date) => Ok(date),
+            Err(_) => Err(Fault::Decode),
+        }
+    }
 }
 
 /// A time of day of whole microseconds.
-fn time(seed: Seed) -> Result<civil::Time, Fault> {
-    let [a, b, c, d] = seed.bytes();
-    let hour = i8::from_be_bytes([a & 15]);
-    let minute = i8::from_be_bytes([b & 31]);
-    let second = i8::from_be_bytes([c & 31]);
-    let nanos = i32::from(u16::from_be_bytes([c, d])).wrapping_mul(1_000);
-    civil::Time::new(hour, minute, second, nanos).map_err(|_| Fault::Decode)
+impl FromSeed for civil::Time {
+    fn from_seed(_alloc: Global, seed: Seed) -> Result<civil::Time, Fault> {
+        let [a, b, c, d] = seed.bytes();
+        let hour = i8::from_be_bytes([a & 15]);
+        let minute = i8::from_be_bytes([b & 31]);
+        let second = i8::from_be_bytes([c & 31]);
+        let nanos = i32::from(u16::from_be_bytes([c, d])).wrapping_mul(1_000);
+        match civil::Time::new(hour, minute, second, nanos) {
+            Ok(time) => Ok(time),
+            Err(_) => Err(Fault::Decode),
+        }
+    }
+}
+
+impl FromSeed for civil::DateTime {
+    fn from_seed(alloc: Global, seed: Seed) -> Result<civil::DateTime, Fault> {
+        let date = civil::Date::from_seed(alloc, seed)?;
+        let time = civil::Time::from_seed(alloc, seed)?;
+        Ok(date.to_datetime(time))
+    }
 }
 
 /// Seconds and nanoseconds from 1970, within 68 years of 2000.
@@ -50,68 +69,47 @@ fn seconds(seed: Seed) -> (i64, i32) {
     )
 }
 
-/// The same as a `UnixTime`.
-fn unix_time(seed: Seed) -> Result<UnixTime, Fault> {
-    let (secs, nanos) = seconds(seed);
-    match UnixTime::new(secs, nanos.unsigned_abs()) {
-        Some(time) => Ok(time),
-        None => Err(Fault::Decode),
+impl FromSeed for jiff::Timestamp {
+    fn from_seed(_alloc: Global, seed: Seed) -> Result<jiff::Timestamp, Fault> {
+        let (secs, nanos) = seconds(seed);
+        match jiff::Timestamp::new(secs, nanos) {
+            Ok(time) => Ok(time),
+            Err(_) => Err(Fault::Decode),
+        }
     }
 }
 
-fn dates(work: Work) -> Result<u64, Fault> {
-    let values = values(work.alloc, COUNT, |seed| date(seed))?;
-    measure!(work, values, &Type::DATE, civil::Date)
-}
-
-fn dates_and_infinities(work: Work) -> Result<u64, Fault> {
-    let values = values(work.alloc, COUNT, |seed| Ok(Date::Value(date(seed)?)))?;
-    measure!(work, values, &Type::DATE, Date<civil::Date>)
-}
-
-fn times(work: Work) -> Result<u64, Fault> {
-    let values = values(work.alloc, COUNT, |seed| time(seed))?;
-    measure!(work, values, &Type::TIME, civil::Time)
-}
-
-fn datetimes(work: Work) -> Result<u64, Fault> {
-    let values = values(
-        work.alloc,
-        COUNT,
-        |seed| Ok(date(seed)?.to_datetime(time(seed)?)),
-    )?;
-    measure!(work, values, &Type::TIMESTAMP, civil::DateTime)
-}
-
-fn timestamps(work: Work) -> Result<u64, Fault> {
-    let values = values(work.alloc, COUNT, |seed| {
+impl FromSeed for UnixTime {
+    fn from_seed(_alloc: Global, seed: Seed) -> Result<UnixTime, Fault> {
         let (secs, nanos) = seconds(seed);
-        jiff::Timestamp::new(secs, nanos).map_err(|_| Fault::Decode)
-    })?;
-    measure!(work, values, &Type::TIMESTAMPTZ, jiff::Timestamp)
+        match UnixTime::new(secs, nanos.unsigned_abs()) {
+            Some(time) => Ok(time),
+            None => Err(Fault::Decode),
+        }
+    }
 }
 
-fn unix_times(work: Work) -> Result<u64, Fault> {
-    let values = values(work.alloc, COUNT, |seed| unix_time(seed))?;
-    measure!(work, values, &Type::TIMESTAMP, UnixTime)
+/// No infinity.
+impl<T: FromSeed> FromSeed for Date<T> {
+    fn from_seed(alloc: Global, seed: Seed) -> Result<Date<T>, Fault> {
+        Ok(Date::Value(T::from_seed(alloc, seed)?))
+    }
 }
 
-fn unix_times_and_infinities(work: Work) -> Result<u64, Fault> {
-    let values = values(
-        work.alloc,
-        COUNT,
-        |seed| Ok(Timestamp::Value(unix_time(seed)?)),
-    )?;
-    measure!(work, values, &Type::TIMESTAMP, Timestamp<UnixTime>)
+/// No infinity.
+impl<T: FromSeed> FromSeed for Timestamp<T> {
+    fn from_seed(alloc: Global, seed: Seed) -> Result<Timestamp<T>, Fault> {
+        Ok(Timestamp::Value(T::from_seed(alloc, seed)?))
+    }
 }
 
-fn intervals(work: Work) -> Result<u64, Fault> {
-    let values = values(work.alloc, COUNT, |seed| {
+impl FromSeed for Interval {
+    fn from_seed(_alloc: Global, seed: Seed) -> Result<Interval, Fault> {
+        let [a, ..] = seed.bytes();
         Ok(Interval {
             microseconds: i64::from_be_bytes(seed.twice()),
             days: seed.number,
-            months: i32::from(seed.bytes()[0]),
+            months: i32::from(a),
         })
-    })?;
-    measure!(work, values, &Type::INTERVAL, Interval)
+    }
 }

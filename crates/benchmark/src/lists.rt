@@ -1,67 +1,60 @@
 //! Lists and arrays.
 
 use crate::values::{Seed, values};
-use crate::work::{Way, Work, frames_of, measure, read_turns, stated, write_turns};
+use crate::work::{Made, Work, measure_values, stated, user_type};
+use postgres_types::private::BytesMut;
 use postgres_types::{Fault, Kind, Type};
 use std::alloc::Global;
+use std::slice;
 
 /// Does the case of that name, where it is of this file: a list has as many elements as its name states.
-pub fn run(name: &str, work: Work) -> Result<Option<u64>, Fault> {
+pub fn run(name: &str, work: Work, frames: &mut BytesMut) -> Made {
     if let Some(count) = stated(name, "int4[]-") {
-        return Ok(Some(numbers(work, count)?));
+        return Some(numbers(work, frames, count));
     }
     if let Some(count) = stated(name, "text[]-") {
-        return Ok(Some(texts(work, count)?));
+        return Some(texts(work, frames, count));
     }
-    let sum = match name {
-        "int4[][]-1000x100" => nested(work, 1_000, 100)?,
-        "int4-array-10" => arrays(work)?,
-        _ => return Ok(None),
-    };
-    Ok(Some(sum))
+    Some(match name {
+        "int4[][]-1000x100" => nested(work, frames),
+        "int4-array-10" => arrays(work, frames),
+        _ => return None,
+    })
 }
 
-/// So many numbers.
-fn list(alloc: Global, count: u32) -> Result<Vec<i32>, Fault> {
-    values(alloc, count, |seed| Ok(seed.number))
+fn numbers(work: Work, frames: &mut BytesMut, count: u32) -> Result<u64, Fault> {
+    let list: Vec<i32> = values(work.alloc, count)?;
+    let lists = slice::from_ref(&list);
+    measure_values::<_, Vec<i32>>(work, frames, &Type::INT4_ARRAY, lists)
 }
 
-fn numbers(work: Work, count: u32) -> Result<u64, Fault> {
-    let values = values(work.alloc, 1, |_| list(work.alloc, count))?;
-    measure!(work, values, &Type::INT4_ARRAY, Vec<i32>)
+/// A list of texts, of which every eighth is NULL.
+fn texts(work: Work, frames: &mut BytesMut, count: u32) -> Result<u64, Fault> {
+    type Texts = Vec<Option<String>>;
+    let list: Texts = values(work.alloc, count)?;
+    let lists = slice::from_ref(&list);
+    measure_values::<_, Texts>(work, frames, &Type::TEXT_ARRAY, lists)
 }
 
-/// A text, or NULL at every eighth place.
-fn text(alloc: Global, seed: Seed) -> Result<Option<String>, Fault> {
-    match seed.place % 8 {
-        7 => Ok(None),
-        _ => Ok(Some(seed.text(alloc)?)),
+/// A list of 1,000 lists of 100 numbers.
+fn lists(alloc: Global) -> Result<Vec<Vec<i32>>, Fault> {
+    let mut lists = Vec::new(alloc);
+    for _ in 0..1_000 {
+        lists.push(values(alloc, 100)?)?;
     }
+    Ok(lists)
 }
 
-fn texts(work: Work, count: u32) -> Result<u64, Fault> {
-    let alloc = work.alloc;
-    let values = values(alloc, 1, |_| {
-        values(alloc, count, |seed| text(alloc, seed))
-    })?;
-    measure!(work, values, &Type::TEXT_ARRAY, Vec<Option<String>>)
+fn nested(work: Work, frames: &mut BytesMut) -> Result<u64, Fault> {
+    let ty = user_type(work.alloc, "lists", 100_000, Kind::Array(Type::INT4_ARRAY))?;
+    let lists = lists(work.alloc)?;
+    measure_values::<_, Vec<Vec<i32>>>(work, frames, &ty, slice::from_ref(&lists))
 }
 
-/// Lists of numbers in a list.
-fn nested(work: Work, count: u32, len: u32) -> Result<u64, Fault> {
-    let alloc = work.alloc;
-    let name = String::from_str(alloc, "lists")?;
-    let schema = String::from_str(alloc, "public")?;
-    let kind = Kind::Array(Type::INT4_ARRAY);
-    let ty = Type::new(alloc, name, 100_000, kind, schema)?;
-    let values = values(alloc, 1, |_| values(alloc, count, |_| list(alloc, len)))?;
-    measure!(work, values, &ty, Vec<Vec<i32>>)
-}
-
-/// Ten numbers, of which the last follows from the first.
-fn ten_numbers(seed: Seed) -> [i32; 10] {
+/// Ten numbers.
+fn ten_numbers() -> [i32; 10] {
     let mut numbers = [0; 10];
-    let mut seed = seed;
+    let mut seed = Seed::first();
     for number in &mut numbers {
         *number = seed.number;
         seed = seed.next();
@@ -69,7 +62,8 @@ fn ten_numbers(seed: Seed) -> [i32; 10] {
     numbers
 }
 
-fn arrays(work: Work) -> Result<u64, Fault> {
-    let values = values(work.alloc, 1, |seed| Ok(ten_numbers(seed)))?;
-    measure!(work, values, &Type::INT4_ARRAY, [i32; 10])
+fn arrays(work: Work, frames: &mut BytesMut) -> Result<u64, Fault> {
+    let numbers = ten_numbers();
+    let arrays = slice::from_ref(&numbers);
+    measure_values::<_, [i32; 10]>(work, frames, &Type::INT4_ARRAY, arrays)
 }

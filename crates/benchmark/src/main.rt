@@ -31,13 +31,13 @@ fn main(rt: HostRuntime) -> Result<()> {
             let turns = turns.as_str().parse::<u32>().context("TURNS is no number")?;
             show(&rt, rt.alloc(), case.as_str(), turns)
         }
-        _ => show_all(&rt, rt.alloc()),
+        _ => show_once(&rt, rt.alloc(), cases::NAMES),
     }
 }
 
-/// Does each case once.
-fn show_all(rt: &impl Print, alloc: Global) -> Result<()> {
-    for case in cases::NAMES {
+/// Does each of the cases once.
+fn show_once(rt: &impl Print, alloc: Global, cases: &[&str]) -> Result<()> {
+    for case in cases {
         show(rt, alloc, case, 1)?;
     }
     Ok(())
@@ -45,7 +45,7 @@ fn show_all(rt: &impl Print, alloc: Global) -> Result<()> {
 
 /// Does the case so many times, and prints its name and its checksum.
 fn show(rt: &impl Print, alloc: Global, case: &str, turns: u32) -> Result<()> {
-    let sum = cases::run(alloc, case, turns)?.context("no such CASE")?;
+    let sum = cases::run(alloc, case, turns).context("no such CASE")??;
     println!(rt; "{case} {sum:016x}")?;
     Ok(())
 }

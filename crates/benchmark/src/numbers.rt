@@ -1,84 +1,66 @@
 //! Booleans, integers and OIDs.
 
-use crate::values::{COUNT, values};
-use crate::work::{Way, Work, frames_of, measure, read_turns, write_turns};
+use crate::values::{FromSeed, Seed};
+use crate::work::{Made, Work, measure};
+use postgres_types::private::BytesMut;
 use postgres_types::{Fault, PgLsn, Type};
+use std::alloc::Global;
 
 /// Does the case of that name, where it is of this file.
-pub fn run(name: &str, work: Work) -> Result<Option<u64>, Fault> {
-    let sum = match name {
-        "bool" => booleans(work)?,
-        "char" => chars(work)?,
-        "int2" => int2(work)?,
-        "int4" => int4(work)?,
-        "int8" => int8(work)?,
-        "oid" => oids(work)?,
-        "pg_lsn" => positions(work)?,
-        "int4?" => options(work)?,
-        _ => return Ok(None),
-    };
-    Ok(Some(sum))
+pub fn run(name: &str, work: Work, frames: &mut BytesMut) -> Made {
+    Some(match name {
+        "bool" => measure::<bool>(work, frames, &Type::BOOL),
+        "char" => measure::<i8>(work, frames, &Type::CHAR),
+        "int2" => measure::<i16>(work, frames, &Type::INT2),
+        "int4" => measure::<i32>(work, frames, &Type::INT4),
+        "int8" => measure::<i64>(work, frames, &Type::INT8),
+        "oid" => measure::<u32>(work, frames, &Type::OID),
+        "pg_lsn" => measure::<PgLsn>(work, frames, &Type::PG_LSN),
+        "int4?" => measure::<Option<i32>>(work, frames, &Type::INT4),
+        _ => return None,
+    })
 }
 
-fn booleans(work: Work) -> Result<u64, Fault> {
-    let values = values(work.alloc, COUNT, |seed| Ok(seed.number > 0))?;
-    measure!(work, values, &Type::BOOL, bool)
+impl FromSeed for bool {
+    fn from_seed(_alloc: Global, seed: Seed) -> Result<bool, Fault> {
+        Ok(seed.number > 0)
+    }
 }
 
-fn chars(work: Work) -> Result<u64, Fault> {
-    let values = values(work.alloc, COUNT, |seed| {
+impl FromSeed for i8 {
+    fn from_seed(_alloc: Global, seed: Seed) -> Result<i8, Fault> {
         let [a, ..] = seed.bytes();
         Ok(i8::from_be_bytes([a]))
-    })?;
-    measure!(work, values, &Type::CHAR, i8)
+    }
 }
 
-fn int2(work: Work) -> Result<u64, Fault> {
-    let values = values(work.alloc, COUNT, |seed| {
+impl FromSeed for i16 {
+    fn from_seed(_alloc: Global, seed: Seed) -> Result<i16, Fault> {
         let [a, b, ..] = seed.bytes();
         Ok(i16::from_be_bytes([a, b]))
-    })?;
-    measure!(work, values, &Type::INT2, i16)
+    }
 }
 
-fn int4(work: Work) -> Result<u64, Fault> {
-    let values = values(work.alloc, COUNT, |seed| Ok(seed.number))?;
-    measure!(work, values, &Type::INT4, i32)
+impl FromSeed for i32 {
+    fn from_seed(_alloc: Global, seed: Seed) -> Result<i32, Fault> {
+        Ok(seed.number)
+    }
 }
 
-fn int8(work: Work) -> Result<u64, Fault> {
-    let values = values(
-        work.alloc,
-        COUNT,
-        |seed| Ok(i64::from_be_bytes(seed.twice())),
-    )?;
-    measure!(work, values, &Type::INT8, i64)
+impl FromSeed for i64 {
+    fn from_seed(_alloc: Global, seed: Seed) -> Result<i64, Fault> {
+        Ok(i64::from_be_bytes(seed.twice()))
+    }
 }
 
-fn oids(work: Work) -> Result<u64, Fault> {
-    let values = values(
-        work.alloc,
-        COUNT,
-        |seed| Ok(u32::from_be_bytes(seed.bytes())),
-    )?;
-    measure!(work, values, &Type::OID, u32)
+impl FromSeed for u32 {
+    fn from_seed(_alloc: Global, seed: Seed) -> Result<u32, Fault> {
+        Ok(u32::from_be_bytes(seed.bytes()))
+    }
 }
 
-fn positions(work: Work) -> Result<u64, Fault> {
-    let values = values(work.alloc, COUNT, |seed| {
+impl FromSeed for PgLsn {
+    fn from_seed(_alloc: Global, seed: Seed) -> Result<PgLsn, Fault> {
         Ok(PgLsn::from(u64::from_be_bytes(seed.twice())))
-    })?;
-    measure!(work, values, &Type::PG_LSN, PgLsn)
-}
-
-/// Every eighth is NULL.
-fn options(work: Work) -> Result<u64, Fault> {
-    let values = values(work.alloc, COUNT, |seed| {
-        Ok(if seed.place % 8 == 7 {
-            None
-        } else {
-            Some(seed.number)
-        })
-    })?;
-    measure!(work, values, &Type::INT4, Option<i32>)
+    }
 }

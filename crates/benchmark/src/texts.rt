@@ -1,60 +1,45 @@
 //! Texts, bytes and bit strings.
 
-use crate::values::{COUNT, values};
-use crate::work::{Way, Work, frames_of, measure, read_turns, write_turns};
+use crate::values::{FromSeed, Seed};
+use crate::work::{Made, Work, measure, measure_as, user_type};
+use postgres_types::private::BytesMut;
 use postgres_types::{BitVec, Fault, Kind, Type};
+use std::alloc::Global;
 
-/// Does the case of that name, where it is of this file.
-pub fn run(name: &str, work: Work) -> Result<Option<u64>, Fault> {
-    let sum = match name {
-        "text" => texts(work)?,
-        "text-borrowed" => borrowed_texts(work)?,
-        "ltree" => ltrees(work)?,
-        "bytea" => bytes(work)?,
-        "bytea-borrowed" => borrowed_bytes(work)?,
-        "varbit" => bits(work)?,
-        _ => return Ok(None),
-    };
-    Ok(Some(sum))
+/// Does the case of that name, where it is of this file: what is borrowed lies in its cell.
+pub fn run(name: &str, work: Work, frames: &mut BytesMut) -> Made {
+    Some(match name {
+        "text" => measure::<String>(work, frames, &Type::TEXT),
+        "text-borrowed" => measure_as::<String, &str>(work, frames, &Type::TEXT),
+        "ltree" => ltrees(work, frames),
+        "bytea" => measure::<Vec<u8>>(work, frames, &Type::BYTEA),
+        "bytea-borrowed" => measure_as::<Vec<u8>, &[u8]>(work, frames, &Type::BYTEA),
+        "varbit" => measure::<BitVec>(work, frames, &Type::VARBIT),
+        _ => return None,
+    })
 }
 
-fn texts(work: Work) -> Result<u64, Fault> {
-    let values = values(work.alloc, COUNT, |seed| seed.text(work.alloc))?;
-    measure!(work, values, &Type::TEXT, String)
+fn ltrees(work: Work, frames: &mut BytesMut) -> Result<u64, Fault> {
+    let ty = user_type(work.alloc, "ltree", 100_001, Kind::Simple)?;
+    measure::<String>(work, frames, &ty)
 }
 
-/// The texts of the cells, in their places.
-fn borrowed_texts(work: Work) -> Result<u64, Fault> {
-    let values = values(work.alloc, COUNT, |seed| seed.text(work.alloc))?;
-    measure!(work, values, &Type::TEXT, &str)
+/// A text with the place.
+impl FromSeed for String {
+    fn from_seed(alloc: Global, seed: Seed) -> Result<String, Fault> {
+        let place = seed.place;
+        Ok(format!(in alloc; "text {place}")?)
+    }
 }
 
-fn ltrees(work: Work) -> Result<u64, Fault> {
-    let name = String::from_str(work.alloc, "ltree")?;
-    let schema = String::from_str(work.alloc, "public")?;
-    let ty = Type::new(work.alloc, name, 100_001, Kind::Simple, schema)?;
-    let values = values(work.alloc, COUNT, |seed| seed.text(work.alloc))?;
-    measure!(work, values, &ty, String)
+impl FromSeed for Vec<u8> {
+    fn from_seed(alloc: Global, seed: Seed) -> Result<Vec<u8>, Fault> {
+        Ok(Vec::from_slice(alloc, &seed.twice())?)
+    }
 }
 
-fn bytes(work: Work) -> Result<u64, Fault> {
-    let values = values(work.alloc, COUNT, |seed| {
-        Ok(Vec::from_slice(work.alloc, &seed.twice())?)
-    })?;
-    measure!(work, values, &Type::BYTEA, Vec<u8>)
-}
-
-/// The bytes of the cells, in their places.
-fn borrowed_bytes(work: Work) -> Result<u64, Fault> {
-    let values = values(work.alloc, COUNT, |seed| {
-        Ok(Vec::from_slice(work.alloc, &seed.twice())?)
-    })?;
-    measure!(work, values, &Type::BYTEA, &[u8])
-}
-
-fn bits(work: Work) -> Result<u64, Fault> {
-    let values = values(work.alloc, COUNT, |seed| {
-        Ok(BitVec::from_bytes(work.alloc, &seed.twice())?)
-    })?;
-    measure!(work, values, &Type::VARBIT, BitVec)
+impl FromSeed for BitVec {
+    fn from_seed(alloc: Global, seed: Seed) -> Result<BitVec, Fault> {
+        Ok(BitVec::from_bytes(alloc, &seed.twice())?)
+    }
 }

@@ -1,19 +1,18 @@
 //! Copies, comparison and finding of Postgres types.
 
 use crate::sum::mix;
-use crate::work::Work;
+use crate::work::{Made, Work, user_type};
 use postgres_types::{Fault, Kind, Type};
 
 /// Does the case of that name, where it is of this file.
-pub fn run(name: &str, work: Work) -> Result<Option<u64>, Fault> {
-    let sum = match name {
-        "type-clone" => copies(work)?,
-        "type-clone-user" => user_copies(work)?,
-        "type-eq" => comparisons(work)?,
-        "type-from_oid" => found(work),
-        _ => return Ok(None),
-    };
-    Ok(Some(sum))
+pub fn run(name: &str, work: Work) -> Made {
+    Some(match name {
+        "type-clone" => copies(work),
+        "type-clone-user" => user_copies(work),
+        "type-eq" => Ok(comparisons(work)),
+        "type-from_oid" => Ok(found(work)),
+        _ => return None,
+    })
 }
 
 /// Copies a built-in type so many times.
@@ -27,9 +26,7 @@ fn copies(work: Work) -> Result<u64, Fault> {
 
 /// Copies a user-defined type so many times.
 fn user_copies(work: Work) -> Result<u64, Fault> {
-    let name = String::from_str(work.alloc, "hstore")?;
-    let schema = String::from_str(work.alloc, "public")?;
-    let mut ty = Type::new(work.alloc, name, 100_002, Kind::Simple, schema)?;
+    let mut ty = user_type(work.alloc, "hstore", 100_002, Kind::Simple)?;
     for _ in 0..work.turns {
         ty = ty.try_clone()?;
     }
@@ -37,7 +34,7 @@ fn user_copies(work: Work) -> Result<u64, Fault> {
 }
 
 /// Compares a type with those of eight numbers.
-fn comparisons(work: Work) -> Result<u64, Fault> {
+fn comparisons(work: Work) -> u64 {
     let types = [
         Type::INT4,
         Type::INT8,
@@ -54,7 +51,7 @@ fn comparisons(work: Work) -> Result<u64, Fault> {
             sum = mix(sum, u64::from(*ty == Type::TEXT) ^ u64::from(turn));
         }
     }
-    Ok(sum)
+    sum
 }
 
 /// Finds the types of the OIDs from 0 to 2047, one after another.

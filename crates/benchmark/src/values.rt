@@ -7,7 +7,7 @@ use std::alloc::Global;
 pub const COUNT: u32 = 1_000;
 
 /// What a value is made of.
-#[derive(Debug, Clone, Copy)]
+#[derive(Clone, Copy)]
 pub struct Seed {
     /// The value's place, from 0.
     pub place: u32,
@@ -42,26 +42,29 @@ impl Seed {
         let [a, b, c, d] = self.bytes();
         [a, b, c, d, a, b, c, d]
     }
+}
 
-    /// A text with the place.
-    pub fn text(self, alloc: Global) -> Result<String, Fault> {
-        let place = self.place;
-        Ok(format!(in alloc; "text {place}")?)
+/// A value of a case, which is made of a seed.
+pub trait FromSeed: Sized + Drop {
+    fn from_seed(alloc: Global, seed: Seed) -> Result<Self, Fault>;
+}
+
+/// NULL at every eighth place.
+impl<T: FromSeed> FromSeed for Option<T> {
+    fn from_seed(alloc: Global, seed: Seed) -> Result<Option<T>, Fault> {
+        match seed.place % 8 {
+            7 => Ok(None),
+            _ => Ok(Some(T::from_seed(alloc, seed)?)),
+        }
     }
 }
 
 /// So many values, each made of its seed.
-pub fn values<T: Drop, F: Fn(Seed) -> Result<T, Fault>>(
-    alloc: Global,
-    count: u32,
-    make: F,
-) -> Result<Vec<T>, Fault>
-    requires { F.IsAlwaysCallable make }
-{
+pub fn values<T: FromSeed>(alloc: Global, count: u32) -> Result<Vec<T>, Fault> {
     let mut values = Vec::new(alloc);
     let mut seed = Seed::first();
     for _ in 0..count {
-        values.push(make(seed)?)?;
+        values.push(T::from_seed(alloc, seed)?)?;
         seed = seed.next();
     }
     Ok(values)

@@ -1,28 +1,39 @@
 //! Reading and writing over and over.
 
 use crate::sum::{mix, mix_bytes};
+use crate::values::{COUNT, FromSeed, values};
 use postgres_types::private::{BytesMut, read_value};
-use postgres_types::{Fault, FromSql, ToSql, Type, frame_value};
+use postgres_types::{Fault, FromSql, Kind, Oid, ToSql, Type, frame_value};
 use std::alloc::Global;
 
 /// What is measured of a conversion.
-#[derive(Debug, Clone, Copy)]
+#[derive(Clone, Copy)]
 pub enum Way {
     Read,
     Write,
 }
 
 /// A case: what is measured, and how often it is done.
-#[derive(Debug, Clone, Copy)]
+#[derive(Clone, Copy)]
 pub struct Work {
     pub alloc: Global,
     pub way: Way,
     pub turns: u32,
 }
 
+/// The checksum of what a case made, or `None` where there is no case of that name.
+pub type Made = Option<Result<u64, Fault>>;
+
 /// How many items a name states after that prefix.
 pub fn stated(name: &str, prefix: &str) -> Option<u32> {
     name.strip_prefix(prefix)?.parse().ok()
+}
+
+/// A user-defined type in the schema `public`.
+pub fn user_type(alloc: Global, name: &str, oid: Oid, kind: Kind) -> Result<Type, Fault> {
+    let name = String::from_str(alloc, name)?;
+    let schema = String::from_str(alloc, "public")?;
+    Type::new(alloc, name, oid, kind, schema)
 }
 
 /// The values' frames, one after another.
@@ -93,18 +104,37 @@ pub fn read_turns<'a, T: FromSql<'a> + ToSql>(
     Ok(mix_bytes(0, again.as_slice()))
 }
 
-/// Reads or writes the values, as the case says; `as` names the type that is read.
-macro_rules! measure {
-    ($work:expr, $values:expr, $ty:expr, $read:ty) => {{
-        let values = $values;
-        match $work.way {
-            Way::Write => write_turns($work, values.as_slice(), $ty),
-            Way::Read => {
-                let frames = frames_of($work.alloc, values.as_slice(), $ty)?;
-                read_turns::<$read>($work, frames.as_slice(), values.len(), $ty)
-            }
+/// Writes the values, or reads them as an `R`, as the case says. The frames that are read go into the buffer.
+pub fn measure_values<'a, T: ToSql, R: FromSql<'a> + ToSql>(
+    work: Work,
+    frames: &'a mut BytesMut,
+    ty: &Type,
+    values: &[T],
+) -> Result<u64, Fault> {
+    match work.way {
+        Way::Write => write_turns(work, values, ty),
+        Way::Read => {
+            append_frames(work.alloc, values, ty, frames)?;
+            read_turns::<R>(work, frames.as_slice(), values.len(), ty)
         }
-    }};
+    }
 }
 
-pub(crate) use measure;
+/// Does the same with values of a `T`, each made of its seed.
+pub fn measure_as<'a, T: FromSeed + ToSql, R: FromSql<'a> + ToSql>(
+    work: Work,
+    frames: &'a mut BytesMut,
+    ty: &Type,
+) -> Result<u64, Fault> {
+    let values: Vec<T> = values(work.alloc, COUNT)?;
+    measure_values::<T, R>(work, frames, ty, values.as_slice())
+}
+
+/// Does the same with values that are read as what they are.
+pub fn measure<'a, T: FromSeed + FromSql<'a> + ToSql>(
+    work: Work,
+    frames: &'a mut BytesMut,
+    ty: &Type,
+) -> Result<u64, Fault> {
+    measure_as::<T, T>(work, frames, ty)
+}
