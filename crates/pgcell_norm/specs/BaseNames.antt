@@ -61,18 +61,24 @@ infix 5 if◌is◌then◌else◌
 abbrev pub if◌is◌then◌else◌ : List ℕ → Literal → Entry → Entry → Entry
 if base is name then this else others = cond (same_word base (codes name)) this others
 
--- the entry of a base name that is no number's, text's, date's, time's or timestamp's
+-- the entry of a base name of a user-defined type
+unfoldable pub user_entry_of : List ℕ → Entry
+user_entry_of base =
+    if base is "ltree" then no_arrays (simple_type "ltree" 100001) RewrittenText
+    else if base is "hstore" then no_arrays (simple_type "hstore" 100002)
+    (RewrittenPlain {A = Map} ReadsHstore (λ m. wire_hstore (map owned_entry m.entries)))
+    else if base is "item" then entry item_type (Some item_array_type) RewrittenItem
+    else if base is "mood" then no_arrays mood_type (RewrittenPlain ReadsMood wire_mood)
+    else if base is "session" then no_arrays session_id_type (RewrittenPlain ReadsSessionId wire_session_id)
+    else no_entry
+
+-- the same, also of a built-in type that is none of those below
 unfoldable pub other_entry_of : List ℕ → Entry
 other_entry_of base =
     if base is "bytea" then built_in row.Bytea row.ByteaArray
     (RewrittenPlain {A = Vec ℕ Global} (ReadsBytes (λ v. v.items)) (λ v. wire_bytes v.items))
     else if base is "bit" then built_in row.Bit row.BitArray (RewrittenPlain (ReadsBits (λ v. v)) wire_bits)
     else if base is "varbit" then built_in row.Varbit row.VarbitArray (RewrittenPlain (ReadsBits (λ v. v)) wire_bits)
-    else if base is "inet" then built_in row.Inet row.InetArray (RewrittenPlain ReadsInet wire_inet)
-    else if base is "addr" then built_in row.Inet row.InetArray (RewrittenPlain ReadsAddress wire_address)
-    else if base is "cidr" then built_in row.Cidr row.CidrArray (RewrittenPlain ReadsCidr wire_cidr)
-    else if base is "macaddr" then built_in row.Macaddr row.MacaddrArray
-    (RewrittenPlain (ReadsFixedBytes 6) (wire_fixed_bytes 6))
     else if base is "uuid" then built_in row.Uuid row.UuidArray
     (RewrittenPlain (ReadsFixedBytes 16) (wire_fixed_bytes 16))
     else if base is "pg_lsn" then built_in row.PgLsn row.PgLsnArray
@@ -81,36 +87,56 @@ other_entry_of base =
     (RewrittenAs (ReadsVec (λ _. ReadsSigned w16)) (wire_vec (λ _. wire_signed w16)))
     else if base is "oidvector" then no_arrays (BuiltInType row.OidVector)
     (RewrittenAs (ReadsVec (λ _. ReadsUnsigned w32)) (wire_vec (λ _. wire_unsigned w32)))
-    else if base is "hstore" then no_arrays (simple_type "hstore" 100002)
-    (RewrittenPlain {A = Map} ReadsHstore (λ m. wire_hstore (map owned_entry m.entries)))
-    else if base is "item" then entry item_type (Some item_array_type) RewrittenItem
-    else if base is "mood" then no_arrays mood_type (RewrittenPlain ReadsMood wire_mood)
-    else if base is "session" then no_arrays session_id_type (RewrittenPlain ReadsSessionId wire_session_id)
-    else no_entry
+    else user_entry_of base
 
--- the same, also of a date, a time or a timestamp
+-- the same, also of an address
+unfoldable pub network_entry_of : List ℕ → Entry
+network_entry_of base =
+    if base is "inet" then built_in row.Inet row.InetArray (RewrittenPlain ReadsInet wire_inet)
+    else if base is "addr" then built_in row.Inet row.InetArray (RewrittenPlain ReadsAddress wire_address)
+    else if base is "cidr" then built_in row.Cidr row.CidrArray (RewrittenPlain ReadsCidr wire_cidr)
+    else if base is "macaddr" then built_in row.Macaddr row.MacaddrArray
+    (RewrittenPlain (ReadsFixedBytes 6) (wire_fixed_bytes 6))
+    else other_entry_of base
+
+-- the same, also of a timestamp
 unfoldable pub timestamp_entry_of : List ℕ → Entry
 timestamp_entry_of base =
-    if base is "date" then built_in row.Date row.DateArray (RewrittenPlain ReadsDate wire_date)
-    else if base is "date_inf" then built_in row.Date row.DateArray
-    (RewrittenPlain (ReadsSpecial w32 date_view ReadsDate) (λ v. wire_special w32 wire_date (date_view v)))
-    else if base is "time" then built_in row.Time row.TimeArray (RewrittenPlain ReadsTime wire_time)
-    else if base is "timestamp" then built_in row.Timestamp row.TimestampArray
+    if base is "timestamp" then built_in row.Timestamp row.TimestampArray
     (RewrittenPlain ReadsDateTime wire_datetime)
     else if base is "timestamp_inf" then built_in row.Timestamp row.TimestampArray
     (RewrittenPlain (ReadsSpecial w64 timestamp_view ReadsDateTime)
     (λ v. wire_special w64 wire_datetime (timestamp_view v)))
     else if base is "timestamptz" then built_in row.Timestamptz row.TimestamptzArray
     (RewrittenPlain ReadsInstant wire_instant)
-    else if base is "interval" then built_in row.Interval row.IntervalArray (RewrittenPlain ReadsInterval wire_interval)
     else if base is "unix" then built_in row.Timestamp row.TimestampArray
     (RewrittenPlain (ReadsTimestamp nanos_of) (λ v. wire_timestamp (nanos_of v)))
     else if base is "unix_inf" then built_in row.Timestamp row.TimestampArray
     (RewrittenPlain (ReadsSpecial w64 timestamp_view (ReadsTimestamp nanos_of))
     (λ v. wire_special w64 (λ u. wire_timestamp (nanos_of u)) (timestamp_view v)))
-    else other_entry_of base
+    else network_entry_of base
 
--- the entry of any base name, also of a number or a text
+-- the same, also of a date, a time or an interval
+unfoldable pub date_entry_of : List ℕ → Entry
+date_entry_of base =
+    if base is "date" then built_in row.Date row.DateArray (RewrittenPlain ReadsDate wire_date)
+    else if base is "date_inf" then built_in row.Date row.DateArray
+    (RewrittenPlain (ReadsSpecial w32 date_view ReadsDate) (λ v. wire_special w32 wire_date (date_view v)))
+    else if base is "time" then built_in row.Time row.TimeArray (RewrittenPlain ReadsTime wire_time)
+    else if base is "interval" then built_in row.Interval row.IntervalArray (RewrittenPlain ReadsInterval wire_interval)
+    else timestamp_entry_of base
+
+-- the same, also of a text
+unfoldable pub text_entry_of : List ℕ → Entry
+text_entry_of base =
+    if base is "text" then built_in row.Text row.TextArray RewrittenText
+    else if base is "varchar" then built_in row.Varchar row.VarcharArray RewrittenText
+    else if base is "bpchar" then built_in row.Bpchar row.BpcharArray RewrittenText
+    else if base is "name" then built_in row.Name row.NameArray RewrittenText
+    else if base is "unknown" then no_arrays (BuiltInType row.Unknown) RewrittenText
+    else date_entry_of base
+
+-- the entry of any base name, also of a number
 abbrev pub entry_of : List ℕ → Entry
 entry_of base =
     if base is "bool" then built_in row.Bool row.BoolArray (RewrittenPlain ReadsBool wire_bool)
@@ -119,10 +145,4 @@ entry_of base =
     else if base is "int4" then built_in row.Int4 row.Int4Array (RewrittenPlain (ReadsSigned w32) (wire_signed w32))
     else if base is "int8" then built_in row.Int8 row.Int8Array (RewrittenPlain (ReadsSigned w64) (wire_signed w64))
     else if base is "oid" then built_in row.Oid row.OidArray (RewrittenPlain (ReadsUnsigned w32) (wire_unsigned w32))
-    else if base is "text" then built_in row.Text row.TextArray RewrittenText
-    else if base is "varchar" then built_in row.Varchar row.VarcharArray RewrittenText
-    else if base is "bpchar" then built_in row.Bpchar row.BpcharArray RewrittenText
-    else if base is "name" then built_in row.Name row.NameArray RewrittenText
-    else if base is "unknown" then no_arrays (BuiltInType row.Unknown) RewrittenText
-    else if base is "ltree" then no_arrays (simple_type "ltree" 100001) RewrittenText
-    else timestamp_entry_of base
+    else text_entry_of base

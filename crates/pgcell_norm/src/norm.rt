@@ -5,12 +5,13 @@ ghost use Rattle.postgres_types.specs.Content.{content};
 ghost use Rattle.postgres_types.specs.Cells.{cell_of};
 ghost use Rattle.postgres_types.specs.Faults.{refusal_of};
 ghost use Rattle.postgres_types.specs.ArrayTypes.{accepted_list};
-ghost use Rattle.pgcell_norm.specs.BaseNames.{has_form, other_entry_of, timestamp_entry_of};
+ghost use Rattle.pgcell_norm.specs.BaseNames.{date_entry_of, has_form, network_entry_of, other_entry_of, text_entry_of};
+ghost use Rattle.pgcell_norm.specs.BaseNames.{timestamp_entry_of, user_entry_of};
 ghost use Rattle.pgcell_norm.specs.Forms.{has_type};
 ghost use Rattle.pgcell_norm.specs.Norm.{AnswersEntry, AnswersIn, AnswersNorm, PrintsRefusal, WritesOf, norm_text};
 ghost use Rattle.pgcell_norm.specs.Rewritten.{RewrittenAs, accepted_as};
 
-use crate::base_names::{dates_and_times, numbers_and_texts, others};
+use crate::base_names::{dates_and_times, network, numbers, others, texts, timestamps, user_types};
 use crate::names::{Form, Name};
 use crate::user_types::UserTypes;
 use bytes::BytesMut;
@@ -54,10 +55,16 @@ macro_rules! norm_as {
     (
         ($this:ident, $alloc:ident, $name:ident, $cell:ident, $pending:ident)
         $rust:ty, $own:ident, $arrays:ident
-    ) => {{
-        let arrays = Some(Type::$arrays);
-        $this.norm_as::<$rust>($alloc, $name.form, Type::$own, arrays, $cell, $pending)
-    }};
+    ) => {
+        $this.norm_as::<$rust>(
+            $alloc,
+            $name.form,
+            Type::$own,
+            Some(Type::$arrays),
+            $cell,
+            $pending,
+        )
+    };
 }
 
 /// What rewriting keeps from cell to cell: the user-defined types, and a buffer for the cell that
@@ -92,16 +99,62 @@ impl Rewriter {
             × (pending.new.items ≡ pending.old.items ++ text)) }
         ensures err { OnErr result (pending.new.items ≡ pending.old.items) }
     {
-        numbers_and_texts!(
+        numbers!(
             name.base,
             norm_as(self, alloc, name, cell, pending),
-            self.norm_timestamp(alloc, name, cell, pending)
+            self.norm_texts(alloc, name, cell, pending)
         )
     }
 
-    /// The same of a base name that is no number's and no text's.
+    /// The same of a base name that is no number's.
+    #[tactic(auto, unfolding(crate::specs::BaseNames::text_entry_of))]
+    fn norm_texts(
+        &mut self,
+        alloc: Global,
+        name: Name<'_>,
+        cell: Option<&[u8]>,
+        pending: &mut Vec<u8>,
+    ) -> Result<(), AllocError>
+        requires { IsTrue (has_form (text_entry_of name.base.now) name.form) }
+        ensures ok { OnOk result ((text : List ℕ)
+            × AnswersEntry (text_entry_of name.entry.base.now) name.entry.form
+            (cell_of cell.entry) text
+            × (pending.new.items ≡ pending.old.items ++ text)) }
+        ensures err { OnErr result (pending.new.items ≡ pending.old.items) }
+    {
+        texts!(
+            name.base,
+            norm_as(self, alloc, name, cell, pending),
+            self.norm_dates_and_times(alloc, name, cell, pending)
+        )
+    }
+
+    /// The same of one that is no text's either.
+    #[tactic(auto, unfolding(crate::specs::BaseNames::date_entry_of))]
+    fn norm_dates_and_times(
+        &mut self,
+        alloc: Global,
+        name: Name<'_>,
+        cell: Option<&[u8]>,
+        pending: &mut Vec<u8>,
+    ) -> Result<(), AllocError>
+        requires { IsTrue (has_form (date_entry_of name.base.now) name.form) }
+        ensures ok { OnOk result ((text : List ℕ)
+            × AnswersEntry (date_entry_of name.entry.base.now) name.entry.form
+            (cell_of cell.entry) text
+            × (pending.new.items ≡ pending.old.items ++ text)) }
+        ensures err { OnErr result (pending.new.items ≡ pending.old.items) }
+    {
+        dates_and_times!(
+            name.base,
+            norm_as(self, alloc, name, cell, pending),
+            self.norm_timestamps(alloc, name, cell, pending)
+        )
+    }
+
+    /// The same of one that is no date's, time's or interval's either.
     #[tactic(auto, unfolding(crate::specs::BaseNames::timestamp_entry_of))]
-    fn norm_timestamp(
+    fn norm_timestamps(
         &mut self,
         alloc: Global,
         name: Name<'_>,
@@ -115,16 +168,39 @@ impl Rewriter {
             × (pending.new.items ≡ pending.old.items ++ text)) }
         ensures err { OnErr result (pending.new.items ≡ pending.old.items) }
     {
-        dates_and_times!(
+        timestamps!(
             name.base,
             norm_as(self, alloc, name, cell, pending),
-            self.norm_other(alloc, name, cell, pending)
+            self.norm_network(alloc, name, cell, pending)
         )
     }
 
-    /// The same of one that is no date's, time's or timestamp's either.
+    /// The same of one that is no timestamp's either.
+    #[tactic(auto, unfolding(crate::specs::BaseNames::network_entry_of))]
+    fn norm_network(
+        &mut self,
+        alloc: Global,
+        name: Name<'_>,
+        cell: Option<&[u8]>,
+        pending: &mut Vec<u8>,
+    ) -> Result<(), AllocError>
+        requires { IsTrue (has_form (network_entry_of name.base.now) name.form) }
+        ensures ok { OnOk result ((text : List ℕ)
+            × AnswersEntry (network_entry_of name.entry.base.now) name.entry.form
+            (cell_of cell.entry) text
+            × (pending.new.items ≡ pending.old.items ++ text)) }
+        ensures err { OnErr result (pending.new.items ≡ pending.old.items) }
+    {
+        network!(
+            name.base,
+            norm_as(self, alloc, name, cell, pending),
+            self.norm_others(alloc, name, cell, pending)
+        )
+    }
+
+    /// The same of one that is no address's either.
     #[tactic(auto, unfolding(crate::specs::BaseNames::other_entry_of))]
-    fn norm_other(
+    fn norm_others(
         &mut self,
         alloc: Global,
         name: Name<'_>,
@@ -139,6 +215,29 @@ impl Rewriter {
         ensures err { OnErr result (pending.new.items ≡ pending.old.items) }
     {
         others!(
+            name.base,
+            norm_as(self, alloc, name, cell, pending),
+            self.norm_user_types(alloc, name, cell, pending)
+        )
+    }
+
+    /// The same of one that is of no built-in type.
+    #[tactic(auto, unfolding(crate::specs::BaseNames::user_entry_of))]
+    fn norm_user_types(
+        &mut self,
+        alloc: Global,
+        name: Name<'_>,
+        cell: Option<&[u8]>,
+        pending: &mut Vec<u8>,
+    ) -> Result<(), AllocError>
+        requires { IsTrue (has_form (user_entry_of name.base.now) name.form) }
+        ensures ok { OnOk result ((text : List ℕ)
+            × AnswersEntry (user_entry_of name.entry.base.now) name.entry.form
+            (cell_of cell.entry) text
+            × (pending.new.items ≡ pending.old.items ++ text)) }
+        ensures err { OnErr result (pending.new.items ≡ pending.old.items) }
+    {
+        user_types!(
             name.base,
             norm_as(self, alloc, name, cell, pending),
             unreachable!()

@@ -26,3 +26,21 @@ returns-in-OptionalArray g c =
     (writes_rewritten (ReadsVec reads ty) (wire_vec wire ty)
     (cell_of c.args.cell) c.args.out.now.items call.new.out.items call.result
     (call.ensures.rewrites (rw c.in-OptionalArray.is at c.requires)))
+
+pub returns-in-Plain : goal.returns-in-Plain
+returns-in-Plain g c =
+    let ty = content c.args.ty.now in
+    let call = c.rewrite in
+    rw c.in-Plain.is
+    (writes_rewritten (g.T.FromSql.reads ty) (g.T.ToSql.wire ty)
+    (cell_of c.args.cell) c.args.out.now.items call.new.out.items call.result
+    (call.ensures.rewrites (rw c.in-Plain.is at c.requires)))
+
+pub returns-in-Optional : goal.returns-in-Optional
+returns-in-Optional g c =
+    let ty = content c.args.ty.now in
+    let call = c.rewrite-in-Optional in
+    rw c.in-Optional.is
+    (writes_rewritten (ReadsOption (g.T.FromSql.reads ty)) (wire_option (g.T.ToSql.wire ty))
+    (cell_of c.args.cell) c.args.out.now.items call.new.out.items call.result
+    (call.ensures.rewrites (rw c.in-Optional.is at c.requires)))
