@@ -51,6 +51,9 @@ def fits(one, others, texts):
     """Returns whether an edit can be tried in a round with others."""
     if not one.target or any(set(one.reached) & set(it.reached) for it in others):
         return False
+    # (what two edits put in one place may bring the same imports)
+    if one.is_wide and any(pair[:2] == other[:2] for it in others for other in it.edit.pairs for pair in one.edit.pairs):
+        return False
     for it in others:
         texts = it.edit.applied(texts)
     return one.edit.applied(texts) is not None
