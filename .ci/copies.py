@@ -11,6 +11,12 @@ def read_crates(top="."):
     return {name: [it for it in below if it in named] for name, below in named.items()}
 
 
+def lines_of(names, top="."):
+    """Returns the lines of crates.txt of these crates."""
+    with open(f"{top}/crates.txt", encoding="utf-8") as it:
+        return "".join(line for line in it if line.partition(":")[0].strip() in names)
+
+
 def with_below(crate, crates):
     """Returns the crate after those that it stands on, lowest first."""
     order = []
@@ -41,10 +47,8 @@ def copy_crates(names, top, to):
     """Copies these crates, lowest first, with the libraries that were built of all but the last."""
     os.makedirs(f"{to}/crates")
     shutil.copy2(f"{top}/HANDLES", f"{to}/HANDLES")
-    with open(f"{top}/crates.txt", encoding="utf-8") as it:
-        lines = [line for line in it if line.partition(":")[0].strip() in names]
     with open(f"{to}/crates.txt", "w", encoding="utf-8") as it:
-        it.writelines(lines)
+        it.write(lines_of(names, top))
     for name in names:
         shutil.copytree(f"{top}/crates/{name}", f"{to}/crates/{name}", ignore=shutil.ignore_patterns("out"))
     for name in names[:-1]:
