@@ -12,7 +12,9 @@ const EPOCH_FROM_MARCH: i64 = 719_468;
 #[derive(Debug, Clone, Copy, PartialEq, Eq)]
 pub struct Civil {
     pub year: i64,
+    /// From 1 to 12.
     pub month: u32,
+    /// From 1 to 31.
     pub day: u32,
 }
 

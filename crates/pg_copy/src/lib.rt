@@ -6,7 +6,7 @@
 #![tactic(auto)]
 
 pub mod arguments;
-mod calendar;
+pub mod calendar;
 pub mod columns;
 pub mod copy_fault;
 mod digits;
@@ -19,8 +19,6 @@ pub mod read;
 mod scanner;
 mod show;
 mod streams;
-#[cfg(test)]
-mod tests;
 mod text;
 mod tuples;
 mod user_types;

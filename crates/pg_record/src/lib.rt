@@ -5,8 +5,6 @@
 mod inventory_item;
 mod mood;
 mod session_id;
-#[cfg(test)]
-mod tests;
 
 pub use inventory_item::InventoryItem;
 pub use mood::Mood;

@@ -4,15 +4,11 @@
 //! output could not be written, or memory was refused. Nothing else is printed.
 #![tactic(auto)]
 
-mod answer;
-mod request;
-mod run;
-mod split;
-
+use pgcell_lines::run::run;
 use std::process::ExitCode;
 
 fn main(rt: HostRuntime) -> ExitCode {
-    match run::run(rt.alloc(), &mut rt.stdin(), &mut rt.stdout()) {
+    match run(rt.alloc(), &mut rt.stdin(), &mut rt.stdout()) {
         Ok(()) => ExitCode::SUCCESS,
         Err(_) => ExitCode::FAILURE,
     }

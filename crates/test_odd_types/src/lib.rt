@@ -1,4 +1,4 @@
-//! The conversions of the module `odd`, in every wrapper, and the types of docs/OWN-TYPES.md.
+//! The conversions of the module `odd`, in every wrapper, the types of docs/OWN-TYPES.md, and those of `pg_record`.
 #![tactic(auto)]
 
 #[cfg(test)]

@@ -1,9 +1,15 @@
 //! The tests, by what a conversion has of its own.
 
+mod calls;
 mod composites;
+mod inventory_items;
+mod moods;
 mod nulls;
 mod percentages;
 mod refusals;
+mod refused_fields;
+mod session_ids;
 mod timestamps;
 mod user_defined;
+mod view;
 mod wrappers;

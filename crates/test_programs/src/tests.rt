@@ -1,0 +1,5 @@
+//! The tests, by program, and the streams that they share.
+
+mod copy;
+mod fake_streams;
+mod runs;

@@ -1,0 +1,180 @@
+//! Tests of COPY in both directions, by streams in memory.
+
+mod calendar;
+mod command_lines;
+mod dates;
+mod lines;
+mod numbers;
+mod small_values;
+mod streams;
+mod texts;
+mod tuples;
+mod user_types;
+
+use super::fake_streams::{Disturbed, Narrow, Pieces, ROOM};
+use pg_copy::arguments::{Request, parse};
+use pg_copy::columns::Column;
+use pg_copy::copy_fault::CopyFault;
+use pg_copy::read::read;
+use pg_copy::write::write;
+use rows::same;
+use std::alloc::Global;
+use std::test::Fail;
+
+/// The name of a type, a cell, and the field that stands for it in a line.
+type Row = (&'static str, Option<&'static [u8]>, &'static [u8]);
+
+/// A header without flags and extension.
+const HEADER: &[u8] = b"PGCOPY\n\xff\r\n\0\0\0\0\0\0\0\0\0";
+
+/// The trailer.
+const TRAILER: &[u8] = b"\xff\xff";
+
+/// A reader that gives the bytes `step` at a time, and is interrupted at every other call.
+fn make_pieces(bytes: &[u8], step: usize) -> Disturbed<Pieces<'_>> {
+    Disturbed::new(Pieces::new(bytes, step))
+}
+
+/// A writer that takes `room` bytes, `step` at a time, and is interrupted at every other call.
+fn make_narrow(alloc: Global, step: usize, room: usize) -> Disturbed<Narrow> {
+    Disturbed::new(Narrow::new(alloc, step, room))
+}
+
+/// The columns of these names of types.
+fn columns(alloc: Global, names: &[&str]) -> Result<Vec<Column>, Fail> {
+    let mut words = Vec::new(alloc);
+    for name in names {
+        words.push(String::from_str(alloc, name)?)?;
+    }
+    match parse(alloc, words.as_slice())? {
+        Request::Copy(columns) => Ok(columns),
+        Request::Help => Err(Fail::from("help")),
+    }
+}
+
+/// What came of a COPY: what was written, and the fault's text, which is empty where there is none.
+#[derive(Drop)]
+struct Outcome {
+    written: Vec<u8>,
+    fault: String,
+}
+
+impl Outcome {
+    fn new(
+        alloc: Global,
+        ended: Result<(), CopyFault>,
+        output: Disturbed<Narrow>,
+    ) -> Result<Outcome, Fail> {
+        let fault = match ended {
+            Ok(()) => String::new(alloc),
+            Err(fault) => format!(in alloc; "{fault}")?,
+        };
+        let written = output.inner.taken;
+        Ok(Outcome { written, fault })
+    }
+
+    /// That was written, and the fault has that text.
+    fn is(&self, written: &[u8], fault: &str) -> Result<(), Fail> {
+        same(self.fault.as_str(), fault)?;
+        same(self.written.as_slice(), written)
+    }
+}
+
+/// What reading a binary COPY comes to.
+fn reading(alloc: Global, names: &[&str], stream: &[u8]) -> Result<Outcome, Fail> {
+    let columns = columns(alloc, names)?;
+    let mut input = make_pieces(stream, ROOM);
+    let mut output = make_narrow(alloc, ROOM, ROOM);
+    let ended = read(alloc, columns.as_slice(), &mut input, &mut output);
+    Outcome::new(alloc, ended, output)
+}
+
+/// What writing a binary COPY of these lines comes to.
+fn writing(alloc: Global, names: &[&str], lines: &[u8]) -> Result<Outcome, Fail> {
+    let columns = columns(alloc, names)?;
+    let mut input = make_pieces(lines, ROOM);
+    let mut output = make_narrow(alloc, ROOM, ROOM);
+    let ended = write(alloc, columns.as_slice(), &mut input, &mut output);
+    Outcome::new(alloc, ended, output)
+}
+
+/// A binary COPY of a row of one column.
+fn stream_of(alloc: Global, cell: Option<&[u8]>) -> Result<Vec<u8>, Fail> {
+    let mut stream = Vec::from_slice(alloc, HEADER)?;
+    stream.extend_from_slice(b"\0\x01")?;
+    match cell {
+        None => stream.extend_from_slice(b"\xff\xff\xff\xff")?,
+        Some(cell) => {
+            let len = u32::try_from(cell.len())?;
+            stream.extend_from_slice(&len.to_be_bytes())?;
+            stream.extend_from_slice(cell)?;
+        }
+    }
+    stream.extend_from_slice(TRAILER)?;
+    Ok(stream)
+}
+
+/// The field, and the byte 10 that ends its line.
+fn line_of(alloc: Global, field: &[u8]) -> Result<Vec<u8>, Fail> {
+    let mut line = Vec::from_slice(alloc, field)?;
+    line.push(b'\n')?;
+    Ok(line)
+}
+
+/// Whether the server writes another cell of the same value: the flag of a network, the order of an hstore's entries,
+/// an empty array without a dimension.
+fn has_other_cells(name: &str, text: &[u8]) -> bool {
+    matches!(name, "cidr" | "hstore") || text == b"{}".as_slice()
+}
+
+/// The cell has that text. From the text the same cell is written, but where the server writes another one of the same
+/// value, which has the same text.
+fn spells(alloc: Global, name: &str, cell: Option<&[u8]>, text: &[u8]) -> Result<(), Fail> {
+    let stream = stream_of(alloc, cell)?;
+    let line = line_of(alloc, text)?;
+    reading(alloc, &[name], stream.as_slice())?.is(line.as_slice(), "")?;
+    let stream_again = writing(alloc, &[name], line.as_slice())?;
+    if has_other_cells(name, text) {
+        reading(alloc, &[name], stream_again.written.as_slice())?.is(line.as_slice(), "")
+    } else {
+        stream_again.is(stream.as_slice(), "")
+    }
+}
+
+/// Each row of the table.
+fn spell(alloc: Global, rows: &[Row]) -> Result<(), Fail> {
+    for (name, cell, text) in rows {
+        spells(alloc, name, *cell, text)?;
+    }
+    Ok(())
+}
+
+/// No text of the table is a value of its type.
+fn have_no_values(alloc: Global, rows: &[(&str, &[u8])]) -> Result<(), Fail> {
+    for (name, text) in rows {
+        let line = line_of(alloc, text)?;
+        let outcome = writing(alloc, &[*name], line.as_slice())?;
+        outcome.is(HEADER, "line 1, column 1: no value of its type")?;
+    }
+    Ok(())
+}
+
+#[test]
+fn numbers_have_the_servers_texts(rt: HostRuntime) -> Result<(), Fail> {
+    spell(rt.alloc(), numbers::NUMBERS)
+}
+
+#[test]
+fn texts_have_the_servers_texts(rt: HostRuntime) -> Result<(), Fail> {
+    spell(rt.alloc(), texts::TEXTS)
+}
+
+#[test]
+fn small_values_have_the_servers_texts(rt: HostRuntime) -> Result<(), Fail> {
+    spell(rt.alloc(), small_values::SMALL_VALUES)
+}
+
+#[test]
+fn dates_have_the_servers_texts(rt: HostRuntime) -> Result<(), Fail> {
+    spell(rt.alloc(), dates::DATES)
+}

@@ -1,0 +1,79 @@
+//! Tests of the calendar.
+
+use pg_copy::calendar::Civil;
+use rows::same;
+use std::test::Fail;
+
+/// Days from 1970-01-01 and their dates, by PostgreSQL: `date '..' - date '1970-01-01'`.
+const DAYS: [(i64, i64, u32, u32); 12] = [
+    (0, 1970, 1, 1),
+    (-1, 1969, 12, 31),
+    (10_957, 2000, 1, 1),
+    (11_016, 2000, 2, 29),
+    (11_017, 2000, 3, 1),
+    (-25_508, 1900, 3, 1),
+    (-719_162, 1, 1, 1),
+    (-719_163, 0, 12, 31),
+    (-719_528, 0, 1, 1),
+    (-2_440_222, -4712, 11, 24),
+    (106_762_939, 294_276, 12, 31),
+    (2_145_042_905, 5_874_897, 12, 31),
+];
+
+#[test]
+fn days_have_their_dates(_rt: HostRuntime) -> Result<(), Fail> {
+    for (number, year, month, day) in DAYS {
+        let date = Civil { year, month, day };
+        same(Civil::from_day(number), date)?;
+        same(date.to_day(), Some(number))?;
+    }
+    Ok(())
+}
+
+#[test]
+fn each_day_of_a_thousand_years_is_the_one_after_the_last(_rt: HostRuntime) -> Result<(), Fail> {
+    let mut before = Civil::from_day(-200_001);
+    for number in -200_000..200_000i64 {
+        let date = Civil::from_day(number);
+        same(date.to_day(), Some(number))?;
+        let is_next = date.day == before.day.saturating_add(1) && date.month == before.month;
+        let begins = date.day == 1 && before.day > 27;
+        if !is_next && !begins {
+            return Err(Fail::from("no next day"));
+        }
+        before = date;
+    }
+    Ok(())
+}
+
+#[test]
+fn no_date_is_past_its_month(_rt: HostRuntime) -> Result<(), Fail> {
+    let dates = [
+        (2001, 2, 29),
+        (1900, 2, 29),
+        (2000, 2, 30),
+        (2000, 4, 31),
+        (2000, 13, 1),
+        (2000, 0, 1),
+        (2000, 1, 0),
+        (2000, 1, 32),
+    ];
+    for (year, month, day) in dates {
+        same(Civil { year, month, day }.to_day(), None)?;
+    }
+    Ok(())
+}
+
+#[test]
+fn the_ends_of_64_bits_are_taken_for_a_day(_rt: HostRuntime) -> Result<(), Fail> {
+    for number in [i64::MIN, i64::MAX] {
+        let date = Civil::from_day(number);
+        same(date.month > 0 && date.day > 0, true)?;
+    }
+    let date = Civil {
+        year: i64::MIN,
+        month: 1,
+        day: 1,
+    };
+    same(date.to_day(), None)
+}

@@ -1,0 +1,114 @@
+//! Tests of streams that move in pieces, or fail.
+
+use super::{Outcome, columns, make_narrow, make_pieces};
+use crate::tests::fake_streams::{Disturbed, Narrow, Pieces, ROOM};
+use pg_copy::columns::Column;
+use pg_copy::copy_fault::CopyFault;
+use pg_copy::read::read;
+use pg_copy::write::write;
+use rows::{holds, same};
+use std::alloc::Global;
+use std::test::Fail;
+
+/// Two rows in both formats.
+const LINES: &[u8] = b"1\ta\\tb\n-2\t\\N\n";
+
+const STREAM: &[u8] =
+    b"PGCOPY\n\xff\r\n\0\0\0\0\0\0\0\0\0\0\x02\0\0\0\x04\0\0\0\x01\0\0\0\x03a\tb\0\x02\0\0\0\x04\
+      \xff\xff\xff\xfe\xff\xff\xff\xff\xff\xff";
+
+/// How many bytes a stream moves at a time.
+const STEPS: [usize; 4] = [1, 2, 3, 7];
+
+/// The columns of the rows.
+fn columns_of_rows(alloc: Global) -> Result<Vec<Column>, Fail> {
+    columns(alloc, &["int4", "text"])
+}
+
+#[test]
+fn pieces_of_a_stream_change_no_line(rt: HostRuntime) -> Result<(), Fail> {
+    let columns = columns_of_rows(rt.alloc())?;
+    for step in STEPS {
+        let mut input = make_pieces(STREAM, step);
+        let mut output = make_narrow(rt.alloc(), step, ROOM);
+        read(rt.alloc(), columns.as_slice(), &mut input, &mut output)?;
+        same(output.inner.taken.as_slice(), LINES)?;
+    }
+    Ok(())
+}
+
+#[test]
+fn pieces_of_lines_change_no_row(rt: HostRuntime) -> Result<(), Fail> {
+    let columns = columns_of_rows(rt.alloc())?;
+    for step in STEPS {
+        let mut input = make_pieces(LINES, step);
+        let mut output = make_narrow(rt.alloc(), step, ROOM);
+        write(rt.alloc(), columns.as_slice(), &mut input, &mut output)?;
+        same(output.inner.taken.as_slice(), STREAM)?;
+    }
+    Ok(())
+}
+
+#[test]
+fn a_failed_read_is_told(rt: HostRuntime) -> Result<(), Fail> {
+    let columns = columns_of_rows(rt.alloc())?;
+    for left in 0..STREAM.len() {
+        let (rest, step) = (STREAM, 5);
+        let mut input = Disturbed::new(Pieces { rest, step, left });
+        let mut output = make_narrow(rt.alloc(), 9, ROOM);
+        let ended = read(rt.alloc(), columns.as_slice(), &mut input, &mut output);
+        holds(matches!(ended, Err(CopyFault::Read)), "no failed read")?;
+    }
+    Ok(())
+}
+
+/// The COPY failed where the writer did, after these bytes.
+fn failed_after(
+    alloc: Global,
+    ended: Result<(), CopyFault>,
+    output: Disturbed<Narrow>,
+    written: Option<&[u8]>,
+) -> Result<(), Fail> {
+    let written = written.ok_or("no part")?;
+    Outcome::new(alloc, ended, output)?.is(written, "the output cannot be written")
+}
+
+#[test]
+fn a_failed_write_of_lines_is_told(rt: HostRuntime) -> Result<(), Fail> {
+    let columns = columns_of_rows(rt.alloc())?;
+    for room in 0..LINES.len() {
+        let mut input = make_pieces(STREAM, 9);
+        let mut output = make_narrow(rt.alloc(), 2, room);
+        let ended = read(rt.alloc(), columns.as_slice(), &mut input, &mut output);
+        failed_after(rt.alloc(), ended, output, LINES.get(..room))?;
+    }
+    Ok(())
+}
+
+#[test]
+fn a_failed_write_of_rows_is_told(rt: HostRuntime) -> Result<(), Fail> {
+    let columns = columns_of_rows(rt.alloc())?;
+    for room in 0..STREAM.len() {
+        let mut input = make_pieces(LINES, 9);
+        let mut output = make_narrow(rt.alloc(), 2, room);
+        let ended = write(rt.alloc(), columns.as_slice(), &mut input, &mut output);
+        failed_after(rt.alloc(), ended, output, STREAM.get(..room))?;
+    }
+    Ok(())
+}
+
+#[test]
+fn a_row_may_be_longer_than_a_block(rt: HostRuntime) -> Result<(), Fail> {
+    let columns = columns(rt.alloc(), &["text"])?;
+    let mut line = Vec::new(rt.alloc());
+    line.resize(300_000, b'x')?;
+    line.push(b'\n')?;
+    let mut input = make_pieces(line.as_slice(), ROOM);
+    let mut stream = make_narrow(rt.alloc(), ROOM, ROOM);
+    write(rt.alloc(), columns.as_slice(), &mut input, &mut stream)?;
+    let mut input = make_pieces(stream.inner.taken.as_slice(), ROOM);
+    let mut lines = make_narrow(rt.alloc(), ROOM, ROOM);
+    read(rt.alloc(), columns.as_slice(), &mut input, &mut lines)?;
+    same(lines.inner.taken.len(), 300_001)?;
+    same(lines.inner.taken.as_slice(), line.as_slice())
+}
