@@ -1,5 +1,0 @@
-//! Lists, arrays and boxes: rows from PostgreSQL's formats.
-#![tactic(auto)]
-
-#[cfg(test)]
-mod tests;

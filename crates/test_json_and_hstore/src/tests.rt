@@ -1,5 +1,0 @@
-//! The tests, by topic.
-
-mod hstore;
-mod json;
-mod long_map;

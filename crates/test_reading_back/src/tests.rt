@@ -1,5 +1,0 @@
-//! The tests, by topic.
-
-mod reading_back;
-mod user_defined;
-mod wrappers;

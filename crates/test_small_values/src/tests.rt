@@ -1,5 +1,0 @@
-//! The tests, by topic.
-
-mod bits;
-mod lsn;
-mod network;
