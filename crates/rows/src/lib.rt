@@ -5,6 +5,7 @@
 pub mod code;
 pub mod damage;
 mod days;
+mod formats;
 mod memory;
 mod params;
 mod plain;
@@ -16,6 +17,7 @@ pub mod without_memory;
 mod writing;
 
 pub use days::{Days, NoDay};
+pub use formats::{has_cells, has_functions};
 pub use memory::hoard;
 pub use params::binds;
 pub use plain::{appends, fault_code, parses};

@@ -4,23 +4,39 @@ use postgres_types::composite::{
     field_count_to_sql, field_to_sql, fields_of, is_record, read_end, read_field, read_field_count,
 };
 use postgres_types::private::BytesMut;
-use postgres_types::{Field, Kind, Type};
+use postgres_types::{Fault, Field, Kind, Type};
 use rows::code::{FIELD_COUNT, FIELD_OID, SIZE, TRANSMIT};
 use rows::{fault_code, same, user_type};
+use std::alloc::Global;
 use std::test::Fail;
+
+/// The composite type `pair` of one field, `id`.
+fn pair(alloc: Global) -> Result<Type, Fault> {
+    let id = Field::new(String::from_str(alloc, "id")?, Type::INT4);
+    let fields = vec![in alloc; id]?;
+    user_type(alloc, "pair", 7, Kind::Composite(fields), "public")
+}
 
 #[test]
 fn only_a_composite_type_has_fields(rt: HostRuntime) -> Result<(), Fail> {
-    let alloc = rt.alloc();
-    let name = String::from_str(alloc, "id")?;
-    let fields = vec![in alloc; Field::new(name, Type::INT4)]?;
-    let ty = user_type(alloc, "pair", 7, Kind::Composite(fields), "public")?;
-    same(fields_of(&ty).len(), 1)?;
-    same(fields_of(&Type::INT4).len(), 0)?;
-    same(is_record("pair", &["id"], &ty), true)?;
-    same(is_record("pair", &["name"], &ty), false)?;
-    same(is_record("pair", &[], &ty), false)?;
-    same(is_record("other", &["id"], &ty), false)?;
+    same(fields_of(&pair(rt.alloc())?).len(), 1)?;
+    same(fields_of(&Type::INT4).len(), 0)
+}
+
+/// A record's name and the names of its fields, and whether `pair` is its type.
+const RECORDS: [(&str, &[&str], bool); 4] = [
+    ("pair", &["id"], true),
+    ("pair", &["name"], false),
+    ("pair", &[], false),
+    ("other", &["id"], false),
+];
+
+#[test]
+fn a_type_is_that_of_the_record_of_its_names(rt: HostRuntime) -> Result<(), Fail> {
+    let ty = pair(rt.alloc())?;
+    for (name, fields, answer) in RECORDS {
+        same(is_record(name, fields, &ty), answer)?;
+    }
     same(is_record("int4", &[], &Type::INT4), false)
 }
 

@@ -63,6 +63,15 @@ fn joined(alloc: Global, parts: &[&[u8]]) -> Result<Vec<u8>, Fault> {
     Ok(cell)
 }
 
+/// A composite type of that name and OID, of fields of these names and types.
+fn composite(alloc: Global, name: &str, oid: u32, fields: &[(&str, Type)]) -> Result<Type, Fault> {
+    let mut list = Vec::new(alloc);
+    for (name, ty) in fields {
+        list.push(field(alloc, name, ty.try_clone()?)?)?;
+    }
+    user_type(alloc, name, oid, Kind::Composite(list), "public")
+}
+
 /// A field of a composite type.
 fn field(alloc: Global, name: &str, ty: Type) -> Result<Field, Fault> {
     Ok(Field::new(String::from_str(alloc, name)?, ty))
@@ -79,42 +88,29 @@ fn address_type(alloc: Global) -> Result<Type, Fault> {
     Type::new(alloc, name, 0x4002, Kind::Composite(fields), schema)
 }
 
-/// A composite type of that name, with two texts of those names.
-fn named(alloc: Global, name: &str, street: &str, city: &str) -> Result<Type, Fault> {
-    let fields = vec![in alloc;
-        field(alloc, street, Type::TEXT)?,
-        field(alloc, city, Type::TEXT)?,
-    ]?;
-    user_type(alloc, name, 0x4002, Kind::Composite(fields), "public")
-}
-
 fn address_array(alloc: Global) -> Result<Type, Fault> {
     let kind = Kind::Array(address_type(alloc)?);
     user_type(alloc, "_address", 0x4001, kind, "public")
 }
 
 fn parcel_type(alloc: Global) -> Result<Type, Fault> {
-    let fields = vec![in alloc;
-        field(alloc, "label", Type::TEXT)?,
-        field(alloc, "bill_to", address_type(alloc)?)?,
-        field(alloc, "ship_to", address_array(alloc)?)?,
-    ]?;
-    user_type(alloc, "parcel", 0x4006, Kind::Composite(fields), "public")
+    let fields = [
+        ("label", Type::TEXT),
+        ("bill_to", address_type(alloc)?),
+        ("ship_to", address_array(alloc)?),
+    ];
+    composite(alloc, "parcel", 0x4006, &fields)
 }
 
+/// The fields of an item.
+const ITEM_FIELDS: [(&str, Type); 3] = [
+    ("name", Type::TEXT),
+    ("supplier_id", Type::INT4),
+    ("price", Type::INT8),
+];
+
 fn item_type(alloc: Global) -> Result<Type, Fault> {
-    let fields = vec![in alloc;
-        field(alloc, "name", Type::TEXT)?,
-        field(alloc, "supplier_id", Type::INT4)?,
-        field(alloc, "price", Type::INT8)?,
-    ]?;
-    user_type(
-        alloc,
-        "InventoryItem",
-        100_003,
-        Kind::Composite(fields),
-        "public",
-    )
+    composite(alloc, "InventoryItem", 100_003, &ITEM_FIELDS)
 }
 
 fn item_array(alloc: Global) -> Result<Type, Fault> {
@@ -123,17 +119,17 @@ fn item_array(alloc: Global) -> Result<Type, Fault> {
 }
 
 fn purchase_type(alloc: Global) -> Result<Type, Fault> {
-    let fields = vec![in alloc;
-        field(alloc, "id", Type::INT8)?,
-        field(alloc, "customer", Type::TEXT)?,
-        field(alloc, "paid", Type::BOOL)?,
-        field(alloc, "placed", Type::TIMESTAMPTZ)?,
-        field(alloc, "discount", Type::INT4)?,
-        field(alloc, "tags", Type::TEXT_ARRAY)?,
-        field(alloc, "gift", item_type(alloc)?)?,
-        field(alloc, "items", item_array(alloc)?)?,
-    ]?;
-    user_type(alloc, "purchase", 0x4005, Kind::Composite(fields), "public")
+    let fields = [
+        ("id", Type::INT8),
+        ("customer", Type::TEXT),
+        ("paid", Type::BOOL),
+        ("placed", Type::TIMESTAMPTZ),
+        ("discount", Type::INT4),
+        ("tags", Type::TEXT_ARRAY),
+        ("gift", item_type(alloc)?),
+        ("items", item_array(alloc)?),
+    ];
+    composite(alloc, "purchase", 0x4005, &fields)
 }
 
 fn address(alloc: Global, street: &str, city: &str) -> Result<Composite<Address>, Fault> {
@@ -187,11 +183,15 @@ fn a_purchase_is_written_and_read(rt: HostRuntime) -> Result<(), Fail> {
     spells(alloc, &purchase_type(alloc)?, &[(value, cell.as_slice())])
 }
 
+/// The cell of a purchase is read and written again. What this asks of the fields takes long to prove, so it stands alone.
+fn is_rewritten(alloc: Global, ty: &Type, cell: &[u8]) -> Result<(), Fail> {
+    rewrites::<Composite<Purchase>>(alloc, ty, cell, cell)
+}
+
 #[test]
 fn a_purchase_is_read_and_written_again(rt: HostRuntime) -> Result<(), Fail> {
-    let alloc = rt.alloc();
-    let cell = joined(alloc, &PURCHASE)?;
-    rewrites::<Composite<Purchase>>(alloc, &purchase_type(alloc)?, &cell, &cell)
+    let cell = joined(rt.alloc(), &PURCHASE)?;
+    is_rewritten(rt.alloc(), &purchase_type(rt.alloc())?, cell.as_slice())
 }
 
 #[test]
@@ -209,68 +209,86 @@ fn a_parcel_is_written_and_read(rt: HostRuntime) -> Result<(), Fail> {
     spells(alloc, &parcel_type(alloc)?, &[(value, cell.as_slice())])
 }
 
-#[test]
-fn other_types_are_not_accepted(rt: HostRuntime) -> Result<(), Fail> {
-    let alloc = rt.alloc();
-    accepts::<Composite<Address>>(&[
-        (address_type(alloc)?, true),
-        (named(alloc, "addresses", "street", "city")?, false),
-        (named(alloc, "address", "city", "street")?, false),
-        (named(alloc, "address", "street", "town")?, false),
-        (
-            user_type(alloc, "address", 0x4002, Kind::Simple, "public")?,
-            false,
-        ),
-        (purchase_type(alloc)?, false),
-    ])?;
-    let number = vec![in alloc;
-        field(alloc, "street", Type::INT4)?,
-        field(alloc, "city", Type::TEXT)?,
-    ]?;
-    let number = user_type(alloc, "address", 0x4002, Kind::Composite(number), "public")?;
-    let one = vec![in alloc; field(alloc, "street", Type::TEXT)?]?;
-    let one = user_type(alloc, "address", 0x4002, Kind::Composite(one), "public")?;
-    accepts::<Composite<Address>>(&[(number, false), (one, false)])?;
-    let value = address(alloc, "Elm 1", "Bonn")?;
-    refuses_type(alloc, &value, &Type::TEXT, "address")
+/// Names, and two fields, of composite types that are no addresses.
+const NO_ADDRESSES: [(&str, [(&str, Type); 2]); 4] = [
+    ("addresses", [("street", Type::TEXT), ("city", Type::TEXT)]),
+    ("address", [("city", Type::TEXT), ("street", Type::TEXT)]),
+    ("address", [("street", Type::TEXT), ("town", Type::TEXT)]),
+    ("address", [("street", Type::INT4), ("city", Type::TEXT)]),
+];
+
+/// The type is accepted as that of an address, or is not.
+fn accepts_address(ty: Type, accepted: bool) -> Result<(), Fail> {
+    accepts::<Composite<Address>>(&[(ty, accepted)])
+}
+
+/// No composite type of the table is accepted.
+fn accepts_none(alloc: Global, rows: &[(&str, [(&str, Type); 2])]) -> Result<(), Fail> {
+    for (name, fields) in rows {
+        accepts_address(composite(alloc, name, 0x4002, fields)?, false)?;
+    }
+    Ok(())
 }
 
 #[test]
+fn other_names_and_fields_are_not_accepted(rt: HostRuntime) -> Result<(), Fail> {
+    accepts_none(rt.alloc(), &NO_ADDRESSES)?;
+    let street = [("street", Type::TEXT)];
+    accepts_address(composite(rt.alloc(), "address", 0x4002, &street)?, false)
+}
+
+#[test]
+fn other_types_are_not_accepted(rt: HostRuntime) -> Result<(), Fail> {
+    accepts_address(address_type(rt.alloc())?, true)?;
+    let simple = user_type(rt.alloc(), "address", 0x4002, Kind::Simple, "public")?;
+    accepts_address(simple, false)?;
+    accepts_address(purchase_type(rt.alloc())?, false)
+}
+
+#[test]
+fn another_type_is_refused_by_name(rt: HostRuntime) -> Result<(), Fail> {
+    let value = address(rt.alloc(), "Elm 1", "Bonn")?;
+    refuses_type(rt.alloc(), &value, &Type::TEXT, "address")
+}
+
+/// Cells that are no addresses, and the numbers of their faults.
+const OTHER_CELLS: [(Option<&[u8]>, u32); 12] = [
+    (None, WAS_NULL),
+    (Some(b""), SIZE),
+    (Some(b"\0\0\0"), SIZE),
+    (Some(b"\0\0\0\x01\0\0\0\x19\0\0\0\x05Elm 1"), FIELD_COUNT),
+    (Some(b"\xff\xff\xff\xff"), FIELD_COUNT),
+    (Some(b"\0\0\0\x02"), SIZE),
+    (
+        Some(b"\0\0\0\x02\0\0\0\x17\0\0\0\x05Elm 1\0\0\0\x19\0\0\0\x04Bonn"),
+        FIELD_OID,
+    ),
+    (
+        Some(b"\0\0\0\x02\0\0\0\x19\0\0\0\x05Elm 1\0\0\x04\x13\0\0\0\x04Bonn"),
+        FIELD_OID,
+    ),
+    (
+        Some(b"\0\0\0\x02\0\0\0\x19\0\0\0\x05Elm 1\0\0\0\x19\0\0\0\x04Bon"),
+        SIZE,
+    ),
+    (
+        Some(b"\0\0\0\x02\0\0\0\x19\0\0\0\x05Elm 1\0\0\0\x19\0\0\0\x04Bonn\0"),
+        SIZE,
+    ),
+    (
+        Some(b"\0\0\0\x02\0\0\0\x19\xff\xff\xff\xff\0\0\0\x19\0\0\0\x04Bonn"),
+        WAS_NULL,
+    ),
+    (
+        Some(b"\0\0\0\x02\0\0\0\x19\0\0\0\x05Elm 1\0\0\0\x19\xff\xff\xff\xff"),
+        WAS_NULL,
+    ),
+];
+
+#[test]
 fn other_cells_are_refused(rt: HostRuntime) -> Result<(), Fail> {
-    let alloc = rt.alloc();
-    let cells: [(Option<&[u8]>, u32); 12] = [
-        (None, WAS_NULL),
-        (Some(b""), SIZE),
-        (Some(b"\0\0\0"), SIZE),
-        (Some(b"\0\0\0\x01\0\0\0\x19\0\0\0\x05Elm 1"), FIELD_COUNT),
-        (Some(b"\xff\xff\xff\xff"), FIELD_COUNT),
-        (Some(b"\0\0\0\x02"), SIZE),
-        (
-            Some(b"\0\0\0\x02\0\0\0\x17\0\0\0\x05Elm 1\0\0\0\x19\0\0\0\x04Bonn"),
-            FIELD_OID,
-        ),
-        (
-            Some(b"\0\0\0\x02\0\0\0\x19\0\0\0\x05Elm 1\0\0\x04\x13\0\0\0\x04Bonn"),
-            FIELD_OID,
-        ),
-        (
-            Some(b"\0\0\0\x02\0\0\0\x19\0\0\0\x05Elm 1\0\0\0\x19\0\0\0\x04Bon"),
-            SIZE,
-        ),
-        (
-            Some(b"\0\0\0\x02\0\0\0\x19\0\0\0\x05Elm 1\0\0\0\x19\0\0\0\x04Bonn\0"),
-            SIZE,
-        ),
-        (
-            Some(b"\0\0\0\x02\0\0\0\x19\xff\xff\xff\xff\0\0\0\x19\0\0\0\x04Bonn"),
-            WAS_NULL,
-        ),
-        (
-            Some(b"\0\0\0\x02\0\0\0\x19\0\0\0\x05Elm 1\0\0\0\x19\xff\xff\xff\xff"),
-            WAS_NULL,
-        ),
-    ];
-    refuses::<Composite<Address>>(alloc, &address_type(alloc)?, &cells)
+    let ty = address_type(rt.alloc())?;
+    refuses::<Composite<Address>>(rt.alloc(), &ty, &OTHER_CELLS)
 }
 
 /// A parcel whose part at that place is another is refused with the fault of that number.
@@ -284,17 +302,29 @@ fn refuses_part(alloc: Global, place: usize, part: &[u8], code: u32) -> Result<(
     rows::same(found, code)
 }
 
+/// Parts of a parcel by their place, and the numbers of their faults.
+const OTHER_PARTS: [(usize, &[u8], u32); 6] = [
+    (2, b"\0\0\x40\x03\0\0\0\x1d", FIELD_OID),
+    (4, b"\0\0\x40\x02\0\0\0\x55", FIELD_OID),
+    (3, THREE_FIELDS, FIELD_COUNT),
+    (7, THREE_FIELDS, FIELD_COUNT),
+    (
+        9,
+        b"\0\0\0\x02\0\0\0\x17\0\0\0\x05Oak 2\0\0\0\x19\0\0\0\x03Ulm",
+        FIELD_OID,
+    ),
+    (1, b"\0\0\0\x19\xff\xff\xff\xff", WAS_NULL),
+];
+
+/// The number of fields is 3, and there are two.
+const THREE_FIELDS: &[u8] = b"\0\0\0\x03\0\0\0\x19\0\0\0\x05Elm 1\0\0\0\x19\0\0\0\x04Bonn";
+
 #[test]
 fn faults_of_nested_fields_are_those_of_the_record(rt: HostRuntime) -> Result<(), Fail> {
-    let alloc = rt.alloc();
-    refuses_part(alloc, 2, b"\0\0\x40\x03\0\0\0\x1d", FIELD_OID)?;
-    refuses_part(alloc, 4, b"\0\0\x40\x02\0\0\0\x55", FIELD_OID)?;
-    let three = b"\0\0\0\x03\0\0\0\x19\0\0\0\x05Elm 1\0\0\0\x19\0\0\0\x04Bonn";
-    refuses_part(alloc, 3, three, FIELD_COUNT)?;
-    refuses_part(alloc, 7, three, FIELD_COUNT)?;
-    let number = b"\0\0\0\x02\0\0\0\x17\0\0\0\x05Oak 2\0\0\0\x19\0\0\0\x03Ulm";
-    refuses_part(alloc, 9, number, FIELD_OID)?;
-    refuses_part(alloc, 1, b"\0\0\0\x19\xff\xff\xff\xff", WAS_NULL)
+    for (place, part, code) in OTHER_PARTS {
+        refuses_part(rt.alloc(), place, part, code)?;
+    }
+    Ok(())
 }
 
 #[test]

@@ -3,37 +3,30 @@
 use super::view::Item;
 use pg_record::InventoryItem;
 use postgres_types::composite::Composite;
-use postgres_types::{Fault, Field, Kind, Type};
+use postgres_types::{Fault, Field, FromSql, Kind, ToSql, Type};
 use rows::code::{FIELD_COUNT, FIELD_OID, SIZE, UTF8, WAS_NULL};
 use rows::{accepts, reads, refuses, refuses_type, rewrites, spells, user_type, writes_null};
 use std::alloc::Global;
 use std::test::Fail;
 
-fn field(alloc: Global, name: &str, type_: Type) -> Result<Field, Fault> {
-    Ok(Field::new(String::from_str(alloc, name)?, type_))
-}
-
 /// A composite type of that name, of fields of these names and types.
-fn composite(alloc: Global, name: &str, names: [&str; 3], types: [Type; 3]) -> Result<Type, Fault> {
-    let [a, b, c] = names;
-    let [r, s, t] = types;
-    let fields = vec![in alloc;
-        field(alloc, a, r)?,
-        field(alloc, b, s)?,
-        field(alloc, c, t)?,
-    ]?;
+fn composite(alloc: Global, name: &str, names: &[&str], types: &[Type]) -> Result<Type, Fault> {
+    let mut fields = Vec::new(alloc);
+    for (name, ty) in names.iter().zip(types) {
+        let name = String::from_str(alloc, name)?;
+        fields.push(Field::new(name, ty.try_clone()?))?;
+    }
     user_type(alloc, name, 100_003, Kind::Composite(fields), "public")
 }
 
+/// The names of the item's fields.
 const NAMES: [&str; 3] = ["name", "supplier_id", "price"];
 
+/// Their types.
+const ITEM: [Type; 3] = [Type::TEXT, Type::INT4, Type::INT8];
+
 fn item_type(alloc: Global) -> Result<Type, Fault> {
-    composite(
-        alloc,
-        "InventoryItem",
-        NAMES,
-        [Type::TEXT, Type::INT4, Type::INT8],
-    )
+    composite(alloc, "InventoryItem", &NAMES, &ITEM)
 }
 
 /// The cell of "nut", 7 and no price.
@@ -44,52 +37,60 @@ const NUT: &[u8] =
 const NAMELESS: &[u8] =
     b"\0\0\0\x03\0\0\0\x19\0\0\0\0\0\0\0\x17\0\0\0\x04\xff\xff\xff\xff\0\0\0\x14\0\0\0\x08\0\0\0\0\0\0\x01\x02";
 
-/// An item, and the same as a view.
-fn both(
+/// An item.
+fn item(
     alloc: Global,
     name: &str,
     supplier_id: i32,
     price: Option<i64>,
-) -> Result<(InventoryItem, Composite<Item>), Fault> {
-    let item = InventoryItem {
-        name: String::from_str(alloc, name)?,
+) -> Result<InventoryItem, Fault> {
+    let name = String::from_str(alloc, name)?;
+    Ok(InventoryItem {
+        name,
         supplier_id,
         price,
-    };
-    let view = Item {
-        name: String::from_str(alloc, name)?,
+    })
+}
+
+/// The same as a view.
+fn view(
+    alloc: Global,
+    name: &str,
+    supplier_id: i32,
+    price: Option<i64>,
+) -> Result<Composite<Item>, Fault> {
+    let name = String::from_str(alloc, name)?;
+    Ok(Composite(Item {
+        name,
         supplier_id,
         price,
-    };
-    Ok((item, Composite(view)))
+    }))
 }
 
-fn nut(alloc: Global) -> Result<(InventoryItem, Composite<Item>), Fault> {
-    both(alloc, "nut", 7, None)
-}
-
-fn nameless(alloc: Global) -> Result<(InventoryItem, Composite<Item>), Fault> {
-    both(alloc, "", -1, Some(258))
-}
+/// Items and their cells.
+const ITEMS: [(&str, i32, Option<i64>, &[u8]); 2] = [
+    ("nut", 7, None, NUT),
+    ("", -1, Some(258), NAMELESS),
+];
 
 #[test]
 fn an_item_is_a_record_by_hand(rt: HostRuntime) -> Result<(), Fail> {
-    let alloc = rt.alloc();
-    spells(
-        alloc,
-        &item_type(alloc)?,
-        &[(nut(alloc)?.0, NUT), (nameless(alloc)?.0, NAMELESS)],
-    )
+    let ty = item_type(rt.alloc())?;
+    for (name, supplier_id, price, cell) in ITEMS {
+        let value = item(rt.alloc(), name, supplier_id, price)?;
+        spells(rt.alloc(), &ty, &[(value, cell)])?;
+    }
+    Ok(())
 }
 
 #[test]
 fn an_item_is_a_record_as_a_view(rt: HostRuntime) -> Result<(), Fail> {
-    let alloc = rt.alloc();
-    spells(
-        alloc,
-        &item_type(alloc)?,
-        &[(nut(alloc)?.1, NUT), (nameless(alloc)?.1, NAMELESS)],
-    )
+    let ty = item_type(rt.alloc())?;
+    for (name, supplier_id, price, cell) in ITEMS {
+        let value = view(rt.alloc(), name, supplier_id, price)?;
+        spells(rt.alloc(), &ty, &[(value, cell)])?;
+    }
+    Ok(())
 }
 
 /// Refused cells of the count and of the fields' OIDs.
@@ -169,93 +170,84 @@ fn damaged_records_are_refused_as_a_view(rt: HostRuntime) -> Result<(), Fail> {
     refuses::<Composite<Item>>(rt.alloc(), &ty, &REFUSED_FIELDS)
 }
 
-/// A type of the item's name and of the names of its fields.
-fn of_types(alloc: Global, types: [Type; 3]) -> Result<Type, Fault> {
-    composite(alloc, "InventoryItem", NAMES, types)
-}
-
-/// A type of the item's name and of the types of its fields.
-fn of_names(alloc: Global, names: [&str; 3]) -> Result<Type, Fault> {
-    composite(
-        alloc,
+/// Names of composite types, the names and types of their fields, and whether these are accepted.
+const COMPOSITES: [(&str, [&str; 3], [Type; 3], bool); 8] = [
+    ("InventoryItem", NAMES, ITEM, true),
+    (
         "InventoryItem",
-        names,
-        [Type::TEXT, Type::INT4, Type::INT8],
-    )
+        NAMES,
+        [Type::VARCHAR, Type::INT4, Type::INT8],
+        true,
+    ),
+    (
+        "InventoryItem",
+        NAMES,
+        [Type::INT4, Type::INT4, Type::INT8],
+        false,
+    ),
+    (
+        "InventoryItem",
+        NAMES,
+        [Type::TEXT, Type::INT8, Type::INT8],
+        false,
+    ),
+    (
+        "InventoryItem",
+        NAMES,
+        [Type::TEXT, Type::INT4, Type::INT4],
+        false,
+    ),
+    (
+        "InventoryItem",
+        ["supplier_id", "name", "price"],
+        ITEM,
+        false,
+    ),
+    (
+        "InventoryItem",
+        ["name", "supplier_id", "cost"],
+        ITEM,
+        false,
+    ),
+    ("item", NAMES, ITEM, false),
+];
+
+/// Those composite types are accepted that the table says.
+fn accepts_items<'a, T: FromSql<'a> + ToSql>(
+    alloc: Global,
+    rows: &[(&str, [&str; 3], [Type; 3], bool)],
+) -> Result<(), Fail> {
+    for (name, names, types, accepted) in rows {
+        let ty = composite(alloc, name, names, types)?;
+        accepts::<T>(&[(ty, *accepted)])?;
+    }
+    Ok(())
 }
 
-/// Types, and whether they are accepted.
-fn types(alloc: Global) -> Result<[(Type, bool); 10], Fault> {
-    Ok([
-        (item_type(alloc)?, true),
-        (
-            of_types(alloc, [Type::VARCHAR, Type::INT4, Type::INT8])?,
-            true,
-        ),
-        (
-            of_types(alloc, [Type::INT4, Type::INT4, Type::INT8])?,
-            false,
-        ),
-        (
-            of_types(alloc, [Type::TEXT, Type::INT8, Type::INT8])?,
-            false,
-        ),
-        (
-            of_types(alloc, [Type::TEXT, Type::INT4, Type::INT4])?,
-            false,
-        ),
-        (of_names(alloc, ["supplier_id", "name", "price"])?, false),
-        (of_names(alloc, ["name", "supplier_id", "cost"])?, false),
-        (
-            composite(alloc, "item", NAMES, [Type::TEXT, Type::INT4, Type::INT8])?,
-            false,
-        ),
-        (
-            user_type(alloc, "InventoryItem", 7, Kind::Simple, "public")?,
-            false,
-        ),
-        (Type::TEXT, false),
-    ])
+/// No type of fewer fields is accepted, nor one of another kind.
+fn accepts_no_other<'a, T: FromSql<'a> + ToSql>(alloc: Global) -> Result<(), Fail> {
+    let two = composite(alloc, "InventoryItem", &NAMES[..2], &ITEM[..2])?;
+    accepts::<T>(&[(two, false)])?;
+    let none = composite(alloc, "InventoryItem", &[], &[])?;
+    accepts::<T>(&[(none, false)])?;
+    let simple = user_type(alloc, "InventoryItem", 7, Kind::Simple, "public")?;
+    accepts::<T>(&[(simple, false), (Type::TEXT, false)])
 }
 
 #[test]
 fn types_are_accepted_by_hand(rt: HostRuntime) -> Result<(), Fail> {
-    let alloc = rt.alloc();
-    accepts::<InventoryItem>(&types(alloc)?)?;
-    refuses_type(alloc, &nut(alloc)?.0, &Type::TEXT, "InventoryItem")
+    accepts_items::<InventoryItem>(rt.alloc(), &COMPOSITES)?;
+    accepts_no_other::<InventoryItem>(rt.alloc())?;
+    let nut = item(rt.alloc(), "nut", 7, None)?;
+    refuses_type(rt.alloc(), &nut, &Type::TEXT, "InventoryItem")
 }
 
 #[test]
 fn types_are_accepted_as_a_view(rt: HostRuntime) -> Result<(), Fail> {
-    let alloc = rt.alloc();
-    accepts::<Composite<Item>>(&types(alloc)?)?;
-    refuses_type(alloc, &nut(alloc)?.1, &Type::TEXT, "InventoryItem")
-}
-
-#[test]
-fn other_numbers_of_fields_are_not_accepted(rt: HostRuntime) -> Result<(), Fail> {
-    let alloc = rt.alloc();
-    let fields = vec![in alloc;
-        field(alloc, "name", Type::TEXT)?,
-        field(alloc, "supplier_id", Type::INT4)?,
-    ]?;
-    let kind = Kind::Composite(fields);
-    let two = user_type(
-        alloc,
-        "InventoryItem",
-        100_003,
-        kind.try_clone(alloc)?,
-        "public",
-    )?;
-    let none = user_type(
-        alloc,
-        "InventoryItem",
-        100_003,
-        Kind::Composite(Vec::new(alloc)),
-        "public",
-    )?;
-    accepts::<InventoryItem>(&[(two.try_clone()?, false), (none.try_clone()?, false)])?;
-    accepts::<Composite<Item>>(&[(two, false), (none, false)])
+    accepts_items::<Composite<Item>>(rt.alloc(), &COMPOSITES)?;
+    accepts_no_other::<Composite<Item>>(rt.alloc())?;
+    let nut = view(rt.alloc(), "nut", 7, None)?;
+    refuses_type(rt.alloc(), &nut, &Type::TEXT, "InventoryItem")
 }
 
 /// The price's length is negative, as no server writes it.
@@ -264,10 +256,9 @@ const OTHER_NULL: &[u8] =
 
 #[test]
 fn any_negative_length_is_null(rt: HostRuntime) -> Result<(), Fail> {
-    let alloc = rt.alloc();
-    let ty = item_type(alloc)?;
-    rewrites::<InventoryItem>(alloc, &ty, OTHER_NULL, NUT)?;
-    rewrites::<Composite<Item>>(alloc, &ty, OTHER_NULL, NUT)
+    let ty = item_type(rt.alloc())?;
+    rewrites::<InventoryItem>(rt.alloc(), &ty, OTHER_NULL, NUT)?;
+    rewrites::<Composite<Item>>(rt.alloc(), &ty, OTHER_NULL, NUT)
 }
 
 /// The array of the one item.
@@ -275,19 +266,18 @@ const NUTS: &[u8] = b"\0\0\0\x01\0\0\0\0\0\x01\x86\xa3\0\0\0\x01\0\0\0\x01\0\0\0
     \0\0\0\x03\0\0\0\x19\0\0\0\x03nut\0\0\0\x17\0\0\0\x04\0\0\0\x07\0\0\0\x14\xff\xff\xff\xff";
 
 #[test]
-fn items_nest_in_wrappers(rt: HostRuntime) -> Result<(), Fail> {
-    let alloc = rt.alloc();
-    let ty = item_type(alloc)?;
-    let arrays = user_type(
-        alloc,
-        "_InventoryItem",
-        100_004,
-        Kind::Array(ty.try_clone()?),
-        "public",
-    )?;
-    rewrites::<Vec<InventoryItem>>(alloc, &arrays, NUTS, NUTS)?;
-    rewrites::<Vec<Composite<Item>>>(alloc, &arrays, NUTS, NUTS)?;
-    rewrites::<Box<InventoryItem>>(alloc, &ty, NUT, NUT)?;
-    writes_null(alloc, &None::<InventoryItem>, &ty)?;
-    reads(alloc, &ty, NUT, Some(nut(alloc)?.0))
+fn items_stand_in_lists(rt: HostRuntime) -> Result<(), Fail> {
+    let kind = Kind::Array(item_type(rt.alloc())?);
+    let ty = user_type(rt.alloc(), "_InventoryItem", 100_004, kind, "public")?;
+    rewrites::<Vec<InventoryItem>>(rt.alloc(), &ty, NUTS, NUTS)?;
+    rewrites::<Vec<Composite<Item>>>(rt.alloc(), &ty, NUTS, NUTS)
+}
+
+#[test]
+fn items_stand_in_boxes_and_options(rt: HostRuntime) -> Result<(), Fail> {
+    let ty = item_type(rt.alloc())?;
+    rewrites::<Box<InventoryItem>>(rt.alloc(), &ty, NUT, NUT)?;
+    writes_null(rt.alloc(), &None::<InventoryItem>, &ty)?;
+    let nut = item(rt.alloc(), "nut", 7, None)?;
+    reads(rt.alloc(), &ty, NUT, Some(nut))
 }

@@ -7,9 +7,6 @@ use rows::{accepts, displays, read, reads, refuses, refuses_type, spells, user_t
 use std::alloc::Global;
 use std::test::Fail;
 
-/// The labels of [`Mood`].
-const LABELS: [&str; 3] = ["Sad", "Ok", "Happy"];
-
 /// An enumerated type of that name, with the labels.
 fn enumerated(alloc: Global, name: &str, labels: &[&str]) -> Result<Type, Fault> {
     let mut texts = Vec::new(alloc);
@@ -20,99 +17,95 @@ fn enumerated(alloc: Global, name: &str, labels: &[&str]) -> Result<Type, Fault>
 }
 
 fn mood(alloc: Global) -> Result<Type, Fault> {
-    enumerated(alloc, "Mood", &LABELS)
+    enumerated(alloc, "Mood", &["Sad", "Ok", "Happy"])
 }
 
-#[test]
-fn labels_are_accepted_in_any_order(rt: HostRuntime) -> Result<(), Fail> {
-    let alloc = rt.alloc();
-    accepts::<Mood>(&[
-        (mood(alloc)?, true),
-        (enumerated(alloc, "Mood", &["Happy", "Sad", "Ok"])?, true),
-        (enumerated(alloc, "Mood", &["Ok", "Happy", "Sad"])?, true),
-    ])
-}
+/// Names and labels of enumerated types, and whether these are accepted.
+const TYPES: [(&str, &[&str], bool); 13] = [
+    ("Mood", &["Sad", "Ok", "Happy"], true),
+    ("Mood", &["Happy", "Sad", "Ok"], true),
+    ("Mood", &["Ok", "Happy", "Sad"], true),
+    ("Mood", &[], false),
+    ("Mood", &["Sad", "Ok"], false),
+    ("Mood", &["Sad", "Sad", "Happy"], false),
+    ("Mood", &["Sad", "Ok", "Angry"], false),
+    ("Mood", &["Sad", "Ok", "Happy", "Sad"], false),
+    ("Mood", &["Sad", "Ok", "Happy", "Angry"], false),
+    ("Mood", &["sad", "Ok", "Happy"], false),
+    ("Mood", &["Sad", "Ok", "Happy "], false),
+    ("mood", &["Sad", "Ok", "Happy"], false),
+    ("Moods", &["Sad", "Ok", "Happy"], false),
+];
 
 #[test]
-fn other_labels_are_not_accepted(rt: HostRuntime) -> Result<(), Fail> {
-    let alloc = rt.alloc();
-    let others: [&[&str]; 8] = [
-        &[],
-        &["Sad", "Ok"],
-        &["Sad", "Sad", "Happy"],
-        &["Sad", "Ok", "Angry"],
-        &["Sad", "Ok", "Happy", "Sad"],
-        &["Sad", "Ok", "Happy", "Angry"],
-        &["sad", "Ok", "Happy"],
-        &["Sad", "Ok", "Happy "],
-    ];
-    for labels in others {
-        accepts::<Mood>(&[(enumerated(alloc, "Mood", labels)?, false)])?;
+fn its_name_and_labels_in_any_order_are_accepted(rt: HostRuntime) -> Result<(), Fail> {
+    for (name, labels, accepted) in TYPES {
+        let ty = enumerated(rt.alloc(), name, labels)?;
+        accepts::<Mood>(&[(ty, accepted)])?;
     }
     Ok(())
 }
 
+/// A type of its name and of that kind is not accepted.
+fn is_no_mood(alloc: Global, kind: Kind) -> Result<(), Fail> {
+    let ty = user_type(alloc, "Mood", 100_005, kind, "public")?;
+    accepts::<Mood>(&[(ty, false)])
+}
+
 #[test]
-fn other_types_are_not_accepted(rt: HostRuntime) -> Result<(), Fail> {
-    let alloc = rt.alloc();
-    accepts::<Mood>(&[
-        (enumerated(alloc, "mood", &LABELS)?, false),
-        (enumerated(alloc, "Moods", &LABELS)?, false),
-        (
-            user_type(alloc, "Mood", 100_005, Kind::Simple, "public")?,
-            false,
-        ),
-        (
-            user_type(alloc, "Mood", 100_005, Kind::Domain(mood(alloc)?), "public")?,
-            false,
-        ),
-        (
-            user_type(alloc, "Mood", 100_005, Kind::Array(mood(alloc)?), "public")?,
-            false,
-        ),
-        (Type::TEXT, false),
-    ])?;
-    let labels = enumerated(alloc, "mood", &LABELS)?;
-    refuses_type(alloc, &Mood::Sad, &labels, "Mood")?;
-    refuses_type(alloc, &Mood::Ok, &Type::TEXT, "Mood")
+fn other_kinds_are_not_accepted(rt: HostRuntime) -> Result<(), Fail> {
+    is_no_mood(rt.alloc(), Kind::Simple)?;
+    is_no_mood(rt.alloc(), Kind::Domain(mood(rt.alloc())?))?;
+    is_no_mood(rt.alloc(), Kind::Array(mood(rt.alloc())?))?;
+    accepts::<Mood>(&[(Type::TEXT, false)])
+}
+
+#[test]
+fn other_types_are_refused_by_name(rt: HostRuntime) -> Result<(), Fail> {
+    let other = enumerated(rt.alloc(), "mood", &["Sad", "Ok", "Happy"])?;
+    refuses_type(rt.alloc(), &Mood::Sad, &other, "Mood")?;
+    refuses_type(rt.alloc(), &Mood::Ok, &Type::TEXT, "Mood")
 }
 
 #[test]
 fn a_cell_is_the_label(rt: HostRuntime) -> Result<(), Fail> {
-    let alloc = rt.alloc();
     let rows: [(Mood, &[u8]); 3] = [
         (Mood::Sad, &[0x53, 0x61, 0x64]),
         (Mood::Ok, &[0x4f, 0x6b]),
         (Mood::Happy, &[0x48, 0x61, 0x70, 0x70, 0x79]),
     ];
-    spells(alloc, &mood(alloc)?, &rows)
+    spells(rt.alloc(), &mood(rt.alloc())?, &rows)
 }
+
+/// Cells that spell no label, and the numbers of their faults.
+const NO_LABELS: [(Option<&[u8]>, u32); 10] = [
+    (None, WAS_NULL),
+    (Some(b""), USER),
+    (Some(b"sad"), USER),
+    (Some(b"SAD"), USER),
+    (Some(b"Sa"), USER),
+    (Some(b"Sad "), USER),
+    (Some(b"Sad\0"), USER),
+    (Some(b"\xc3\xa9"), USER),
+    (Some(b"\xff"), UTF8),
+    (Some(b"Sad\xc3"), UTF8),
+];
 
 #[test]
 fn other_cells_are_refused(rt: HostRuntime) -> Result<(), Fail> {
-    let alloc = rt.alloc();
-    let rows: [(Option<&[u8]>, u32); 10] = [
-        (None, WAS_NULL),
-        (Some(b""), USER),
-        (Some(b"sad"), USER),
-        (Some(b"SAD"), USER),
-        (Some(b"Sa"), USER),
-        (Some(b"Sad "), USER),
-        (Some(b"Sad\0"), USER),
-        (Some(b"\xc3\xa9"), USER),
-        (Some(b"\xff"), UTF8),
-        (Some(b"Sad\xc3"), UTF8),
-    ];
-    let ty = mood(alloc)?;
-    refuses::<Mood>(alloc, &ty, &rows)?;
-    let found = read::<Mood>(alloc, &ty, Some(b"sad"));
-    displays(alloc, &found.err().ok_or("read")?, "invalid variant")
+    refuses::<Mood>(rt.alloc(), &mood(rt.alloc())?, &NO_LABELS)
+}
+
+#[test]
+fn the_refusal_of_a_label_has_its_text(rt: HostRuntime) -> Result<(), Fail> {
+    let ty = mood(rt.alloc())?;
+    let found = read::<Mood>(rt.alloc(), &ty, Some(b"sad"));
+    displays(rt.alloc(), &found.err().ok_or("read")?, "invalid variant")
 }
 
 #[test]
 fn null_is_of_the_wrapper(rt: HostRuntime) -> Result<(), Fail> {
-    let alloc = rt.alloc();
-    let ty = mood(alloc)?;
-    writes_null(alloc, &None::<Mood>, &ty)?;
-    reads(alloc, &ty, b"Ok", Some(Mood::Ok))
+    let ty = mood(rt.alloc())?;
+    writes_null(rt.alloc(), &None::<Mood>, &ty)?;
+    reads(rt.alloc(), &ty, b"Ok", Some(Mood::Ok))
 }

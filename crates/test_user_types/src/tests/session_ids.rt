@@ -7,78 +7,85 @@ use rows::{accepts, refuses, refuses_type, spells, user_type, writes_null};
 use std::alloc::Global;
 use std::test::Fail;
 
-/// A domain of that name over the member type.
-fn domain(alloc: Global, name: &str, member: Type) -> Result<Type, Fault> {
-    user_type(alloc, name, 100_006, Kind::Domain(member), "public")
+/// A type of its name and of that kind.
+fn named(alloc: Global, kind: Kind) -> Result<Type, Fault> {
+    user_type(alloc, "SessionId", 100_006, kind, "public")
 }
 
 fn session_id(alloc: Global) -> Result<Type, Fault> {
-    domain(alloc, "SessionId", Type::BYTEA)
+    named(alloc, Kind::Domain(Type::BYTEA))
+}
+
+/// Names, members and schemas of domains, and whether these are accepted.
+const DOMAINS: [(&str, Type, &str, bool); 5] = [
+    ("SessionId", Type::BYTEA, "public", true),
+    ("SessionId", Type::BYTEA, "app", true),
+    ("SessionId", Type::TEXT, "public", false),
+    ("SessionId", Type::BYTEA_ARRAY, "public", false),
+    ("sessionid", Type::BYTEA, "public", false),
+];
+
+/// Those domains are accepted that the table says.
+fn accepts_domains(alloc: Global, rows: &[(&str, Type, &str, bool)]) -> Result<(), Fail> {
+    for (name, member, schema, accepted) in rows {
+        let kind = Kind::Domain(member.try_clone()?);
+        let ty = user_type(alloc, name, 100_006, kind, schema)?;
+        accepts::<SessionId>(&[(ty, *accepted)])?;
+    }
+    Ok(())
 }
 
 #[test]
 fn a_domain_over_bytea_is_accepted(rt: HostRuntime) -> Result<(), Fail> {
-    let alloc = rt.alloc();
-    accepts::<SessionId>(&[
-        (session_id(alloc)?, true),
-        (
-            user_type(alloc, "SessionId", 7, Kind::Domain(Type::BYTEA), "app")?,
-            true,
-        ),
-    ])
+    accepts_domains(rt.alloc(), &DOMAINS)
+}
+
+/// The type is not accepted.
+fn is_none(ty: Type) -> Result<(), Fail> {
+    accepts::<SessionId>(&[(ty, false)])
 }
 
 #[test]
-fn other_types_are_not_accepted(rt: HostRuntime) -> Result<(), Fail> {
-    let alloc = rt.alloc();
-    accepts::<SessionId>(&[
-        (domain(alloc, "SessionId", Type::TEXT)?, false),
-        (domain(alloc, "SessionId", Type::BYTEA_ARRAY)?, false),
-        (domain(alloc, "SessionId", session_id(alloc)?)?, false),
-        (
-            domain(alloc, "SessionId", domain(alloc, "bytes", Type::BYTEA)?)?,
-            false,
-        ),
-        (domain(alloc, "sessionid", Type::BYTEA)?, false),
-        (
-            user_type(alloc, "SessionId", 100_006, Kind::Simple, "public")?,
-            false,
-        ),
-        (
-            user_type(
-                alloc,
-                "SessionId",
-                100_006,
-                Kind::Array(Type::BYTEA),
-                "public",
-            )?,
-            false,
-        ),
-        (Type::BYTEA, false),
-    ])?;
-    let id = SessionId(Vec::new(alloc));
-    refuses_type(alloc, &id, &Type::BYTEA, "SessionId")?;
-    refuses_type(
-        alloc,
-        &id,
-        &domain(alloc, "SessionId", Type::TEXT)?,
-        "SessionId",
-    )
+fn other_kinds_are_not_accepted(rt: HostRuntime) -> Result<(), Fail> {
+    is_none(Type::BYTEA)?;
+    is_none(named(rt.alloc(), Kind::Simple)?)?;
+    is_none(named(rt.alloc(), Kind::Array(Type::BYTEA))?)
+}
+
+#[test]
+fn domains_over_a_domain_are_not_accepted(rt: HostRuntime) -> Result<(), Fail> {
+    is_none(named(rt.alloc(), Kind::Domain(session_id(rt.alloc())?))?)?;
+    let bytes = user_type(
+        rt.alloc(),
+        "bytes",
+        100_006,
+        Kind::Domain(Type::BYTEA),
+        "public",
+    )?;
+    is_none(named(rt.alloc(), Kind::Domain(bytes))?)
+}
+
+#[test]
+fn other_types_are_refused_by_name(rt: HostRuntime) -> Result<(), Fail> {
+    let id = SessionId(Vec::new(rt.alloc()));
+    refuses_type(rt.alloc(), &id, &Type::BYTEA, "SessionId")?;
+    let over_text = named(rt.alloc(), Kind::Domain(Type::TEXT))?;
+    refuses_type(rt.alloc(), &id, &over_text, "SessionId")
 }
 
 #[test]
 fn a_cell_is_that_of_the_member_type(rt: HostRuntime) -> Result<(), Fail> {
-    let alloc = rt.alloc();
-    let none = SessionId(Vec::new(alloc));
-    let some = SessionId(Vec::from_slice(alloc, &[0xde, 0xad, 0, 0xff])?);
-    let rows: [(SessionId, &[u8]); 2] = [(none, &[]), (some, &[0xde, 0xad, 0, 0xff])];
-    spells(alloc, &session_id(alloc)?, &rows)
+    let ty = session_id(rt.alloc())?;
+    for cell in [b"".as_slice(), &[0xde, 0xad, 0, 0xff]] {
+        let id = SessionId(Vec::from_slice(rt.alloc(), cell)?);
+        spells(rt.alloc(), &ty, &[(id, cell)])?;
+    }
+    Ok(())
 }
 
 #[test]
 fn null_is_refused(rt: HostRuntime) -> Result<(), Fail> {
-    let alloc = rt.alloc();
-    let ty = session_id(alloc)?;
-    refuses::<SessionId>(alloc, &ty, &[(None, WAS_NULL)])?;
-    writes_null(alloc, &None::<SessionId>, &ty)
+    let ty = session_id(rt.alloc())?;
+    refuses::<SessionId>(rt.alloc(), &ty, &[(None, WAS_NULL)])?;
+    writes_null(rt.alloc(), &None::<SessionId>, &ty)
 }

@@ -61,60 +61,92 @@ fn days_stand_in_dates_and_arrays(rt: HostRuntime) -> Result<(), Fail> {
 
 #[test]
 fn ratings_are_a_number_or_null(rt: HostRuntime) -> Result<(), Fail> {
-    let alloc = rt.alloc();
     let row = (Rating::Stars(5), [0, 5].as_slice());
-    spells(alloc, &Type::INT2, &[row])?;
-    writes_null(alloc, &Rating::Unrated, &Type::INT2)?;
-    same(rows::read(alloc, &Type::INT2, None)?, Rating::Unrated)?;
+    spells(rt.alloc(), &Type::INT2, &[row])?;
+    writes_null(rt.alloc(), &Rating::Unrated, &Type::INT2)?;
+    same(rows::read(rt.alloc(), &Type::INT2, None)?, Rating::Unrated)
+}
+
+#[test]
+fn other_ratings_are_refused(rt: HostRuntime) -> Result<(), Fail> {
     let faults = [(Some([0; 4].as_slice()), SIZE)];
-    refuses::<Rating>(alloc, &Type::INT2, &faults)?;
-    refuses_type(alloc, &Rating::Unrated, &Type::INT4, "Rating")
+    refuses::<Rating>(rt.alloc(), &Type::INT2, &faults)?;
+    refuses_type(rt.alloc(), &Rating::Unrated, &Type::INT4, "Rating")
 }
 
 #[test]
-fn null_is_of_the_wrapper_and_of_the_element(rt: HostRuntime) -> Result<(), Fail> {
-    let alloc = rt.alloc();
-    writes_null(alloc, &Some(Rating::Unrated), &Type::INT2)?;
-    same(rows::read(alloc, &Type::INT2, None)?, None::<Rating>)?;
-    writes_null(alloc, &Box::new(alloc, Rating::Unrated)?, &Type::INT2)?;
-    refuses::<Box<Rating>>(alloc, &Type::INT2, &[(None, WAS_NULL)])?;
-    let ratings = vec![in alloc; Rating::Stars(5), Rating::Unrated]?;
+fn null_is_of_the_wrapper(rt: HostRuntime) -> Result<(), Fail> {
+    writes_null(rt.alloc(), &Some(Rating::Unrated), &Type::INT2)?;
+    same(rows::read(rt.alloc(), &Type::INT2, None)?, None::<Rating>)
+}
+
+#[test]
+fn null_in_a_box_is_not_read_back(rt: HostRuntime) -> Result<(), Fail> {
+    let boxed = Box::new(rt.alloc(), Rating::Unrated)?;
+    writes_null(rt.alloc(), &boxed, &Type::INT2)?;
+    refuses::<Box<Rating>>(rt.alloc(), &Type::INT2, &[(None, WAS_NULL)])
+}
+
+#[test]
+fn null_is_of_the_element(rt: HostRuntime) -> Result<(), Fail> {
+    let ratings = vec![in rt.alloc(); Rating::Stars(5), Rating::Unrated]?;
     let row = (ratings, FIVE_AND_NULL.as_slice());
-    spells(alloc, &Type::INT2_ARRAY, &[row])
+    spells(rt.alloc(), &Type::INT2_ARRAY, &[row])
+}
+
+/// Cells that are no percentage, and the numbers of their faults.
+const NO_PERCENTAGES: [(Option<&[u8]>, u32); 4] = [
+    (None, WAS_NULL),
+    (Some(&[100]), SIZE),
+    (Some(&[0xff; 2]), USER),
+    (Some(&[0, 101]), USER),
+];
+
+#[test]
+fn percentages_are_refused(rt: HostRuntime) -> Result<(), Fail> {
+    refuses::<Percentage>(rt.alloc(), &Type::INT2, &NO_PERCENTAGES)?;
+    for number in [-1, 101] {
+        refuses_both(rt.alloc(), &Percentage(number), &Type::INT2, USER)?;
+    }
+    refuses_type(rt.alloc(), &Percentage(0), &Type::INT4, "Percentage")
 }
 
 #[test]
-fn percentages_are_refused_alone_and_in_lists(rt: HostRuntime) -> Result<(), Fail> {
-    let alloc = rt.alloc();
-    let both = vec![in alloc; Percentage(0), Percentage(100)]?;
-    spells(alloc, &Type::INT2_ARRAY, &[(both, NONE_AND_ALL.as_slice())])?;
-    let faults = [
-        (None, WAS_NULL),
-        (Some([100].as_slice()), SIZE),
-        (Some([0xff; 2].as_slice()), USER),
-        (Some([0, 101].as_slice()), USER),
-    ];
-    refuses::<Percentage>(alloc, &Type::INT2, &faults)?;
-    refuses_both(alloc, &Percentage(-1), &Type::INT2, USER)?;
-    refuses_both(alloc, &Percentage(101), &Type::INT2, USER)?;
-    refuses_type(alloc, &Percentage(0), &Type::INT4, "Percentage")?;
-    let more = vec![in alloc; Percentage(100), Percentage(101)]?;
-    refuses_both(alloc, &more, &Type::INT2_ARRAY, USER)?;
+fn lists_hold_percentages(rt: HostRuntime) -> Result<(), Fail> {
+    let both = vec![in rt.alloc(); Percentage(0), Percentage(100)]?;
+    spells(
+        rt.alloc(),
+        &Type::INT2_ARRAY,
+        &[(both, NONE_AND_ALL.as_slice())],
+    )
+}
+
+#[test]
+fn percentages_are_refused_in_lists(rt: HostRuntime) -> Result<(), Fail> {
+    let more = vec![in rt.alloc(); Percentage(100), Percentage(101)]?;
+    refuses_both(rt.alloc(), &more, &Type::INT2_ARRAY, USER)?;
     let faults = [(Some(ALL_AND_MORE.as_slice()), USER)];
-    refuses::<Vec<Percentage>>(alloc, &Type::INT2_ARRAY, &faults)
+    refuses::<Vec<Percentage>>(rt.alloc(), &Type::INT2_ARRAY, &faults)
 }
 
 #[test]
 fn tags_are_their_contents(rt: HostRuntime) -> Result<(), Fail> {
-    let alloc = rt.alloc();
     let row = (Tagged(Percentage(100)), [0, 100].as_slice());
-    spells(alloc, &Type::INT2, &[row])?;
+    spells(rt.alloc(), &Type::INT2, &[row])?;
+    writes_null(rt.alloc(), &Tagged(Rating::Unrated), &Type::INT2)
+}
+
+#[test]
+fn tags_are_refused_as_their_contents(rt: HostRuntime) -> Result<(), Fail> {
     let faults = [(None, WAS_NULL), (Some([0, 101].as_slice()), USER)];
-    refuses::<Tagged<Percentage>>(alloc, &Type::INT2, &faults)?;
-    refuses_both(alloc, &Tagged(Percentage(101)), &Type::INT2, USER)?;
-    refuses_type(alloc, &Tagged(Percentage(100)), &Type::DATE, "Tagged")?;
-    writes_null(alloc, &Tagged(Rating::Unrated), &Type::INT2)?;
-    let ratings = vec![in alloc; Tagged(Rating::Stars(5)), Tagged(Rating::Unrated)]?;
+    refuses::<Tagged<Percentage>>(rt.alloc(), &Type::INT2, &faults)?;
+    refuses_both(rt.alloc(), &Tagged(Percentage(101)), &Type::INT2, USER)?;
+    refuses_type(rt.alloc(), &Tagged(Percentage(100)), &Type::DATE, "Tagged")
+}
+
+#[test]
+fn lists_hold_tags(rt: HostRuntime) -> Result<(), Fail> {
+    let ratings = vec![in rt.alloc(); Tagged(Rating::Stars(5)), Tagged(Rating::Unrated)]?;
     let row = (ratings, FIVE_AND_NULL.as_slice());
-    spells(alloc, &Type::INT2_ARRAY, &[row])
+    spells(rt.alloc(), &Type::INT2_ARRAY, &[row])
 }

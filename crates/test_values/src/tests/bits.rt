@@ -75,7 +75,9 @@ fn padding_is_ignored_and_written_as_0(rt: HostRuntime) -> Result<(), Fail> {
     let alloc = rt.alloc();
     let bits = list(alloc, &[true, false, true])?;
     reads(alloc, &Type::VARBIT, &PADDED, bits)?;
-    rewrites::<BitVec>(alloc, &Type::VARBIT, &PADDED, &[0, 0, 0, 3, 0xa0])
+    let zeros = [0, 0, 0, 3, 0xa0];
+    rewrites::<BitVec>(alloc, &Type::VARBIT, &PADDED, &zeros)?;
+    rewrites::<BitVec>(alloc, &Type::VARBIT, &zeros, &zeros)
 }
 
 #[test]

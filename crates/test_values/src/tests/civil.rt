@@ -6,10 +6,7 @@ use postgres_types::Type;
 use postgres_types::protocol::{date_from_sql, date_to_sql, time_from_sql, time_to_sql};
 use rows::code::{DECODE, SIZE, WAS_NULL};
 use rows::damage::{ALL_SIZE, Faults, Sample, forms_of, reads_all_forms};
-use rows::{
-    accepts, appends, displays, parses, reads, reads_back, refuses, simple_type, takes_no_memory,
-    writes,
-};
+use rows::{accepts, displays, has_cells, has_functions, reads, simple_type, writes};
 use std::test::Fail;
 
 /// Year, month and day.
@@ -35,24 +32,15 @@ fn datetime(date: Day, time: Clock) -> Result<DateTime, Fail> {
 }
 
 /// Days from 2000-01-01.
-const DATES: [(Day, [u8; 4]); 5] = [
+const DATES: [(Day, [u8; 4]); 6] = [
     ((2000, 1, 1), [0; 4]),
+    ((2000, 1, 8), [0, 0, 0, 7]),
     // Upstream's test `date_in_range_decodes`: 1000 days.
     ((2002, 9, 27), [0, 0, 0x03, 0xe8]),
     ((1999, 12, 31), [0xff; 4]),
     ((-9999, 1, 1), [0xff, 0xbd, 0x20, 0xb0]),
     ((9999, 12, 31), [0x00, 0x2c, 0x95, 0xd3]),
 ];
-
-#[test]
-fn dates_are_days_from_2000(rt: HostRuntime) -> Result<(), Fail> {
-    let alloc = rt.alloc();
-    for ((year, month, day), cell) in DATES {
-        let date = Date::new(year, month, day)?;
-        reads_back(alloc, &Type::DATE, &date, &cell, date)?;
-    }
-    Ok(())
-}
 
 const REFUSED_DATES: [(Option<&[u8]>, u32); 7] = [
     (Some(b"\xff\xbd\x20\xaf"), DECODE),
@@ -66,8 +54,13 @@ const REFUSED_DATES: [(Option<&[u8]>, u32); 7] = [
 ];
 
 #[test]
-fn dates_out_of_range_are_refused(rt: HostRuntime) -> Result<(), Fail> {
-    refuses::<Date>(rt.alloc(), &Type::DATE, &REFUSED_DATES)
+fn dates_are_days_from_2000(rt: HostRuntime) -> Result<(), Fail> {
+    let alloc = rt.alloc();
+    for ((year, month, day), cell) in DATES {
+        let row = [(Date::new(year, month, day)?, cell.as_slice())];
+        has_cells(alloc, &Type::DATE, &row, &REFUSED_DATES)?;
+    }
+    Ok(())
 }
 
 /// Microseconds from midnight.
@@ -76,17 +69,6 @@ const TIMES: [(Clock, [u8; 8]); 3] = [
     ((0, 0, 0, 1_000), [0, 0, 0, 0, 0, 0, 0, 1]),
     ((23, 59, 59, 999_999_000), LAST_TIME),
 ];
-
-#[test]
-fn times_are_microseconds_from_midnight(rt: HostRuntime) -> Result<(), Fail> {
-    let alloc = rt.alloc();
-    for ((hour, minute, second, nanos), cell) in TIMES {
-        let time = Time::new(hour, minute, second, nanos)?;
-        reads_back(alloc, &Type::TIME, &time, &cell, time)?;
-    }
-    let finest = Time::new(23, 59, 59, 999_999_999)?;
-    writes(alloc, &finest, &Type::TIME, &LAST_TIME)
-}
 
 const REFUSED_TIMES: [(Option<&[u8]>, u32); 6] = [
     (Some(b"\x00\x00\x00\x14\x1d\xd7\x60\x00"), DECODE),
@@ -98,14 +80,21 @@ const REFUSED_TIMES: [(Option<&[u8]>, u32); 6] = [
 ];
 
 #[test]
-fn times_out_of_range_are_refused(rt: HostRuntime) -> Result<(), Fail> {
-    refuses::<Time>(rt.alloc(), &Type::TIME, &REFUSED_TIMES)
+fn times_are_microseconds_from_midnight(rt: HostRuntime) -> Result<(), Fail> {
+    let alloc = rt.alloc();
+    for ((hour, minute, second, nanos), cell) in TIMES {
+        let row = [(Time::new(hour, minute, second, nanos)?, cell.as_slice())];
+        has_cells(alloc, &Type::TIME, &row, &REFUSED_TIMES)?;
+    }
+    let finest = Time::new(23, 59, 59, 999_999_999)?;
+    writes(alloc, &finest, &Type::TIME, &LAST_TIME)
 }
 
 /// Microseconds from 2000-01-01 00:00:00.
-const DATETIMES: [(Day, Clock, i64); 3] = [
+const DATETIMES: [(Day, Clock, i64); 4] = [
     // Upstream's test `timestamp_in_range_decodes`: 0 microseconds.
     ((2000, 1, 1), MIDNIGHT, 0),
+    ((2000, 1, 1), (0, 0, 0, 1_000), 1),
     ((-9999, 1, 1), MIDNIGHT, -378_651_801_600_000_000),
     (
         (9999, 12, 31),
@@ -113,22 +102,6 @@ const DATETIMES: [(Day, Clock, i64); 3] = [
         252_455_615_999_999_999,
     ),
 ];
-
-#[test]
-fn datetimes_are_microseconds_from_2000(rt: HostRuntime) -> Result<(), Fail> {
-    let alloc = rt.alloc();
-    for (date, time, micros) in DATETIMES {
-        let value = datetime(date, time)?;
-        reads_back(
-            alloc,
-            &Type::TIMESTAMP,
-            &value,
-            &micros.to_be_bytes(),
-            value,
-        )?;
-    }
-    Ok(())
-}
 
 const REFUSED_DATETIMES: [(Option<&[u8]>, u32); 7] = [
     // Upstream's test `timestamp_out_of_range_errors`: 9,000,000,000,000,000,000 microseconds.
@@ -143,8 +116,14 @@ const REFUSED_DATETIMES: [(Option<&[u8]>, u32); 7] = [
 ];
 
 #[test]
-fn datetimes_out_of_range_are_refused(rt: HostRuntime) -> Result<(), Fail> {
-    refuses::<DateTime>(rt.alloc(), &Type::TIMESTAMP, &REFUSED_DATETIMES)
+fn datetimes_are_microseconds_from_2000(rt: HostRuntime) -> Result<(), Fail> {
+    let alloc = rt.alloc();
+    for (date, time, micros) in DATETIMES {
+        let cell = micros.to_be_bytes();
+        let row = [(datetime(date, time)?, cell.as_slice())];
+        has_cells(alloc, &Type::TIMESTAMP, &row, &REFUSED_DATETIMES)?;
+    }
+    Ok(())
 }
 
 /// Datetimes between two microseconds, and the microsecond nearer to 2000-01-01 00:00:00.
@@ -174,15 +153,30 @@ const FIRST_INSTANT: i64 = -378_651_708_001_000_000;
 
 const LAST_INSTANT: i64 = 252_455_522_400_999_999;
 
+const REFUSED_INSTANTS: [(Option<&[u8]>, u32); 6] = [
+    // The microsecond before the first one and that after the last one.
+    (Some(b"\xfa\xbe\xc2\x47\x1b\x01\x65\xbf"), DECODE),
+    (Some(b"\x03\x80\xe6\xf5\xc6\x4c\x1a\x40"), DECODE),
+    (Some(&GREATEST), DECODE),
+    (Some(&LEAST), DECODE),
+    (Some(&[0; 9]), SIZE),
+    (None, WAS_NULL),
+];
+
 #[test]
 fn timestamps_are_microseconds_from_2000(rt: HostRuntime) -> Result<(), Fail> {
-    let alloc = rt.alloc();
     let base = Timestamp::from_second(946_684_800)?;
-    displays(alloc, &base, "2000-01-01T00:00:00Z")?;
-    reads_back(alloc, &Type::TIMESTAMPTZ, &base, &[0; 8], base)?;
-    let first = Timestamp::MIN;
-    let cell = FIRST_INSTANT.to_be_bytes();
-    reads_back(alloc, &Type::TIMESTAMPTZ, &first, &cell, first)
+    displays(rt.alloc(), &base, "2000-01-01T00:00:00Z")?;
+    let first = FIRST_INSTANT.to_be_bytes();
+    let rows: [(Timestamp, &[u8]); 3] = [
+        (base, &[0; 8]),
+        (
+            Timestamp::new(946_684_800, 1_000)?,
+            &[0, 0, 0, 0, 0, 0, 0, 1],
+        ),
+        (Timestamp::MIN, &first),
+    ];
+    has_cells(rt.alloc(), &Type::TIMESTAMPTZ, &rows, &REFUSED_INSTANTS)
 }
 
 #[test]
@@ -195,21 +189,6 @@ fn finer_timestamps_are_truncated_toward_2000(rt: HostRuntime) -> Result<(), Fai
     reads(alloc, ty, &last, greatest)?;
     let early = Timestamp::from_nanosecond(946_684_799_999_998_500)?;
     writes(alloc, &early, ty, &[0xff; 8])
-}
-
-const REFUSED_INSTANTS: [(Option<&[u8]>, u32); 6] = [
-    // The microsecond before the first one and that after the last one.
-    (Some(b"\xfa\xbe\xc2\x47\x1b\x01\x65\xbf"), DECODE),
-    (Some(b"\x03\x80\xe6\xf5\xc6\x4c\x1a\x40"), DECODE),
-    (Some(&GREATEST), DECODE),
-    (Some(&LEAST), DECODE),
-    (Some(&[0; 9]), SIZE),
-    (None, WAS_NULL),
-];
-
-#[test]
-fn timestamps_out_of_range_are_refused(rt: HostRuntime) -> Result<(), Fail> {
-    refuses::<Timestamp>(rt.alloc(), &Type::TIMESTAMPTZ, &REFUSED_INSTANTS)
 }
 
 #[test]
@@ -235,12 +214,12 @@ const COUNTS_OF_DAYS: [(i32, &[u8]); 3] = [
 
 #[test]
 fn the_format_of_dates_has_every_count(rt: HostRuntime) -> Result<(), Fail> {
-    appends(
+    has_functions(
         rt.alloc(),
         |alloc, v, out| date_to_sql(alloc, v, out),
+        |cell| date_from_sql(cell),
         &COUNTS_OF_DAYS,
-    )?;
-    parses(rt.alloc(), |cell| date_from_sql(cell), &COUNTS_OF_DAYS)
+    )
 }
 
 /// Microseconds, and their cells.
@@ -252,38 +231,12 @@ const COUNTS_OF_MICROSECONDS: [(i64, &[u8]); 3] = [
 
 #[test]
 fn the_format_of_times_has_every_count(rt: HostRuntime) -> Result<(), Fail> {
-    appends(
+    has_functions(
         rt.alloc(),
         |alloc, v, out| time_to_sql(alloc, v, out),
-        &COUNTS_OF_MICROSECONDS,
-    )?;
-    parses(
-        rt.alloc(),
         |cell| time_from_sql(cell),
         &COUNTS_OF_MICROSECONDS,
     )
-}
-
-/// The cell of 7, which is 2000-01-08, and the cell of one microsecond.
-const SEVEN: &[u8] = &[0, 0, 0, 7];
-
-const ONE: &[u8] = &[0, 0, 0, 0, 0, 0, 0, 1];
-
-#[test]
-fn dates_and_times_take_no_memory(rt: HostRuntime) -> Result<(), Fail> {
-    let alloc = rt.alloc();
-    takes_no_memory(alloc, &Type::DATE, &[(Date::new(2000, 1, 8)?, SEVEN)])?;
-    let time = Time::new(0, 0, 0, 1_000)?;
-    takes_no_memory(alloc, &Type::TIME, &[(time, ONE)])
-}
-
-#[test]
-fn timestamps_take_no_memory(rt: HostRuntime) -> Result<(), Fail> {
-    let alloc = rt.alloc();
-    let value = datetime((2000, 1, 1), (0, 0, 0, 1_000))?;
-    takes_no_memory(alloc, &Type::TIMESTAMP, &[(value, ONE)])?;
-    let instant = Timestamp::new(946_684_800, 1_000)?;
-    takes_no_memory(alloc, &Type::TIMESTAMPTZ, &[(instant, ONE)])
 }
 
 /// Where the byte is not 0, the count is out of range.

@@ -5,10 +5,7 @@ use postgres_types::protocol::{interval_from_sql, interval_to_sql};
 use postgres_types::{Interval, Type};
 use rows::code::{SIZE, WAS_NULL};
 use rows::damage::{fixed_width, forms_of, reads_all_forms};
-use rows::{
-    accepts, appends, debugs, holds, parses, refuses, refuses_type, rewrites, spells,
-    takes_no_memory,
-};
+use rows::{accepts, debugs, has_cells, has_functions, holds, refuses_type, rewrites, spells};
 use std::test::Fail;
 
 /// Microseconds, days and months, and their cell. The third row is of
@@ -60,15 +57,8 @@ fn interval((microseconds, days, months): (i64, i32, i32)) -> Interval {
 fn intervals_have_their_cells(rt: HostRuntime) -> Result<(), Fail> {
     let alloc = rt.alloc();
     for (parts, cell) in INTERVALS {
-        spells(alloc, &Type::INTERVAL, &[(interval(parts), cell)])?;
-    }
-    refuses::<Interval>(alloc, &Type::INTERVAL, &OTHER_CELLS)
-}
-
-#[test]
-fn intervals_take_no_memory(rt: HostRuntime) -> Result<(), Fail> {
-    for (parts, cell) in INTERVALS {
-        takes_no_memory(rt.alloc(), &Type::INTERVAL, &[(interval(parts), cell)])?;
+        let row = [(interval(parts), cell)];
+        has_cells(alloc, &Type::INTERVAL, &row, &OTHER_CELLS)?;
     }
     Ok(())
 }
@@ -101,12 +91,12 @@ fn intervals_accept_their_type_alone(rt: HostRuntime) -> Result<(), Fail> {
 
 #[test]
 fn intervals_are_appended_and_parsed(rt: HostRuntime) -> Result<(), Fail> {
-    appends(
+    has_functions(
         rt.alloc(),
         |alloc, v, out| interval_to_sql(alloc, v.0, v.1, v.2, out),
+        |cell| interval_from_sql(cell),
         &INTERVALS,
-    )?;
-    parses(rt.alloc(), |cell| interval_from_sql(cell), &INTERVALS)
+    )
 }
 
 #[test]

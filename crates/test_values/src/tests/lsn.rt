@@ -5,9 +5,7 @@ use postgres_types::protocol::{lsn_from_sql, lsn_to_sql};
 use postgres_types::{PgLsn, Type};
 use rows::code::{SIZE, USER, WAS_NULL};
 use rows::damage::{fixed_width, forms_of, reads_all_forms};
-use rows::{
-    appends, debugs, displays, holds, parses, reads, refuses, same, takes_no_memory, writes,
-};
+use rows::{debugs, displays, has_cells, has_functions, holds, reads, refuses, same};
 use std::cmp::Ordering;
 use std::test::Fail;
 
@@ -98,32 +96,26 @@ fn positions_are_equal_as_their_numbers(rt: HostRuntime) -> Result<(), Fail> {
 #[test]
 fn positions_have_their_cells(rt: HostRuntime) -> Result<(), Fail> {
     let alloc = rt.alloc();
-    for (number, cell) in LSN {
-        writes(alloc, &PgLsn::from(number), &Type::PG_LSN, cell)?;
-        reads(alloc, &Type::PG_LSN, cell, PgLsn::from(number))?;
-    }
+    let [(number, cell)] = LSN;
+    let row = [(PgLsn::from(number), cell)];
+    has_cells(alloc, &Type::PG_LSN, &row, &DAMAGED)?;
     reads(alloc, &Type::PG_LSN, &[0xff; 8], PgLsn::from(u64::MAX))
 }
 
 #[test]
 fn positions_are_appended_and_parsed_from_cells(rt: HostRuntime) -> Result<(), Fail> {
-    appends(rt.alloc(), |alloc, v, out| lsn_to_sql(alloc, v, out), &LSN)?;
-    parses(rt.alloc(), |cell| lsn_from_sql(cell), &LSN)
+    has_functions(
+        rt.alloc(),
+        |alloc, v, out| lsn_to_sql(alloc, v, out),
+        |cell| lsn_from_sql(cell),
+        &LSN,
+    )
 }
 
 #[test]
-fn damaged_positions_are_refused(rt: HostRuntime) -> Result<(), Fail> {
-    let alloc = rt.alloc();
+fn an_integer_is_no_position(rt: HostRuntime) -> Result<(), Fail> {
     let [(_, cell)] = LSN;
-    refuses::<PgLsn>(alloc, &Type::PG_LSN, &DAMAGED)?;
-    refuses::<PgLsn>(alloc, &Type::INT8, &[(Some(cell), USER)])
-}
-
-#[test]
-fn positions_take_no_memory(rt: HostRuntime) -> Result<(), Fail> {
-    let [(number, cell)] = LSN;
-    let row = [(PgLsn::from(number), cell)];
-    takes_no_memory(rt.alloc(), &Type::PG_LSN, &row)
+    refuses::<PgLsn>(rt.alloc(), &Type::INT8, &[(Some(cell), USER)])
 }
 
 #[test]

@@ -9,10 +9,7 @@ use postgres_types::{Fault, IpCidr, IpInet, MacAddress, Type};
 use rows::code::{ADDRESS_LENGTH, FAMILY, HOST_BITS, NETMASK, SIZE, WAS_NULL};
 use rows::damage::{ALL_SIZE, Faults, Sample, fixed_width, forms_of, reads_all_forms};
 use rows::without_memory::{answer_without_memory, yes};
-use rows::{
-    appends, fault_code, holds, parses, reads, refusal, refuses, rewrites, same, spells,
-    takes_no_memory,
-};
+use rows::{fault_code, has_cells, has_functions, holds, reads, refusal, rewrites, same};
 use std::net::{IpAddr, Ipv4Addr, Ipv6Addr};
 use std::test::Fail;
 use uuid::Uuid;
@@ -29,6 +26,9 @@ const DISTINCT: [u8; 20] = [
 
 /// The cell of 10.1.2.3/8.
 const HOST: [u8; 8] = [2, 8, 0, 4, 10, 1, 2, 3];
+
+/// The cell of 10.1.2.3/32.
+const ALONE: [u8; 8] = [2, 32, 0, 4, 10, 1, 2, 3];
 
 /// The cell of 10.0.0.0/8.
 const NETWORK: [u8; 8] = [2, 8, 0, 4, 10, 0, 0, 0];
@@ -121,17 +121,18 @@ fn v6_cell(netmask: u8, n: u8) -> [u8; 20] {
 
 #[test]
 fn addresses_have_their_cells(rt: HostRuntime) -> Result<(), Fail> {
-    let alloc = rt.alloc();
-    let rows = [(IpAddr::V6(Ipv6Addr::LOCALHOST), LOCALHOST.as_slice())];
-    spells(alloc, &Type::INET, &rows)
+    let rows = [
+        (IpAddr::V6(Ipv6Addr::LOCALHOST), LOCALHOST.as_slice()),
+        (ten(1, 2, 3), &ALONE),
+    ];
+    has_cells(rt.alloc(), &Type::INET, &rows, &DAMAGED)
 }
 
 #[test]
 fn addresses_drop_the_netmask(rt: HostRuntime) -> Result<(), Fail> {
     let alloc = rt.alloc();
     reads(alloc, &Type::INET, &HOST, ten(1, 2, 3))?;
-    let alone = [2u8, 0x20, 0, 4, 10, 1, 2, 3];
-    rewrites::<IpAddr>(alloc, &Type::INET, &HOST, &alone)
+    rewrites::<IpAddr>(alloc, &Type::INET, &HOST, &ALONE)
 }
 
 #[test]
@@ -142,7 +143,7 @@ fn addresses_with_netmasks_have_their_cells(rt: HostRuntime) -> Result<(), Fail>
         (IpInet::new(IpAddr::V6(distinct), 65)?, DISTINCT.as_slice()),
         (IpInet::new(ten(1, 2, 3), 8)?, HOST.as_slice()),
     ];
-    spells(alloc, &Type::INET, &rows)?;
+    has_cells(alloc, &Type::INET, &rows, &DAMAGED)?;
     rewrites::<IpInet>(alloc, &Type::INET, &HOST, &HOST)
 }
 
@@ -154,7 +155,7 @@ fn networks_have_their_cells(rt: HostRuntime) -> Result<(), Fail> {
         (IpCidr::new(ten(0, 0, 0), 8)?, NETWORK.as_slice()),
         (IpCidr::new(IpAddr::V6(first), 64)?, v6.as_slice()),
     ];
-    spells(rt.alloc(), &Type::CIDR, &rows)
+    has_cells(rt.alloc(), &Type::CIDR, &rows, &DAMAGED)
 }
 
 #[test]
@@ -164,14 +165,6 @@ fn the_flag_of_a_network_is_ignored(rt: HostRuntime) -> Result<(), Fail> {
     reads(alloc, &Type::CIDR, &FLAGGED, network)?;
     rewrites::<IpCidr>(alloc, &Type::CIDR, &FLAGGED, &NETWORK)?;
     rewrites::<IpCidr>(alloc, &Type::CIDR, &NETWORK, &NETWORK)
-}
-
-#[test]
-fn damaged_addresses_are_refused_by_their_first_fault(rt: HostRuntime) -> Result<(), Fail> {
-    let alloc = rt.alloc();
-    refuses::<IpInet>(alloc, &Type::INET, &DAMAGED)?;
-    refuses::<IpAddr>(alloc, &Type::INET, &DAMAGED)?;
-    refuses::<IpCidr>(alloc, &Type::CIDR, &DAMAGED)
 }
 
 #[test]
@@ -220,31 +213,36 @@ fn netmasks_are_no_longer_than_addresses() -> Result<(), Fail> {
 
 #[test]
 fn mac_addresses_have_their_cells(rt: HostRuntime) -> Result<(), Fail> {
-    let alloc = rt.alloc();
     for (bytes, cell) in MAC {
-        same(MacAddress::new(bytes).to_array(), bytes)?;
-        spells(alloc, &Type::MACADDR, &[(MacAddress::new(bytes), cell)])?;
+        let address = MacAddress::new(bytes);
+        same(address.to_array(), bytes)?;
+        has_cells(rt.alloc(), &Type::MACADDR, &[(address, cell)], &DAMAGED_MAC)?;
     }
-    refuses::<MacAddress>(alloc, &Type::MACADDR, &DAMAGED_MAC)
+    Ok(())
 }
 
 #[test]
 fn uuids_have_their_cells(rt: HostRuntime) -> Result<(), Fail> {
-    let alloc = rt.alloc();
     let uuid = Uuid::from_u128(0xa0eebc99_9c0b_4ef8_bb6d_6bb9bd380a11);
     let rows = [(uuid, UUID_CELL.as_slice())];
     let damaged = [(Some(&UUID_CELL[1..]), SIZE), (None, WAS_NULL)];
-    spells(alloc, &Type::UUID, &rows)?;
-    refuses::<Uuid>(alloc, &Type::UUID, &damaged)
+    has_cells(rt.alloc(), &Type::UUID, &rows, &damaged)
 }
 
 #[test]
 fn mac_addresses_and_uuids_are_appended_and_parsed(rt: HostRuntime) -> Result<(), Fail> {
-    let alloc = rt.alloc();
-    appends(alloc, |alloc, v, out| macaddr_to_sql(alloc, v, out), &MAC)?;
-    parses(alloc, |cell| macaddr_from_sql(cell), &MAC)?;
-    appends(alloc, |alloc, v, out| uuid_to_sql(alloc, v, out), &UUID)?;
-    parses(alloc, |cell| uuid_from_sql(cell), &UUID)
+    has_functions(
+        rt.alloc(),
+        |alloc, v, out| macaddr_to_sql(alloc, v, out),
+        |cell| macaddr_from_sql(cell),
+        &MAC,
+    )?;
+    has_functions(
+        rt.alloc(),
+        |alloc, v, out| uuid_to_sql(alloc, v, out),
+        |cell| uuid_from_sql(cell),
+        &UUID,
+    )
 }
 
 #[test]
@@ -293,26 +291,6 @@ fn mac_addresses_of_other_bytes_are_different() -> Result<(), Fail> {
     let other = MacAddress::new([1, 2, 3, 4, 5, 7]);
     holds(same_mac_address(&address, &address), "different")?;
     holds(!same_mac_address(&address, &other), "equal")
-}
-
-#[test]
-fn addresses_take_no_memory(rt: HostRuntime) -> Result<(), Fail> {
-    let alloc = rt.alloc();
-    let alone = [2u8, 32, 0, 4, 10, 1, 2, 3];
-    takes_no_memory(alloc, &Type::INET, &[(ten(1, 2, 3), alone.as_slice())])?;
-    let host = [(IpInet::new(ten(1, 2, 3), 8)?, HOST.as_slice())];
-    takes_no_memory(alloc, &Type::INET, &host)?;
-    let network = [(IpCidr::new(ten(0, 0, 0), 8)?, NETWORK.as_slice())];
-    takes_no_memory(alloc, &Type::CIDR, &network)
-}
-
-#[test]
-fn mac_addresses_and_uuids_take_no_memory(rt: HostRuntime) -> Result<(), Fail> {
-    let alloc = rt.alloc();
-    let [(bytes, cell), ..] = MAC;
-    takes_no_memory(alloc, &Type::MACADDR, &[(MacAddress::new(bytes), cell)])?;
-    let uuid = Uuid::from_u128(0xa0eebc99_9c0b_4ef8_bb6d_6bb9bd380a11);
-    takes_no_memory(alloc, &Type::UUID, &[(uuid, UUID_CELL.as_slice())])
 }
 
 #[test]

@@ -9,8 +9,8 @@ use postgres_types::{Fault, Type, rewrite, to_sql_checked_as};
 use rows::code::{SIZE, USER, WAS_NULL, WRONG_TYPE};
 use rows::damage::{fixed_width, forms_of, reads_all_forms};
 use rows::{
-    accepts, appends, fault_code, holds, parses, refusal, refuses, refuses_value, rewrites, same,
-    simple_type, spells, takes_no_memory, writes, writes_by_room,
+    accepts, fault_code, has_cells, has_functions, holds, refusal, refuses_value, rewrites, same,
+    simple_type, writes, writes_by_room,
 };
 use std::alloc::Global;
 use std::test::Fail;
@@ -80,17 +80,17 @@ const DAMAGED_OID: [(Option<&[u8]>, u32); 3] = [
 #[test]
 fn booleans_and_narrow_integers_have_their_cells(rt: HostRuntime) -> Result<(), Fail> {
     let alloc = rt.alloc();
-    spells(alloc, &Type::BOOL, &BOOL)?;
-    spells(alloc, &Type::CHAR, &CHAR)?;
-    spells(alloc, &Type::INT2, &INT2)
+    has_cells(alloc, &Type::BOOL, &BOOL, &DAMAGED_BYTE)?;
+    has_cells(alloc, &Type::CHAR, &CHAR, &DAMAGED_BYTE)?;
+    has_cells(alloc, &Type::INT2, &INT2, &DAMAGED_INT2)
 }
 
 #[test]
 fn wide_integers_and_oids_have_their_cells(rt: HostRuntime) -> Result<(), Fail> {
     let alloc = rt.alloc();
-    spells(alloc, &Type::INT4, &INT4)?;
-    spells(alloc, &Type::INT8, &INT8)?;
-    spells(alloc, &Type::OID, &OID)
+    has_cells(alloc, &Type::INT4, &INT4, &DAMAGED_INT4)?;
+    has_cells(alloc, &Type::INT8, &INT8, &DAMAGED_INT8)?;
+    has_cells(alloc, &Type::OID, &OID, &DAMAGED_OID)
 }
 
 #[test]
@@ -99,67 +99,49 @@ fn a_reference_is_written_as_its_value(rt: HostRuntime) -> Result<(), Fail> {
 }
 
 #[test]
-fn damaged_booleans_and_narrow_integers_are_refused(rt: HostRuntime) -> Result<(), Fail> {
+fn booleans_and_narrow_integers_are_appended_and_parsed(rt: HostRuntime) -> Result<(), Fail> {
     let alloc = rt.alloc();
-    refuses::<bool>(alloc, &Type::BOOL, &DAMAGED_BYTE)?;
-    refuses::<i8>(alloc, &Type::CHAR, &DAMAGED_BYTE)?;
-    refuses::<i16>(alloc, &Type::INT2, &DAMAGED_INT2)
+    has_functions(
+        alloc,
+        |alloc, v, out| bool_to_sql(alloc, v, out),
+        |cell| bool_from_sql(cell),
+        &BOOL,
+    )?;
+    has_functions(
+        alloc,
+        |alloc, v, out| char_to_sql(alloc, v, out),
+        |cell| char_from_sql(cell),
+        &CHAR,
+    )?;
+    has_functions(
+        alloc,
+        |alloc, v, out| int2_to_sql(alloc, v, out),
+        |cell| int2_from_sql(cell),
+        &INT2,
+    )
 }
 
 #[test]
-fn damaged_wide_integers_and_oids_are_refused(rt: HostRuntime) -> Result<(), Fail> {
+fn wide_integers_and_oids_are_appended_and_parsed(rt: HostRuntime) -> Result<(), Fail> {
     let alloc = rt.alloc();
-    refuses::<i32>(alloc, &Type::INT4, &DAMAGED_INT4)?;
-    refuses::<i64>(alloc, &Type::INT8, &DAMAGED_INT8)?;
-    refuses::<u32>(alloc, &Type::OID, &DAMAGED_OID)
-}
-
-#[test]
-fn booleans_and_narrow_integers_are_appended(rt: HostRuntime) -> Result<(), Fail> {
-    let alloc = rt.alloc();
-    appends(alloc, |alloc, v, out| bool_to_sql(alloc, v, out), &BOOL)?;
-    appends(alloc, |alloc, v, out| char_to_sql(alloc, v, out), &CHAR)?;
-    appends(alloc, |alloc, v, out| int2_to_sql(alloc, v, out), &INT2)
-}
-
-#[test]
-fn wide_integers_and_oids_are_appended(rt: HostRuntime) -> Result<(), Fail> {
-    let alloc = rt.alloc();
-    appends(alloc, |alloc, v, out| int4_to_sql(alloc, v, out), &INT4)?;
-    appends(alloc, |alloc, v, out| int8_to_sql(alloc, v, out), &INT8)?;
-    appends(alloc, |alloc, v, out| oid_to_sql(alloc, v, out), &OID)
-}
-
-#[test]
-fn booleans_and_narrow_integers_are_parsed(rt: HostRuntime) -> Result<(), Fail> {
-    let alloc = rt.alloc();
-    parses(alloc, |cell| bool_from_sql(cell), &BOOL)?;
-    parses(alloc, |cell| char_from_sql(cell), &CHAR)?;
-    parses(alloc, |cell| int2_from_sql(cell), &INT2)
-}
-
-#[test]
-fn wide_integers_and_oids_are_parsed(rt: HostRuntime) -> Result<(), Fail> {
-    let alloc = rt.alloc();
-    parses(alloc, |cell| int4_from_sql(cell), &INT4)?;
-    parses(alloc, |cell| int8_from_sql(cell), &INT8)?;
-    parses(alloc, |cell| oid_from_sql(cell), &OID)
-}
-
-#[test]
-fn booleans_and_narrow_integers_take_no_memory(rt: HostRuntime) -> Result<(), Fail> {
-    let alloc = rt.alloc();
-    takes_no_memory(alloc, &Type::BOOL, &BOOL)?;
-    takes_no_memory(alloc, &Type::CHAR, &CHAR)?;
-    takes_no_memory(alloc, &Type::INT2, &INT2)
-}
-
-#[test]
-fn wide_integers_and_oids_take_no_memory(rt: HostRuntime) -> Result<(), Fail> {
-    let alloc = rt.alloc();
-    takes_no_memory(alloc, &Type::INT4, &INT4)?;
-    takes_no_memory(alloc, &Type::INT8, &INT8)?;
-    takes_no_memory(alloc, &Type::OID, &OID)
+    has_functions(
+        alloc,
+        |alloc, v, out| int4_to_sql(alloc, v, out),
+        |cell| int4_from_sql(cell),
+        &INT4,
+    )?;
+    has_functions(
+        alloc,
+        |alloc, v, out| int8_to_sql(alloc, v, out),
+        |cell| int8_from_sql(cell),
+        &INT8,
+    )?;
+    has_functions(
+        alloc,
+        |alloc, v, out| oid_to_sql(alloc, v, out),
+        |cell| oid_from_sql(cell),
+        &OID,
+    )
 }
 
 #[test]
@@ -184,9 +166,7 @@ fn user_int4(alloc: Global) -> Result<Type, Fault> {
 
 #[test]
 fn a_user_type_is_not_the_built_in_type(rt: HostRuntime) -> Result<(), Fail> {
-    let alloc = rt.alloc();
-    holds(user_int4(alloc)? != Type::INT4, "equal")?;
-    accepts::<i32>(&[(user_int4(alloc)?, false)])
+    accepts::<i32>(&[(user_int4(rt.alloc())?, false)])
 }
 
 #[test]

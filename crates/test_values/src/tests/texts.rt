@@ -8,8 +8,8 @@ use postgres_types::{Kind, Type};
 use rows::code::{TEXT_VERSION, UTF8, WAS_NULL};
 use rows::damage::{Faults, Sample, forms_of, reads_all_forms, reads_plain};
 use rows::{
-    accepts, appends, holds, null_takes_no_memory, parses, read, refuses, same, simple_type,
-    spells, takes_no_memory, user_type, writes, writes_by_room,
+    accepts, has_cells, has_functions, holds, null_takes_no_memory, read, refuses, same,
+    simple_type, spells, takes_no_memory, user_type, writes, writes_by_room,
 };
 use std::borrow::CowStr;
 use std::boxed::BoxedStr;
@@ -58,8 +58,7 @@ fn texts_are_their_bytes(rt: HostRuntime) -> Result<(), Fail> {
         Type::UNKNOWN,
     ];
     for ty in &built_in {
-        spells(alloc, ty, &TEXT)?;
-        refuses::<&str>(alloc, ty, &DAMAGED_TEXT)?;
+        has_cells(alloc, ty, &TEXT, &DAMAGED_TEXT)?;
     }
     Ok(())
 }
@@ -92,38 +91,39 @@ fn owned_texts_are_written(rt: HostRuntime) -> Result<(), Fail> {
 }
 
 #[test]
-fn texts_are_appended(rt: HostRuntime) -> Result<(), Fail> {
-    let alloc = rt.alloc();
-    appends(alloc, |alloc, v, out| text_to_sql(alloc, v, out), &TEXT)?;
-    appends(
-        alloc,
+fn texts_are_appended_and_parsed(rt: HostRuntime) -> Result<(), Fail> {
+    has_functions(
+        rt.alloc(),
+        |alloc, v, out| text_to_sql(alloc, v, out),
+        |cell| text_from_sql(cell),
+        &TEXT,
+    )
+}
+
+#[test]
+fn texts_with_a_version_are_appended_and_parsed(rt: HostRuntime) -> Result<(), Fail> {
+    has_functions(
+        rt.alloc(),
         |alloc, v, out| ltree_to_sql(alloc, v, out),
+        |cell| ltree_from_sql(cell),
         &VERSIONED,
     )?;
-    appends(
-        alloc,
+    has_functions(
+        rt.alloc(),
         |alloc, v, out| lquery_to_sql(alloc, v, out),
+        |cell| lquery_from_sql(cell),
         &VERSIONED,
     )?;
-    appends(
-        alloc,
+    has_functions(
+        rt.alloc(),
         |alloc, v, out| ltxtquery_to_sql(alloc, v, out),
+        |cell| ltxtquery_from_sql(cell),
         &VERSIONED,
     )
 }
 
 #[test]
-fn texts_are_parsed(rt: HostRuntime) -> Result<(), Fail> {
-    let alloc = rt.alloc();
-    parses(alloc, |cell| text_from_sql(cell), &TEXT)?;
-    parses(alloc, |cell| ltree_from_sql(cell), &VERSIONED)?;
-    parses(alloc, |cell| lquery_from_sql(cell), &VERSIONED)?;
-    parses(alloc, |cell| ltxtquery_from_sql(cell), &VERSIONED)
-}
-
-#[test]
-fn borrowed_texts_take_no_memory(rt: HostRuntime) -> Result<(), Fail> {
-    takes_no_memory(rt.alloc(), &Type::TEXT, &TEXT)?;
+fn a_cow_takes_no_memory(rt: HostRuntime) -> Result<(), Fail> {
     let row = [(CowStr::Borrowed("ab"), b"ab".as_slice())];
     takes_no_memory(rt.alloc(), &Type::TEXT, &row)
 }

@@ -6,7 +6,7 @@ use postgres_types::{Timestamp, Type, UnixTime};
 use rows::code::{SIZE, TRANSMIT, USER, WAS_NULL};
 use rows::damage::{fixed_width, forms_of, reads_all_forms};
 use rows::{
-    appends, debugs, holds, parses, reads_back, refuses, refuses_both, same, takes_no_memory, unix,
+    debugs, has_functions, holds, reads_back, refuses, refuses_both, same, takes_no_memory, unix,
     writes,
 };
 use std::alloc::Global;
@@ -51,13 +51,12 @@ const COUNTS: [(i64, &[u8]); 3] = [
 
 #[test]
 fn the_format_has_every_count(rt: HostRuntime) -> Result<(), Fail> {
-    let alloc = rt.alloc();
-    appends(
-        alloc,
+    has_functions(
+        rt.alloc(),
         |alloc, v, out| timestamp_to_sql(alloc, v, out),
+        |cell| timestamp_from_sql(cell),
         &COUNTS,
-    )?;
-    parses(alloc, |cell| timestamp_from_sql(cell), &COUNTS)
+    )
 }
 
 #[test]

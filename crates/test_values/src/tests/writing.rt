@@ -2,7 +2,7 @@
 
 use postgres_types::private::BytesMut;
 use postgres_types::{Format, IsNull, ToSql, Type, rewrite, to_sql_checked_as};
-use rows::code::{UTF8, WAS_NULL, WRONG_TYPE};
+use rows::code::{UTF8, WAS_NULL};
 use rows::{displays, fault_code, holds, refuses_type, same};
 use std::test::Fail;
 
@@ -119,18 +119,5 @@ fn a_refused_rewrite_leaves_the_buffer(rt: HostRuntime) -> Result<(), Fail> {
     same(fault_code(null), WAS_NULL)?;
     let damaged = rewrite::<String>(alloc, &Type::TEXT, Some(&[0xff]), &mut out);
     same(fault_code(damaged), UTF8)?;
-    same(out.as_slice(), b"before".as_slice())
-}
-
-#[test]
-fn a_type_that_rewrite_refuses_is_named(rt: HostRuntime) -> Result<(), Fail> {
-    let alloc = rt.alloc();
-    let mut out = BytesMut::copy_from_slice(alloc, b"before")?;
-    let Err(fault) = rewrite::<i32>(alloc, &Type::TEXT, None, &mut out) else {
-        return Err(Fail::from("rewritten"));
-    };
-    same(fault.code(), WRONG_TYPE)?;
-    let text = "cannot convert between the Rust type `rewrite` and the Postgres type `text`";
-    displays(alloc, &fault, text)?;
     same(out.as_slice(), b"before".as_slice())
 }

@@ -2,8 +2,8 @@
 
 use postgres_types::{Format, ToSql, Type};
 use rows::{
-    accepts, code, holds, null_takes_no_memory, read, refusal, refuses, refuses_type, same,
-    simple_type, spells, writes_by_room, writes_null,
+    accepts, code, null_takes_no_memory, refusal, refuses, refuses_type, same, simple_type, spells,
+    writes_by_room,
 };
 use std::test::Fail;
 
@@ -26,27 +26,16 @@ fn a_box_accepts_what_its_value_does(_: HostRuntime) -> Result<(), Fail> {
 
 #[test]
 fn a_box_refuses_null_and_truncated_cells(rt: HostRuntime) -> Result<(), Fail> {
-    let alloc = rt.alloc();
     let rows: [(Option<&[u8]>, u32); 2] = [(None, code::WAS_NULL), (Some(&[0; 3]), code::SIZE)];
-    refuses::<Box<i32>>(alloc, &Type::INT4, &rows)?;
-    let null: [(Option<&[u8]>, u32); 1] = [(None, code::WAS_NULL)];
-    refuses::<Box<Option<i32>>>(alloc, &Type::INT4, &null)
+    refuses::<Box<i32>>(rt.alloc(), &Type::INT4, &rows)
 }
 
 #[test]
 fn an_option_of_a_box_is_null(rt: HostRuntime) -> Result<(), Fail> {
-    let alloc = rt.alloc();
-    same(refusal::<Option<Box<i32>>>(alloc, &Type::INT4, None), 0)?;
-    writes_null(alloc, &Box::new(alloc, None::<i32>)?, &Type::INT4)
-}
-
-#[test]
-fn some_of_none_is_read_as_none(rt: HostRuntime) -> Result<(), Fail> {
-    let alloc = rt.alloc();
-    let inner: Option<Option<i32>> = Some(None);
-    writes_null(alloc, &inner, &Type::INT4)?;
-    let found: Option<Option<i32>> = read(alloc, &Type::INT4, None)?;
-    holds(found.is_none(), "some of NULL")
+    same(
+        refusal::<Option<Box<i32>>>(rt.alloc(), &Type::INT4, None),
+        0,
+    )
 }
 
 #[test]

@@ -67,12 +67,17 @@ fn a_box_holds_an_array(rt: HostRuntime) -> Result<(), Fail> {
     refuses::<Box<[i32; 3]>>(alloc, &INTS, &rows)
 }
 
-/// Arrays of elements that take no memory are read; reading a list of them answers that number.
-fn reads_in_place(alloc: Global, list: u32) -> Result<(), Fail> {
+/// Arrays of numbers are read.
+fn reads_numbers(alloc: Global) -> Result<(), Fail> {
     reads(alloc, &INTS, &THREE, [1i32, -2, i32::MAX])?;
     reads(alloc, &INTS, &NULL, [None::<i32>])?;
     let none: [i32; 0] = [];
-    reads(alloc, &INTS, &EMPTY, none)?;
+    reads(alloc, &INTS, &EMPTY, none)
+}
+
+/// Arrays of elements that take no memory are read; reading a list of them answers that number.
+fn reads_in_place(alloc: Global, list: u32) -> Result<(), Fail> {
+    reads_numbers(alloc)?;
     reads(alloc, &Type::TEXT_ARRAY, &TEXTS, ["ab", ""])?;
     let infinity: [Date<civil::Date>; 1] = [Date::PosInfinity];
     reads(alloc, &Type::DATE_ARRAY, &INFINITY, infinity)?;

@@ -91,8 +91,13 @@ fn boxes_are_binary(rt: HostRuntime) -> Result<(), Fail> {
 fn lists_are_binary(rt: HostRuntime) -> Result<(), Fail> {
     let words = vec![in rt.alloc(); Word("ja")]?;
     same(format_of(&words), Format::Binary)?;
-    same(format_of(&words.as_slice()), Format::Binary)?;
+    same(format_of(&words.as_slice()), Format::Binary)
+}
+
+#[test]
+fn arrays_and_boxed_lists_are_binary(rt: HostRuntime) -> Result<(), Fail> {
     same(format_of(&[Word("ja")]), Format::Binary)?;
+    let words = vec![in rt.alloc(); Word("ja")]?;
     let boxed: BoxedSlice<Word> = words.into_boxed_slice();
     same(format_of(&boxed), Format::Binary)
 }

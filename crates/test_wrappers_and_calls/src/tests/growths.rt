@@ -1,7 +1,7 @@
 //! Growths that are refused while values are read from the front of a slice.
 
 use postgres_types::Type;
-use postgres_types::private::{BytesMut, read_values};
+use postgres_types::private::read_values;
 use rows::code::MEMORY;
 use rows::{hoard, holds, same};
 use std::alloc::Global;
@@ -49,27 +49,41 @@ fn growing_blocks(alloc: Global) -> Result<Vec<Vec<u8>>, Fail> {
     Ok(blocks)
 }
 
-#[test]
-fn a_refused_growth_leaves_the_slice_after_a_cell(rt: HostRuntime) -> Result<(), Fail> {
-    let alloc = rt.alloc();
-    let mut frames = BytesMut::with_capacity(alloc, COUNT * SEVEN.len())?;
+/// All memory but these blocks, and then the blocks.
+fn hoard_before_blocks(alloc: Global) -> Result<Vec<Vec<u8>>, Fail> {
+    let blocks = growing_blocks(alloc)?;
+    let mut hoarded = hoard(alloc)?;
+    hoarded.extend(blocks)?;
+    Ok(hoarded)
+}
+
+/// The frames of the cells.
+fn frames(alloc: Global) -> Result<Vec<u8>, Fail> {
+    let mut frames = Vec::with_capacity(alloc, COUNT * SEVEN.len())?;
     for _ in 0..COUNT {
         frames.extend_from_slice(&SEVEN)?;
     }
+    Ok(frames)
+}
+
+/// Reading was refused more than once, and each time after a value.
+fn are_after_cells(places: &[usize]) -> Result<(), Fail> {
+    holds(places.len() > 1, "refused at one growth at most")?;
+    holds(!places.contains(&0), "refused before a value was read")
+}
+
+#[test]
+fn a_refused_growth_leaves_the_slice_after_a_cell(rt: HostRuntime) -> Result<(), Fail> {
+    let alloc = rt.alloc();
+    let frames = frames(alloc)?;
     let mut places = Vec::with_capacity(alloc, 100)?;
     let mut hoarded = Vec::new(alloc);
     // A run before all address space is taken, since the stack cannot grow after that.
     read_while_refused(alloc, frames.as_slice(), &mut hoarded, &mut places)?;
     holds(places.is_empty(), "refused with ample memory")?;
-    let blocks = growing_blocks(alloc)?;
-    hoarded = hoard(alloc)?;
-    hoarded.extend(blocks)?;
+    hoarded = hoard_before_blocks(alloc)?;
     read_while_refused(alloc, frames.as_slice(), &mut hoarded, &mut places)?;
     drop(hoarded);
     println!(rt; "refused after {places:?} cells")?;
-    holds(places.len() > 1, "refused at one growth at most")?;
-    holds(
-        places.iter().all(|place| *place > 0),
-        "refused before a value was read",
-    )
+    are_after_cells(places.as_slice())
 }

@@ -3,7 +3,7 @@
 use jiff::Timestamp as Instant;
 use jiff::civil::{Date as Day, Time};
 use postgres_types::private::BytesMut;
-use postgres_types::{BitVec, Date, Finite, IsNull, Timestamp, Type, UnixTime, rewrite};
+use postgres_types::{Date, Finite, IsNull, Timestamp, Type, UnixTime, rewrite};
 use rows::code::WAS_NULL;
 use rows::{
     displays, holds, read, reads_back, refuses, rewrites, same, simple_type, unix, writes,
@@ -12,7 +12,6 @@ use rows::{
 use std::alloc::Global;
 use std::boxed::BoxedSlice;
 use std::collections::HashMap;
-use std::net::{IpAddr, Ipv4Addr};
 use std::test::Fail;
 
 /// An array of INT4 of one element, which is NULL.
@@ -121,22 +120,6 @@ fn infinite_timestamps_are_read_back_before_values(rt: HostRuntime) -> Result<()
     )?;
     let cell = [0u8, 0, 0, 0, 0, 0, 0, 1];
     rewrites::<Timestamp<Box<Timestamp<UnixTime>>>>(alloc, &Type::TIMESTAMP, &cell, &cell)
-}
-
-#[test]
-fn unused_bits_are_rewritten_as_zeros(rt: HostRuntime) -> Result<(), Fail> {
-    let zeros = [0u8, 0, 0, 3, 0xa0];
-    rewrites::<BitVec>(rt.alloc(), &Type::VARBIT, &[0, 0, 0, 3, 0xbf], &zeros)?;
-    rewrites::<BitVec>(rt.alloc(), &Type::VARBIT, &zeros, &zeros)
-}
-
-#[test]
-fn the_netmask_of_an_address_is_not_kept(rt: HostRuntime) -> Result<(), Fail> {
-    let alloc = rt.alloc();
-    let host = IpAddr::V4(Ipv4Addr::new(10, 1, 2, 3));
-    let cell = [2, 32, 0, 4, 10, 1, 2, 3];
-    reads_back(alloc, &Type::INET, &host, &cell, host)?;
-    rewrites::<IpAddr>(alloc, &Type::INET, &[2, 8, 0, 4, 10, 1, 2, 3], &cell)
 }
 
 #[test]

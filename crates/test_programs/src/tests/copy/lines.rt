@@ -169,12 +169,12 @@ fn texts_that_are_no_values_are_refused(rt: HostRuntime) -> Result<(), Fail> {
 
 /// Texts that a conversion refuses, with its fault.
 const REFUSED: [(&str, &[u8], &str); 3] = [
+    ("inet", b"1.2.3.4/33\n", "line 1, column 1: invalid netmask"),
     (
-        "inet",
-        b"1.2.3.4/33\n",
-        "line 1, column 1: invalid netmask",
+        "cidr",
+        b"1.2.3.4/8\n",
+        "line 1, column 1: host bits are set",
     ),
-    ("cidr", b"1.2.3.4/8\n", "line 1, column 1: host bits are set"),
     (
         "json",
         b"1.5\n",

@@ -38,12 +38,32 @@ fn ends(alloc: Global, stream: &[u8], lines: &[u8], fault: &str) -> Result<(), F
 const TUPLES: [(&[&[u8]], &[u8], &str); 10] = [
     (&[ROWS, TRAILER], LINES, ""),
     (&[TRAILER], b"", ""),
-    (&[ROWS, TRAILER, b"\0"], LINES, "bytes come after the trailer"),
+    (
+        &[ROWS, TRAILER, b"\0"],
+        LINES,
+        "bytes come after the trailer",
+    ),
     // another number of columns
-    (&[FIRST, b"\0\x01"], FIRST_LINE, "row 2: 1 columns in place of 2"),
-    (&[FIRST, b"\0\x03"], FIRST_LINE, "row 2: 3 columns in place of 2"),
-    (&[FIRST, b"\0\0"], FIRST_LINE, "row 2: 0 columns in place of 2"),
-    (&[FIRST, b"\xff\xfe"], FIRST_LINE, "row 2: -2 columns in place of 2"),
+    (
+        &[FIRST, b"\0\x01"],
+        FIRST_LINE,
+        "row 2: 1 columns in place of 2",
+    ),
+    (
+        &[FIRST, b"\0\x03"],
+        FIRST_LINE,
+        "row 2: 3 columns in place of 2",
+    ),
+    (
+        &[FIRST, b"\0\0"],
+        FIRST_LINE,
+        "row 2: 0 columns in place of 2",
+    ),
+    (
+        &[FIRST, b"\xff\xfe"],
+        FIRST_LINE,
+        "row 2: -2 columns in place of 2",
+    ),
     // a negative length other than that of NULL
     (
         &[b"\0\x02\0\0\0\x04\0\0\0\x01\xff\xff\xff\xfe", TRAILER],
@@ -116,11 +136,7 @@ const HEADERS: [(&[u8], &[u8], &str); 9] = [
         b"",
         "the header has an unknown critical flag",
     ),
-    (
-        b"PGCOPY\n\xff\r\n\0\0\0\xff\xff\0\0\0\0\xff\xff",
-        b"",
-        "",
-    ),
+    (b"PGCOPY\n\xff\r\n\0\0\0\xff\xff\0\0\0\0\xff\xff", b"", ""),
     // a header extension
     (
         b"PGCOPY\n\xff\r\n\0\0\0\0\0\0\0\0\x05\xff\xff\0\x02x",
