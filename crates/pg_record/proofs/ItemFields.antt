@@ -67,6 +67,11 @@ third_accepted f g h ok =
 pub three_of_list : (fs : List Field) → IsTrue (accepts_row (fields_content fs)) → length fs ≡ 3
 three_of_list fs ok = counted fs ∙ three (fields_content fs) ok
 
+-- and is these three
+pub accepted_three : (fs : List Field) (f g h : Field) → IsTrue (accepts_row (fields_content fs)) → f ≡ get_or fs 0 f
+    → g ≡ get_or fs 1 g → h ≡ get_or fs 2 h → fs ≡ f ∷ g ∷ h ∷ []
+accepted_three fs f g h ok = these_three fs f g h (three_of_list fs ok)
+
 -- a number that a field gives fits its type
 fits_in_cell : (s : List ℕ) (cs : List Cell) (rest new : List ℕ) (v : ℤ)
     → ReadsFirst (ReadsSigned w32) EveryCell s cs rest (Ok v) new → FitsSigned w32 v
