@@ -19,74 +19,55 @@ pub fn run(name: &str, work: Work) -> Made {
     })
 }
 
-/// Parameters, and their types.
-#[derive(Drop)]
-struct Params {
-    values: Vec<Box<dyn ToSql>>,
-    types: Vec<Type>,
-}
-
-impl Params {
-    fn new(alloc: Global) -> Params {
-        Params {
-            values: Vec::new(alloc),
-            types: Vec::new(alloc),
-        }
-    }
-
-    fn push(&mut self, value: Box<dyn ToSql>, ty: Type) -> Result<(), Fault> {
-        self.values.push(value)?;
-        self.types.push(ty)?;
-        Ok(())
-    }
-
-    fn push_text(&mut self, alloc: Global, text: &str) -> Result<(), Fault> {
-        let text = String::from_str(alloc, text)?;
-        self.push(Box::new(alloc, text)?, Type::TEXT)
-    }
-}
-
-/// So many parameters, each a number.
-fn many_params(alloc: Global, count: u32) -> Result<Params, Fault> {
-    let mut params = Params::new(alloc);
+/// Writes the frames of so many parameters, each a number.
+fn bind_many(work: Work, count: u32) -> Result<u64, Fault> {
+    let mut params: Vec<Box<dyn ToSql>> = Vec::new(work.alloc);
+    let mut types = Vec::new(work.alloc);
     for place in 0..count {
-        params.push(Box::new(alloc, i64::from(place))?, Type::INT8)?;
+        params.push(Box::new(work.alloc, i64::from(place))?)?;
+        types.push(Type::INT8)?;
     }
-    Ok(params)
+    bind_turns(work, params.as_slice(), types.as_slice())
 }
 
-/// Eight parameters, of which the fifth is NULL.
-fn eight_params(alloc: Global) -> Result<Params, Fault> {
-    let mut params = Params::new(alloc);
-    push_first_four(alloc, &mut params)?;
-    push_last_four(alloc, &mut params)?;
-    Ok(params)
-}
-
-fn push_first_four(alloc: Global, params: &mut Params) -> Result<(), Fault> {
-    params.push(Box::new(alloc, 1_000_000i32)?, Type::INT4)?;
-    params.push(Box::new(alloc, -5_000_000_000i64)?, Type::INT8)?;
-    params.push(Box::new(alloc, true)?, Type::BOOL)?;
-    params.push(Box::new(alloc, 4_000_000_000u32)?, Type::OID)
-}
-
-fn push_last_four(alloc: Global, params: &mut Params) -> Result<(), Fault> {
-    params.push(Box::new(alloc, None::<i32>)?, Type::INT4)?;
-    params.push_text(alloc, "a name")?;
-    params.push(Box::new(alloc, 77i16)?, Type::INT2)?;
-    params.push_text(alloc, "a longer text of a parameter")
+/// Writes the frames of eight parameters, of which the fifth is NULL.
+fn bind(work: Work) -> Result<u64, Fault> {
+    let alloc = work.alloc;
+    let name = String::from_str(alloc, "a name")?;
+    let text = String::from_str(alloc, "a longer text of a parameter")?;
+    let params: [Box<dyn ToSql>; 8] = [
+        Box::new(alloc, 1_000_000i32)?,
+        Box::new(alloc, -5_000_000_000i64)?,
+        Box::new(alloc, true)?,
+        Box::new(alloc, 4_000_000_000u32)?,
+        Box::new(alloc, None::<i32>)?,
+        Box::new(alloc, name)?,
+        Box::new(alloc, 77i16)?,
+        Box::new(alloc, text)?,
+    ];
+    let types = [
+        Type::INT4,
+        Type::INT8,
+        Type::BOOL,
+        Type::OID,
+        Type::INT4,
+        Type::TEXT,
+        Type::INT2,
+        Type::TEXT,
+    ];
+    bind_turns(work, &params, &types)
 }
 
 /// Writes the frames of the parameters so many times, each time into the same buffer.
-fn bind_turns(work: Work, params: &Params, out: &mut BytesMut) -> Result<u64, Fault> {
-    let (values, types) = (params.values.as_slice(), params.types.as_slice());
-    if values.len() != types.len() {
+fn bind_turns(work: Work, params: &[Box<dyn ToSql>], types: &[Type]) -> Result<u64, Fault> {
+    if params.len() != types.len() {
         return Err(Fault::user("not as many types as parameters"));
     }
+    let mut out = BytesMut::new(work.alloc);
     let mut sum = 0;
     for _ in 0..work.turns {
         out.clear();
-        if let Err((_, fault)) = params_to_sql(work.alloc, values, types, out) {
+        if let Err((_, fault)) = params_to_sql(work.alloc, params, types, &mut out) {
             return Err(fault);
         }
         sum = mix(sum, out.len() as u64);
@@ -94,21 +75,22 @@ fn bind_turns(work: Work, params: &Params, out: &mut BytesMut) -> Result<u64, Fa
     Ok(mix_bytes(sum, out.as_slice()))
 }
 
-fn bind(work: Work) -> Result<u64, Fault> {
-    let params = eight_params(work.alloc)?;
-    bind_turns(work, &params, &mut BytesMut::new(work.alloc))
-}
-
-fn bind_many(work: Work, count: u32) -> Result<u64, Fault> {
-    let params = many_params(work.alloc, count)?;
-    bind_turns(work, &params, &mut BytesMut::new(work.alloc))
-}
-
-/// The frames of the eight parameters, which are a row.
-fn row(work: Work) -> Result<BytesMut, Fault> {
-    let params = eight_params(work.alloc)?;
-    let mut out = BytesMut::new(work.alloc);
-    bind_turns(Work { turns: 1, ..work }, &params, &mut out)?;
+/// The frames of the same values.
+fn row(alloc: Global) -> Result<BytesMut, Fault> {
+    let mut out = BytesMut::new(alloc);
+    frame_value(alloc, &1_000_000i32, &Type::INT4, &mut out)?;
+    frame_value(alloc, &-5_000_000_000i64, &Type::INT8, &mut out)?;
+    frame_value(alloc, &true, &Type::BOOL, &mut out)?;
+    frame_value(alloc, &4_000_000_000u32, &Type::OID, &mut out)?;
+    frame_value(alloc, &None::<i32>, &Type::INT4, &mut out)?;
+    frame_value(alloc, &"a name", &Type::TEXT, &mut out)?;
+    frame_value(alloc, &77i16, &Type::INT2, &mut out)?;
+    frame_value(
+        alloc,
+        &"a longer text of a parameter",
+        &Type::TEXT,
+        &mut out,
+    )?;
     Ok(out)
 }
 
@@ -143,7 +125,7 @@ fn read_last_columns(alloc: Global, columns: &[u8], sum: u64) -> Result<u64, Fau
 }
 
 fn read_rows(work: Work) -> Result<u64, Fault> {
-    let row = row(work)?;
+    let row = row(work.alloc)?;
     let mut sum = 0;
     for _ in 0..work.turns {
         sum = mix(sum, read_row(work.alloc, row.as_slice())?);
