@@ -27,7 +27,8 @@ date date_inf time timestamp timestamp_inf timestamptz unix unix_inf interval js
 int2vector oidvector ltree hstore item mood session. After a name [] says arrays, but for the last line, of which
 item alone has arrays; ? may stand there, since every column and element may be NULL.
 --oid item=OID is the OID of \"InventoryItem\" on the server, which stands in cells of its arrays.
-Whole rows alone are written. A fault is told on standard error, with its row or line and its column, and the status is 1.
+Whole rows alone are written. A fault is told on standard error, with its row or line and its column, and the status
+is 1.
 ";
 
 /// Which way a COPY is turned.

@@ -7,8 +7,8 @@ use std::alloc::Global;
 use std::fmt::Debug;
 use std::test::Fail;
 
-/// A table of a format whose values take no memory: each value is written as its cell, and the cell is read as the value,
-/// also where every growth is refused. Each of the other cells is refused with the fault of that number.
+/// A table of a format whose values take no memory: each value is written as its cell, and the cell is read as the
+/// value, also where every growth is refused. Each of the other cells is refused with the fault of that number.
 pub fn has_cells<'a, T: FromSql<'a> + ToSql + PartialEq>(
     alloc: Global,
     ty: &Type,

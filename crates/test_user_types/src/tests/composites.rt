@@ -183,7 +183,8 @@ fn a_purchase_is_written_and_read(rt: HostRuntime) -> Result<(), Fail> {
     spells(alloc, &purchase_type(alloc)?, &[(value, cell.as_slice())])
 }
 
-/// The cell of a purchase is read and written again. What this asks of the fields takes long to prove, so it stands alone.
+/// The cell of a purchase is read and written again. What this asks of the fields takes long to prove, so it stands
+/// alone.
 fn is_rewritten(alloc: Global, ty: &Type, cell: &[u8]) -> Result<(), Fail> {
     rewrites::<Composite<Purchase>>(alloc, ty, cell, cell)
 }

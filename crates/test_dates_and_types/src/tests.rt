@@ -1,0 +1,17 @@
+//! The tests, by topic.
+
+mod catalog;
+mod civil;
+mod copies;
+mod debug;
+mod failing_rows;
+mod faults;
+mod infinities;
+mod intervals;
+mod memory;
+mod names;
+mod timestamps;
+mod types;
+mod user_timestamp;
+mod without_memory;
+mod writing;
