@@ -48,7 +48,8 @@ def find_binaries():
     """Returns the folder of the server's binaries, which root installs where they are absent."""
     if not installed_binaries() and os.geteuid() == 0 and shutil.which("apt-get"):
         say("installing postgresql")
-        command = ["apt-get", "install", "-y", "-q", "postgresql"]
+        # (another script may be installing it)
+        command = ["apt-get", "-o", "DPkg::Lock::Timeout=300", "install", "-y", "-q", "postgresql"]
         subprocess.run(command, stdin=subprocess.DEVNULL, stdout=subprocess.DEVNULL, check=False)
     if not installed_binaries():
         raise NoServer("no PostgreSQL is here; Debian's is installed by `apt-get install postgresql`")
