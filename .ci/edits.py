@@ -118,7 +118,7 @@ def block_name(head):
             if not depth:
                 head = head[at + 1 :]
                 break
-    trait, _, of = head.partition(" where ")[0].rpartition(" for ")
+    trait, _, of = re.split(r"\swhere\s", head)[0].rpartition(" for ")
     return camel(of) + camel(trait)
 
 

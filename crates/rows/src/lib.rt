@@ -3,7 +3,6 @@
 #![tactic(auto)]
 
 pub mod code;
-pub mod damage;
 mod days;
 mod formats;
 mod memory;
@@ -21,7 +20,7 @@ pub use formats::{has_cells, has_functions};
 pub use memory::hoard;
 pub use params::binds;
 pub use plain::{appends, fault_code, parses};
-pub use reading::{read, reads, refusal, refuses};
+pub use reading::{read, reads, refusal, refuses, refuses_fronts};
 pub use refusals::refuses_both;
 use std::fmt::Debug;
 use std::test::Fail;

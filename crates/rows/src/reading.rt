@@ -1,5 +1,6 @@
 //! Rows of reading.
 
+use crate::code::SIZE;
 use crate::same;
 use postgres_types::{Fault, FromSql, Type, from_sql_nullable};
 use std::alloc::Global;
@@ -45,6 +46,22 @@ pub fn refuses<'a, T: FromSql<'a>>(
 ) -> Result<(), Fail> {
     for (cell, code) in rows {
         same(refusal::<T>(alloc, ty, *cell), *code)?;
+    }
+    Ok(())
+}
+
+/// Each proper front of the cell is refused with the fault of its number, from the empty one on, and 0 where it is read; those
+/// without a number have another size than the format's.
+pub fn refuses_fronts<'a, T: FromSql<'a>>(
+    alloc: Global,
+    ty: &Type,
+    cell: &'a [u8],
+    codes: &[u32],
+) -> Result<(), Fail> {
+    for len in 0..cell.len() {
+        let front = &cell[..len];
+        let code = codes.get(len).copied().unwrap_or(SIZE);
+        same((front, refusal::<T>(alloc, ty, Some(front))), (front, code))?;
     }
     Ok(())
 }

@@ -5,7 +5,6 @@ use jiff::civil::{Date, DateTime, Time};
 use postgres_types::Type;
 use postgres_types::protocol::{date_from_sql, date_to_sql, time_from_sql, time_to_sql};
 use rows::code::{DECODE, SIZE, WAS_NULL};
-use rows::damage::{ALL_SIZE, Faults, Sample, forms_of, reads_all_forms};
 use rows::{accepts, displays, has_cells, has_functions, reads, simple_type, writes};
 use std::test::Fail;
 
@@ -236,82 +235,5 @@ fn the_format_of_times_has_every_count(rt: HostRuntime) -> Result<(), Fail> {
         |alloc, v, out| time_to_sql(alloc, v, out),
         |cell| time_from_sql(cell),
         &COUNTS_OF_MICROSECONDS,
-    )
-}
-
-/// Where the byte is not 0, the count is out of range.
-const TOO_FAR: Faults = [0, DECODE, DECODE, DECODE];
-
-/// 1,000 days after 2000-01-01. In the first byte, 7F and 80 are far away, and FF is -16,776,216 days.
-const DATE: Sample = Sample {
-    cell: &[0, 0, 0x03, 0xe8],
-    fronts: ALL_SIZE,
-    altered: &[(2, TOO_FAR), (2, [0; 4])],
-    longer: [SIZE; 4],
-};
-
-/// 05:33:20. A day ends before 14 1DD76000.
-const TIME: Sample = Sample {
-    cell: &[0, 0, 0, 4, 0xa8, 0x17, 0xc8, 0],
-    fronts: ALL_SIZE,
-    altered: &[(4, TOO_FAR), (4, [0; 4])],
-    longer: [SIZE; 4],
-};
-
-/// 2000-01-01 02:46:40. With FF in the first byte it is in the year -284, with FF in the second in the year 4274.
-const TIMESTAMP: Sample = Sample {
-    cell: &[0, 0, 0, 2, 0x54, 0x0b, 0xe4, 0],
-    fronts: ALL_SIZE,
-    altered: &[(1, [0, DECODE, DECODE, 0]), (7, [0; 4])],
-    longer: [SIZE; 4],
-};
-
-#[test]
-fn damaged_dates(rt: HostRuntime) -> Result<(), Fail> {
-    let alloc = rt.alloc();
-    let forms = forms_of(alloc, DATE)?;
-    reads_all_forms::<Date>(alloc, (Type::DATE, Type::DATE_ARRAY), &forms, (24, 144))?;
-    reads_all_forms::<postgres_types::Date<Date>>(
-        alloc,
-        (Type::DATE, Type::DATE_ARRAY),
-        &forms,
-        (24, 144),
-    )
-}
-
-#[test]
-fn damaged_times(rt: HostRuntime) -> Result<(), Fail> {
-    let alloc = rt.alloc();
-    let forms = forms_of(alloc, TIME)?;
-    reads_all_forms::<Time>(alloc, (Type::TIME, Type::TIME_ARRAY), &forms, (44, 164))
-}
-
-#[test]
-fn damaged_timestamps(rt: HostRuntime) -> Result<(), Fail> {
-    let alloc = rt.alloc();
-    let forms = forms_of(alloc, TIMESTAMP)?;
-    reads_all_forms::<DateTime>(
-        alloc,
-        (Type::TIMESTAMP, Type::TIMESTAMP_ARRAY),
-        &forms,
-        (44, 164),
-    )?;
-    reads_all_forms::<postgres_types::Timestamp<DateTime>>(
-        alloc,
-        (Type::TIMESTAMP, Type::TIMESTAMP_ARRAY),
-        &forms,
-        (44, 164),
-    )
-}
-
-#[test]
-fn damaged_timestamps_with_time_zone(rt: HostRuntime) -> Result<(), Fail> {
-    let alloc = rt.alloc();
-    let forms = forms_of(alloc, TIMESTAMP)?;
-    reads_all_forms::<Timestamp>(
-        alloc,
-        (Type::TIMESTAMPTZ, Type::TIMESTAMPTZ_ARRAY),
-        &forms,
-        (44, 164),
     )
 }

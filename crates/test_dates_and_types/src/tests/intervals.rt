@@ -4,7 +4,6 @@ use pg_base::interval::laws::same_interval;
 use postgres_types::protocol::{interval_from_sql, interval_to_sql};
 use postgres_types::{Interval, Type};
 use rows::code::{SIZE, WAS_NULL};
-use rows::damage::{fixed_width, forms_of, reads_all_forms};
 use rows::{accepts, debugs, has_cells, has_functions, holds, refuses_type, rewrites, spells};
 use std::test::Fail;
 
@@ -108,17 +107,4 @@ fn intervals_of_other_parts_are_different(rt: HostRuntime) -> Result<(), Fail> {
     }
     let text = "Interval { microseconds: 1, days: 2, months: 3 }";
     debugs(rt.alloc(), &value, text)
-}
-
-#[test]
-fn damaged_intervals(rt: HostRuntime) -> Result<(), Fail> {
-    let alloc = rt.alloc();
-    let [(_, cell), ..] = INTERVALS;
-    let forms = forms_of(alloc, fixed_width(cell))?;
-    reads_all_forms::<Interval>(
-        alloc,
-        (Type::INTERVAL, Type::INTERVAL_ARRAY),
-        &forms,
-        (84, 204),
-    )
 }

@@ -4,7 +4,6 @@ use pg_base::unix_time::laws::{same_unix_time, unix_time_order};
 use postgres_types::protocol::{timestamp_from_sql, timestamp_to_sql};
 use postgres_types::{Timestamp, Type, UnixTime};
 use rows::code::{SIZE, TRANSMIT, USER, WAS_NULL};
-use rows::damage::{fixed_width, forms_of, reads_all_forms};
 use rows::{
     debugs, has_functions, holds, reads_back, refuses, refuses_both, same, takes_no_memory, unix,
     writes,
@@ -140,23 +139,4 @@ fn timestamps_have_microseconds_from_2000(_rt: HostRuntime) -> Result<(), Fail> 
     let time = unix(1, 0)?;
     same(time.to_postgres_micros(), Some(-946_684_799_000_000))?;
     same(UnixTime::from_postgres_micros(-946_684_799_000_000), time)
-}
-
-/// Every count of microseconds is a value.
-#[test]
-fn damaged_timestamps(rt: HostRuntime) -> Result<(), Fail> {
-    let alloc = rt.alloc();
-    let forms = forms_of(alloc, fixed_width(&[0, 0, 0, 2, 0x54, 0x0b, 0xe4, 0]))?;
-    reads_all_forms::<UnixTime>(
-        alloc,
-        (Type::TIMESTAMP, Type::TIMESTAMP_ARRAY),
-        &forms,
-        (44, 164),
-    )?;
-    reads_all_forms::<Timestamp<UnixTime>>(
-        alloc,
-        (Type::TIMESTAMP, Type::TIMESTAMP_ARRAY),
-        &forms,
-        (44, 164),
-    )
 }

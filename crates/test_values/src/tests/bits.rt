@@ -5,10 +5,10 @@ use postgres_types::private::BytesMut;
 use postgres_types::protocol::{varbit_from_sql, varbit_to_sql};
 use postgres_types::{BitVec, Fault, IsNull, ToSql, Type};
 use rows::code::{COUNT, SIZE, WAS_NULL};
-use rows::damage::{ALL_SIZE, Sample, forms_of, reads_all_forms};
 use rows::without_memory::{answer_without_memory, yes};
 use rows::{
-    holds, null_takes_no_memory, read, reads, refuses, rewrites, same, spells, writes_by_room,
+    holds, null_takes_no_memory, read, reads, refuses, refuses_fronts, rewrites, same, spells,
+    writes_by_room,
 };
 use std::alloc::Global;
 use std::test::Fail;
@@ -67,6 +67,7 @@ fn bits_have_their_cells(rt: HostRuntime) -> Result<(), Fail> {
 fn damaged_bits_are_refused(rt: HostRuntime) -> Result<(), Fail> {
     let alloc = rt.alloc();
     refuses::<BitVec>(alloc, &Type::BIT, &DAMAGED)?;
+    refuses_fronts::<BitVec>(alloc, &Type::VARBIT, &PADDED, &[])?;
     refuses::<BitVec>(alloc, &Type::VARBIT, &DAMAGED)
 }
 
@@ -200,25 +201,4 @@ fn the_format_of_bits_takes_no_memory(rt: HostRuntime) -> Result<(), Fail> {
             "varbit_to_sql",
         )
     })
-}
-
-/// Three bits. Padding is ignored.
-const SAMPLE: Sample = Sample {
-    cell: &[0, 0, 0, 3, 0xa0],
-    fronts: ALL_SIZE,
-    altered: &[
-        (1, [0, SIZE, COUNT, COUNT]),
-        (2, [0, SIZE, SIZE, SIZE]),
-        (1, [SIZE; 4]),
-        (1, [0; 4]),
-    ],
-    longer: [SIZE; 4],
-};
-
-#[test]
-fn damaged_bit_strings(rt: HostRuntime) -> Result<(), Fail> {
-    let alloc = rt.alloc();
-    let forms = forms_of(alloc, SAMPLE)?;
-    reads_all_forms::<BitVec>(alloc, (Type::VARBIT, Type::VARBIT_ARRAY), &forms, (29, 149))?;
-    reads_all_forms::<BitVec>(alloc, (Type::BIT, Type::BIT_ARRAY), &forms, (29, 149))
 }

@@ -3,7 +3,6 @@
 use postgres_types::Type;
 use postgres_types::protocol::{bytea_from_sql, bytea_to_sql, frame_to_sql};
 use rows::code::WAS_NULL;
-use rows::damage::{Sample, forms_of, reads_all_forms};
 use rows::{
     appends, has_cells, holds, null_takes_no_memory, read, refuses, same, writes, writes_by_room,
 };
@@ -82,20 +81,4 @@ fn owned_bytes_are_written_without_memory(rt: HostRuntime) -> Result<(), Fail> {
     let bytes: Vec<u8> = Vec::from_slice(alloc, b"ab")?;
     writes_by_room(alloc, &Type::BYTEA, &bytes, b"ab")?;
     null_takes_no_memory::<Vec<u8>>(alloc, &Type::BYTEA)
-}
-
-/// Any bytes are a value.
-const SAMPLE: Sample = Sample {
-    cell: &[0, b'a', 0xff],
-    fronts: &[(3, 0)],
-    altered: &[(3, [0; 4])],
-    longer: [0; 4],
-};
-
-#[test]
-fn damaged_bytes(rt: HostRuntime) -> Result<(), Fail> {
-    let alloc = rt.alloc();
-    let forms = forms_of(alloc, SAMPLE)?;
-    reads_all_forms::<Vec<u8>>(alloc, (Type::BYTEA, Type::BYTEA_ARRAY), &forms, (19, 139))?;
-    reads_all_forms::<&[u8]>(alloc, (Type::BYTEA, Type::BYTEA_ARRAY), &forms, (19, 139))
 }

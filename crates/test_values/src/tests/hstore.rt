@@ -4,9 +4,10 @@ use postgres_types::private::BytesMut;
 use postgres_types::protocol::{HstoreEntries, hstore_from_sql, hstore_to_sql};
 use postgres_types::{Fault, Type};
 use rows::code::{COUNT, KEY_LENGTH, SIZE, USER, UTF8, WAS_NULL};
-use rows::damage::{ALL_SIZE, Faults, Sample, forms_of, reads_plain};
 use rows::without_memory::{answer_without_memory, gives, yes};
-use rows::{holds, null_takes_no_memory, read, refuses, rewrites, same, simple_type, writes};
+use rows::{
+    holds, null_takes_no_memory, read, refuses, refuses_fronts, rewrites, same, simple_type, writes,
+};
 use std::alloc::{AllocError, Global};
 use std::collections::HashMap;
 use std::hash::{BuildHasherDefault, DefaultHasher};
@@ -172,6 +173,7 @@ const DAMAGED: [(Option<&[u8]>, u32); 16] = [
 fn a_damaged_cell_is_refused_by_its_first_check(rt: HostRuntime) -> Result<(), Fail> {
     let alloc = rt.alloc();
     refuses::<Map>(alloc, &hstore(alloc)?, &DAMAGED)?;
+    refuses_fronts::<Map>(alloc, &hstore(alloc)?, &TWO, &[])?;
     refuses::<Map>(alloc, &Type::TEXT, &[(Some(&NULL), USER)])
 }
 
@@ -239,44 +241,4 @@ fn entries_are_read_and_written_without_memory(rt: HostRuntime) -> Result<(), Fa
 #[test]
 fn null_is_no_map_without_memory(rt: HostRuntime) -> Result<(), Fail> {
     null_takes_no_memory::<Map>(rt.alloc(), &hstore(rt.alloc())?)
-}
-
-/// A byte of 7 bits is a character; 80 and FF are none.
-const ASCII: Faults = [0, 0, UTF8, UTF8];
-
-/// A length is greater than what is left.
-const TOO_LONG: Faults = [0, SIZE, SIZE, SIZE];
-
-/// a => b, c => NULL. The count; then the lengths of keys and values, of which the bytes to the next length follow.
-const SAMPLE: Sample = Sample {
-    cell: &TWO,
-    fronts: ALL_SIZE,
-    altered: &[
-        (1, [0, SIZE, COUNT, COUNT]),
-        (2, TOO_LONG),
-        (1, [SIZE; 4]),
-        (1, [0, SIZE, KEY_LENGTH, KEY_LENGTH]),
-        (2, TOO_LONG),
-        (1, [SIZE; 4]),
-        (1, ASCII),
-        // A negative length is NULL, and the next key's is then 62000000.
-        (3, TOO_LONG),
-        (1, [SIZE; 4]),
-        (1, ASCII),
-        (1, [0, SIZE, KEY_LENGTH, KEY_LENGTH]),
-        (2, TOO_LONG),
-        (1, [SIZE; 4]),
-        (1, ASCII),
-        // NULL, while the length is negative.
-        (1, [SIZE, SIZE, 0, 0]),
-        (3, [0; 4]),
-    ],
-    longer: [SIZE; 4],
-};
-
-#[test]
-fn damaged_hstores(rt: HostRuntime) -> Result<(), Fail> {
-    let alloc = rt.alloc();
-    let forms = forms_of(alloc, SAMPLE)?;
-    reads_plain::<Map>(alloc, hstore(alloc)?, &forms, 119)
 }

@@ -3,10 +3,9 @@
 use postgres_types::private::BytesMut;
 use postgres_types::{IsNull, ToSql, Type};
 use rows::code::{JSON_NUMBER, JSON_TEXT, JSON_VERSION, SIZE, USER, WAS_NULL};
-use rows::damage::{Sample, forms_of, reads_all_forms};
 use rows::{
-    accepts, holds, null_takes_no_memory, read, reads, refusal, refuses, refuses_both, same,
-    simple_type, writes,
+    accepts, holds, null_takes_no_memory, read, reads, refusal, refuses, refuses_both,
+    refuses_fronts, same, simple_type, writes,
 };
 use serde::{Deserialize, Serialize};
 use serde_json::{Value, json};
@@ -107,9 +106,21 @@ fn spaces_and_the_order_of_keys_are_not_kept(rt: HostRuntime) -> Result<(), Fail
 }
 
 /// Texts that are no document, and texts with a number that is no integer of 64 bits.
-const REFUSED_TEXTS: [(&[u8], u32); 17] = [
+const REFUSED_TEXTS: [(&[u8], u32); 29] = [
     (b"", JSON_TEXT),
     (b"{", JSON_TEXT),
+    (b"\0}", JSON_TEXT),
+    (b"\x7f}", JSON_TEXT),
+    (b"\x80}", JSON_TEXT),
+    (b"\xff}", JSON_TEXT),
+    (b"{\0", JSON_TEXT),
+    (b"{\x7f", JSON_TEXT),
+    (b"{\x80", JSON_TEXT),
+    (b"{\xff", JSON_TEXT),
+    (b"{}\0", JSON_TEXT),
+    (b"{}\x7f", JSON_TEXT),
+    (b"{}\x80", JSON_TEXT),
+    (b"{}\xff", JSON_TEXT),
     (b"[1,]", JSON_TEXT),
     (b"nul", JSON_TEXT),
     (b"{}{}", JSON_TEXT),
@@ -139,9 +150,13 @@ fn other_texts_are_refused(rt: HostRuntime) -> Result<(), Fail> {
     Ok(())
 }
 
-const REFUSED_JSONB: [(Option<&[u8]>, u32); 6] = [
+const REFUSED_JSONB: [(Option<&[u8]>, u32); 10] = [
     (Some(&[]), SIZE),
+    (Some(&[0, b'{', b'}']), JSON_VERSION),
     (Some(&[2, b'{', b'}']), JSON_VERSION),
+    (Some(&[0x7f, b'{', b'}']), JSON_VERSION),
+    (Some(&[0x80, b'{', b'}']), JSON_VERSION),
+    (Some(&[0xff, b'{', b'}']), JSON_VERSION),
     (Some(&[b'{', b'}']), JSON_VERSION),
     (Some(&[0]), JSON_VERSION),
     (Some(&[1]), JSON_TEXT),
@@ -265,32 +280,18 @@ fn long_documents_are_read_and_written(rt: HostRuntime) -> Result<(), Fail> {
     holds(out.as_slice() == cell.as_slice(), "another document")
 }
 
-/// The version 1, and the empty object.
-const JSONB: Sample = Sample {
-    cell: b"\x01{}",
-    fronts: &[(1, SIZE), (2, JSON_TEXT)],
-    altered: &[(1, [JSON_VERSION; 4]), (2, [JSON_TEXT; 4])],
-    longer: [JSON_TEXT; 4],
-};
-
-/// The empty object.
-const JSON: Sample = Sample {
-    cell: b"{}",
-    fronts: &[(2, JSON_TEXT)],
-    altered: &[(2, [JSON_TEXT; 4])],
-    longer: [JSON_TEXT; 4],
-};
+/// The array of the empty object.
+const ARRAY: [u8; 27] = [
+    0, 0, 0, 1, 0, 0, 0, 0, 0, 0, 0x0e, 0xda, 0, 0, 0, 1, 0, 0, 0, 1, 0, 0, 0, 3, 1, b'{', b'}',
+];
 
 #[test]
-fn damaged_jsonb(rt: HostRuntime) -> Result<(), Fail> {
+fn fronts_of_documents_are_refused(rt: HostRuntime) -> Result<(), Fail> {
     let alloc = rt.alloc();
-    let forms = forms_of(alloc, JSONB)?;
-    reads_all_forms::<Value>(alloc, (Type::JSONB, Type::JSONB_ARRAY), &forms, (19, 139))
-}
-
-#[test]
-fn damaged_json(rt: HostRuntime) -> Result<(), Fail> {
-    let alloc = rt.alloc();
-    let forms = forms_of(alloc, JSON)?;
-    reads_all_forms::<Value>(alloc, (Type::JSON, Type::JSON_ARRAY), &forms, (14, 134))
+    let jsonb = [SIZE, JSON_TEXT, JSON_TEXT];
+    refuses_fronts::<Value>(alloc, &Type::JSONB, b"\x01{}", &jsonb)?;
+    refuses_fronts::<Value>(alloc, &Type::JSON, b"{}", &[JSON_TEXT; 2])?;
+    refuses_fronts::<Vec<Value>>(alloc, &Type::JSONB_ARRAY, &ARRAY, &[])?;
+    let documents = read::<Vec<Option<Value>>>(alloc, &Type::JSONB_ARRAY, Some(&ARRAY))?;
+    same(documents.len(), 1)
 }

@@ -4,7 +4,6 @@ use pg_base::lsn::laws::{position_order, position_text_parses, same_position};
 use postgres_types::protocol::{lsn_from_sql, lsn_to_sql};
 use postgres_types::{PgLsn, Type};
 use rows::code::{SIZE, USER, WAS_NULL};
-use rows::damage::{fixed_width, forms_of, reads_all_forms};
 use rows::{debugs, displays, has_cells, has_functions, holds, reads, refuses, same};
 use std::cmp::Ordering;
 use std::test::Fail;
@@ -116,11 +115,4 @@ fn positions_are_appended_and_parsed_from_cells(rt: HostRuntime) -> Result<(), F
 fn an_integer_is_no_position(rt: HostRuntime) -> Result<(), Fail> {
     let [(_, cell)] = LSN;
     refuses::<PgLsn>(rt.alloc(), &Type::INT8, &[(Some(cell), USER)])
-}
-
-#[test]
-fn damaged_log_positions(rt: HostRuntime) -> Result<(), Fail> {
-    let alloc = rt.alloc();
-    let forms = forms_of(alloc, fixed_width(&[0, 0, 0, 0x16, 0xb3, 0x74, 0xd8, 0x48]))?;
-    reads_all_forms::<PgLsn>(alloc, (Type::PG_LSN, Type::PG_LSN_ARRAY), &forms, (44, 164))
 }

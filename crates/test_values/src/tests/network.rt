@@ -7,9 +7,10 @@ use postgres_types::protocol::{
 };
 use postgres_types::{Fault, IpCidr, IpInet, MacAddress, Type};
 use rows::code::{ADDRESS_LENGTH, FAMILY, HOST_BITS, NETMASK, SIZE, WAS_NULL};
-use rows::damage::{ALL_SIZE, Faults, Sample, fixed_width, forms_of, reads_all_forms};
 use rows::without_memory::{answer_without_memory, yes};
-use rows::{fault_code, has_cells, has_functions, holds, reads, refusal, rewrites, same};
+use rows::{
+    fault_code, has_cells, has_functions, holds, reads, refusal, refuses_fronts, rewrites, same,
+};
 use std::net::{IpAddr, Ipv4Addr, Ipv6Addr};
 use std::test::Fail;
 use uuid::Uuid;
@@ -144,6 +145,7 @@ fn addresses_with_netmasks_have_their_cells(rt: HostRuntime) -> Result<(), Fail>
         (IpInet::new(ten(1, 2, 3), 8)?, HOST.as_slice()),
     ];
     has_cells(alloc, &Type::INET, &rows, &DAMAGED)?;
+    refuses_fronts::<IpInet>(alloc, &Type::INET, &HOST, &[])?;
     rewrites::<IpInet>(alloc, &Type::INET, &HOST, &HOST)
 }
 
@@ -304,71 +306,4 @@ fn the_format_of_addresses_takes_no_memory(rt: HostRuntime) -> Result<(), Fail> 
         let appended = inet_to_sql(alloc, ten(1, 2, 3), 8, &mut target.out).is_ok();
         yes(appended && target.has(&HOST), "inet_to_sql")
     })
-}
-
-/// 0 is a netmask of IPv4; 127, 128 and 255 are none.
-const NETMASKS: Faults = [0, NETMASK, NETMASK, NETMASK];
-
-/// 10.1.2.3/8
-const INET: Sample = Sample {
-    cell: &[2, 8, 0, 4, 10, 1, 2, 3],
-    fronts: ALL_SIZE,
-    altered: &[
-        (1, [FAMILY; 4]),
-        (1, NETMASKS),
-        (1, [0; 4]),
-        (1, [ADDRESS_LENGTH; 4]),
-        (4, [0; 4]),
-    ],
-    longer: [SIZE; 4],
-};
-
-/// The same with host bits after the netmask, which a network has not: 10.0.0.0/8.
-const CIDR: Sample = Sample {
-    cell: &[2, 8, 0, 4, 10, 0, 0, 0],
-    fronts: ALL_SIZE,
-    altered: &[
-        (1, [FAMILY; 4]),
-        (1, [HOST_BITS, NETMASK, NETMASK, NETMASK]),
-        (1, [0; 4]),
-        (1, [ADDRESS_LENGTH; 4]),
-        (1, [0; 4]),
-        (3, [0, HOST_BITS, HOST_BITS, HOST_BITS]),
-    ],
-    longer: [SIZE; 4],
-};
-
-#[test]
-fn damaged_inets(rt: HostRuntime) -> Result<(), Fail> {
-    let alloc = rt.alloc();
-    let forms = forms_of(alloc, INET)?;
-    reads_all_forms::<IpInet>(alloc, (Type::INET, Type::INET_ARRAY), &forms, (44, 164))?;
-    reads_all_forms::<IpAddr>(alloc, (Type::INET, Type::INET_ARRAY), &forms, (44, 164))
-}
-
-#[test]
-fn damaged_cidrs(rt: HostRuntime) -> Result<(), Fail> {
-    let alloc = rt.alloc();
-    let forms = forms_of(alloc, CIDR)?;
-    reads_all_forms::<IpCidr>(alloc, (Type::CIDR, Type::CIDR_ARRAY), &forms, (44, 164))
-}
-
-#[test]
-fn damaged_mac_addresses(rt: HostRuntime) -> Result<(), Fail> {
-    let alloc = rt.alloc();
-    let forms = forms_of(alloc, fixed_width(&[8, 0, 0x2b, 1, 2, 3]))?;
-    reads_all_forms::<MacAddress>(
-        alloc,
-        (Type::MACADDR, Type::MACADDR_ARRAY),
-        &forms,
-        (34, 154),
-    )
-}
-
-#[test]
-fn damaged_uuids(rt: HostRuntime) -> Result<(), Fail> {
-    let alloc = rt.alloc();
-    let uuid = [1, 2, 3, 4, 5, 6, 7, 8, 9, 10, 11, 12, 13, 14, 15, 16];
-    let forms = forms_of(alloc, fixed_width(&uuid))?;
-    reads_all_forms::<Uuid>(alloc, (Type::UUID, Type::UUID_ARRAY), &forms, (84, 204))
 }

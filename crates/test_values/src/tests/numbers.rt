@@ -7,7 +7,6 @@ use postgres_types::protocol::{
 };
 use postgres_types::{Fault, Type, rewrite, to_sql_checked_as};
 use rows::code::{SIZE, USER, WAS_NULL, WRONG_TYPE};
-use rows::damage::{fixed_width, forms_of, reads_all_forms};
 use rows::{
     accepts, fault_code, has_cells, has_functions, holds, refusal, refuses_value, rewrites, same,
     simple_type, writes, writes_by_room,
@@ -187,46 +186,4 @@ fn a_refused_user_type_leaves_the_buffer(rt: HostRuntime) -> Result<(), Fail> {
     let rewritten = rewrite::<i32>(alloc, &int4, None, &mut out);
     same(fault_code(rewritten), WRONG_TYPE)?;
     holds(out.is_empty(), "appended")
-}
-
-#[test]
-fn damaged_booleans(rt: HostRuntime) -> Result<(), Fail> {
-    let alloc = rt.alloc();
-    let forms = forms_of(alloc, fixed_width(&[1]))?;
-    reads_all_forms::<bool>(alloc, (Type::BOOL, Type::BOOL_ARRAY), &forms, (9, 129))
-}
-
-#[test]
-fn damaged_chars(rt: HostRuntime) -> Result<(), Fail> {
-    let alloc = rt.alloc();
-    let forms = forms_of(alloc, fixed_width(&[0x61]))?;
-    reads_all_forms::<i8>(alloc, (Type::CHAR, Type::CHAR_ARRAY), &forms, (9, 129))
-}
-
-#[test]
-fn damaged_int2s(rt: HostRuntime) -> Result<(), Fail> {
-    let alloc = rt.alloc();
-    let forms = forms_of(alloc, fixed_width(&[0, 5]))?;
-    reads_all_forms::<i16>(alloc, (Type::INT2, Type::INT2_ARRAY), &forms, (14, 134))
-}
-
-#[test]
-fn damaged_int4s(rt: HostRuntime) -> Result<(), Fail> {
-    let alloc = rt.alloc();
-    let forms = forms_of(alloc, fixed_width(&[0, 0, 0, 7]))?;
-    reads_all_forms::<i32>(alloc, (Type::INT4, Type::INT4_ARRAY), &forms, (24, 144))
-}
-
-#[test]
-fn damaged_int8s(rt: HostRuntime) -> Result<(), Fail> {
-    let alloc = rt.alloc();
-    let forms = forms_of(alloc, fixed_width(&[0, 0, 0, 0, 0, 0, 0, 1]))?;
-    reads_all_forms::<i64>(alloc, (Type::INT8, Type::INT8_ARRAY), &forms, (44, 164))
-}
-
-#[test]
-fn damaged_oids(rt: HostRuntime) -> Result<(), Fail> {
-    let alloc = rt.alloc();
-    let forms = forms_of(alloc, fixed_width(&[0, 0, 0, 0x17]))?;
-    reads_all_forms::<u32>(alloc, (Type::OID, Type::OID_ARRAY), &forms, (24, 144))
 }

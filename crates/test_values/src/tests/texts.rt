@@ -6,10 +6,9 @@ use postgres_types::protocol::{
 };
 use postgres_types::{Kind, Type};
 use rows::code::{TEXT_VERSION, UTF8, WAS_NULL};
-use rows::damage::{Faults, Sample, forms_of, reads_all_forms, reads_plain};
 use rows::{
-    accepts, has_cells, has_functions, holds, null_takes_no_memory, read, refuses, same,
-    simple_type, spells, takes_no_memory, user_type, writes, writes_by_room,
+    accepts, has_cells, has_functions, holds, null_takes_no_memory, read, refuses, refuses_fronts,
+    same, simple_type, spells, takes_no_memory, user_type, writes, writes_by_room,
 };
 use std::borrow::CowStr;
 use std::boxed::BoxedStr;
@@ -77,6 +76,7 @@ fn some_texts_have_a_version(rt: HostRuntime) -> Result<(), Fail> {
         let ty = simple_type(alloc, name, 100_001, "app")?;
         spells(alloc, &ty, &VERSIONED)?;
         refuses::<String>(alloc, &ty, &DAMAGED_VERSIONED)?;
+        refuses_fronts::<String>(alloc, &ty, &[1, b'a'], &[TEXT_VERSION, 0])?;
     }
     Ok(())
 }
@@ -180,59 +180,4 @@ fn a_name_decides_whether_a_user_type_is_accepted(rt: HostRuntime) -> Result<(),
     let text = simple_type(alloc, "text", 25, "pg_catalog")?;
     accepts::<String>(&[(citext, true), (text, false)])?;
     accepts::<&str>(&[(Type::JSON, false)])
-}
-
-/// A byte of 7 bits is a character; 80 and FF are none.
-const ASCII: Faults = [0, 0, UTF8, UTF8];
-
-/// The letter a and U+00E9, whose bytes are C3 A9; C3 80 is U+00C0.
-const TEXT_SAMPLE: Sample = Sample {
-    cell: &[b'a', 0xc3, 0xa9],
-    fronts: &[(2, 0), (1, UTF8)],
-    altered: &[(1, ASCII), (1, [UTF8; 4]), (1, [UTF8, UTF8, 0, UTF8])],
-    longer: ASCII,
-};
-
-/// The version 1, and the letter a.
-const LTREE_SAMPLE: Sample = Sample {
-    cell: &[1, b'a'],
-    fronts: &[(1, TEXT_VERSION), (1, 0)],
-    altered: &[(1, [TEXT_VERSION; 4]), (1, ASCII)],
-    longer: ASCII,
-};
-
-#[test]
-fn damaged_texts(rt: HostRuntime) -> Result<(), Fail> {
-    let alloc = rt.alloc();
-    let forms = forms_of(alloc, TEXT_SAMPLE)?;
-    let types = [
-        (Type::TEXT, Type::TEXT_ARRAY),
-        (Type::VARCHAR, Type::VARCHAR_ARRAY),
-        (Type::BPCHAR, Type::BPCHAR_ARRAY),
-        (Type::NAME, Type::NAME_ARRAY),
-    ];
-    for (ty, array) in types {
-        reads_all_forms::<String>(alloc, (ty, array), &forms, (19, 139))?;
-    }
-    reads_plain::<String>(alloc, Type::UNKNOWN, &forms, 19)
-}
-
-#[test]
-fn damaged_texts_of_other_forms(rt: HostRuntime) -> Result<(), Fail> {
-    let alloc = rt.alloc();
-    let forms = forms_of(alloc, TEXT_SAMPLE)?;
-    reads_all_forms::<&str>(alloc, (Type::TEXT, Type::TEXT_ARRAY), &forms, (19, 139))?;
-    reads_all_forms::<CowStr>(alloc, (Type::TEXT, Type::TEXT_ARRAY), &forms, (19, 139))?;
-    reads_all_forms::<BoxedStr>(alloc, (Type::TEXT, Type::TEXT_ARRAY), &forms, (19, 139))
-}
-
-#[test]
-fn damaged_ltrees(rt: HostRuntime) -> Result<(), Fail> {
-    let alloc = rt.alloc();
-    let forms = forms_of(alloc, LTREE_SAMPLE)?;
-    for name in ["ltree", "lquery", "ltxtquery"] {
-        let ty = simple_type(alloc, name, 100_001, "public")?;
-        reads_plain::<String>(alloc, ty, &forms, 14)?;
-    }
-    Ok(())
 }

@@ -4,56 +4,33 @@ use super::cells::{NULL, ONE_AND_TWO};
 use postgres_types::private::read_value;
 use postgres_types::{Fault, Type};
 use rows::code::{COUNT, SIZE};
-use rows::damage::{
-    ALL_SIZE, all_fronts, damaged_rows, fixed_width, forms_of, reads_arrays, reads_damaged,
-};
-use rows::{reads, rewrites, same};
+use rows::{reads, refuses, refuses_fronts, rewrites, same};
 use std::alloc::Global;
 use std::boxed::BoxedSlice;
 use std::test::Fail;
 
-/// A vector's cell is that of an array; the name of its type has no array form.
 #[test]
-fn damaged_vectors_of_int2s(rt: HostRuntime) -> Result<(), Fail> {
-    let forms = forms_of(rt.alloc(), fixed_width(&[0, 5]))?;
-    reads_arrays::<Vec<i16>>(rt.alloc(), Type::INT2_VECTOR, &forms, 134)
-}
-
-#[test]
-fn damaged_vectors_of_oids(rt: HostRuntime) -> Result<(), Fail> {
-    let forms = forms_of(rt.alloc(), fixed_width(&[0, 0, 0, 0x17]))?;
-    reads_arrays::<Vec<u32>>(rt.alloc(), Type::OID_VECTOR, &forms, 144)
-}
-
-#[test]
-fn damaged_arrays_in_other_lists(rt: HostRuntime) -> Result<(), Fail> {
+fn fronts_of_arrays_are_refused(rt: HostRuntime) -> Result<(), Fail> {
     let alloc = rt.alloc();
-    let forms = forms_of(alloc, fixed_width(&[0, 0, 0, 7]))?;
-    reads_arrays::<BoxedSlice<i32>>(alloc, Type::INT4_ARRAY, &forms, 144)?;
-    reads_arrays::<[i32; 1]>(alloc, Type::INT4_ARRAY, &forms, 144)?;
-    reads_arrays::<Box<Vec<i32>>>(alloc, Type::INT4_ARRAY, &forms, 144)
-}
-
-#[test]
-fn fronts_of_arrays(rt: HostRuntime) -> Result<(), Fail> {
-    let fronts = all_fronts(rt.alloc(), &ONE_AND_TWO, ALL_SIZE)?;
-    reads_damaged::<Vec<i32>>(rt.alloc(), Type::INT4_ARRAY, fronts.as_slice(), 36)
+    refuses_fronts::<Vec<i32>>(alloc, &Type::INT4_ARRAY, &ONE_AND_TWO, &[])?;
+    refuses_fronts::<BoxedSlice<i32>>(alloc, &Type::INT4_ARRAY, &ONE_AND_TWO, &[])?;
+    refuses_fronts::<[i32; 2]>(alloc, &Type::INT4_ARRAY, &ONE_AND_TWO, &[])?;
+    refuses_fronts::<Box<Vec<i32>>>(alloc, &Type::INT4_ARRAY, &ONE_AND_TWO, &[])
 }
 
 /// Two elements of at most 2,147,483,647, a negative number of dimensions, and no dimension with a trailing byte.
-const ARRAYS: [(&[u8], u32); 3] = [
+const ARRAYS: [(Option<&[u8]>, u32); 3] = [
     (
-        b"\0\0\0\x01\0\0\0\0\0\0\0\x17\x7f\xff\xff\xff\0\0\0\x01",
+        Some(b"\0\0\0\x01\0\0\0\0\0\0\0\x17\x7f\xff\xff\xff\0\0\0\x01"),
         SIZE,
     ),
-    (b"\x80\0\0\0", COUNT),
-    (b"\0\0\0\0\0\0\0\0\0\0\0\x17\0", SIZE),
+    (Some(b"\x80\0\0\0"), COUNT),
+    (Some(b"\0\0\0\0\0\0\0\0\0\0\0\x17\0"), SIZE),
 ];
 
 #[test]
 fn other_arrays_are_refused(rt: HostRuntime) -> Result<(), Fail> {
-    let cells = damaged_rows(rt.alloc(), &ARRAYS)?;
-    reads_damaged::<Vec<i32>>(rt.alloc(), Type::INT4_ARRAY, cells.as_slice(), 3)
+    refuses::<Vec<i32>>(rt.alloc(), &Type::INT4_ARRAY, &ARRAYS)
 }
 
 /// The array of NULL, whose length is 80000000.
