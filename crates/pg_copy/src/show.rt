@@ -87,11 +87,12 @@ fn push_array_as<'a, T: FromSql<'a> + ToText>(
 ) -> Shown {
     let is_accepted = <Option<Vec<Option<T>>> as FromSql<'a>>::accepts(ty);
     check_type(is_accepted, ty, "Option")?;
-    if has_other_lower_bound(row) {
-        return Err(Fault::user("array with a lower bound other than 1"));
-    }
+    let frame = *row;
     match read_value::<Option<Vec<Option<T>>>>(alloc, ty, row)? {
         None => Ok(false),
+        Some(_) if has_other_lower_bound(frame) => {
+            Err(Fault::user("array with a lower bound other than 1"))
+        }
         Some(elements) => {
             push_array(alloc, elements.as_slice(), text)?;
             Ok(true)
@@ -99,8 +100,8 @@ fn push_array_as<'a, T: FromSql<'a> + ToText>(
     }
 }
 
-/// Whether the frame is that of an array of one dimension whose lower bound is not 1. Lists do not
-/// keep it, and the server's text of such an array begins with its bounds.
+/// Whether the array whose frame begins these bytes, and which is read as a list, has one dimension with a lower bound
+/// other than 1. Lists do not keep it, and the server's text of such an array begins with its bounds.
 fn has_other_lower_bound(frame: &[u8]) -> bool {
     match frame {
         // The length of the cell; its dimensions, flags, the OID of the elements, the length of the

@@ -163,6 +163,17 @@ fn headers_are_looked_at(rt: HostRuntime) -> Result<(), Fail> {
     Ok(())
 }
 
+/// Rows of NULL and a boolean. After the length of NULL comes what an array with a lower bound of 2 could be.
+const NULL_AND_TRUE: &[u8] =
+    b"\0\x02\xff\xff\xff\xff\0\0\0\x01\x01\0\x02\xff\xff\xff\xff\0\0\0\x01\x01\0\x02\xff\xff\xff\xff\0\0\0\x01\x01";
+
+#[test]
+fn null_is_no_array_with_a_lower_bound(rt: HostRuntime) -> Result<(), Fail> {
+    let stream = stream(rt.alloc(), &[NULL_AND_TRUE, TRAILER])?;
+    let outcome = reading(rt.alloc(), &["int4[]", "bool"], stream.as_slice())?;
+    outcome.is(b"\\N\tt\n\\N\tt\n\\N\tt\n", "")
+}
+
 /// A cell of these types is refused so.
 const REFUSED: [(&str, &[u8], &str); 6] = [
     // infinity, 10000-01-01 and 24:00:00, which `jiff` does not have
