@@ -4,7 +4,15 @@
 //! output could not be written, or memory was refused. Nothing else is printed.
 #![tactic(auto)]
 
-use pgcell_lines::run::run;
+mod answer;
+mod base_names;
+mod names;
+mod norm;
+mod request;
+mod run;
+mod user_types;
+
+use run::run;
 use std::process::ExitCode;
 
 fn main(rt: HostRuntime) -> ExitCode {

@@ -1,0 +1,6 @@
+-- The lemmas of this crate's proofs.
+mod Digits
+mod NameLaws
+mod Printing
+mod Requests
+mod Types

@@ -1,0 +1,9 @@
+-- The words of names, of rewriting a cell by a name, and of lines and their answers.
+pub mod Answer
+pub mod BaseNames
+pub mod Forms
+pub mod Names
+pub mod Norm
+pub mod Request
+pub mod Rewritten
+pub mod UserTypes

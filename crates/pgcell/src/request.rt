@@ -1,0 +1,134 @@
+//! What a line asks for.
+ghost use Rattle.std.specs.Prelude.{◌≡◌, ◌∷◌, [], ◌==◌, Some, IfSome, IfNone, IfOk, option_map};
+ghost use Rattle.hex.specs.Hex.{decode_of};
+ghost use Rattle.pgcell.specs.Request.{cell_of_word, lsn_of_text, norm_of, oid_of_word, request_of, view};
+ghost use Rattle.pgcell.specs.Request.{digits_cell, split, type_of};
+ghost use Rattle.postgres_types.specs.Cells.{cell_of};
+
+use crate::names::Name;
+use postgres_types::Oid;
+use std::alloc::AllocError;
+use streams::split::split_once;
+
+/// A line that is well formed.
+#[derive(Debug, Clone, Copy)]
+pub enum Request<'a> {
+    /// `norm NAME CELL`: to rewrite a cell, of which `None` is NULL.
+    Norm(Name<'a>, Option<&'a [u8]>),
+    /// `type OID`: to show a type.
+    TypeOf(Oid),
+    /// `lsn TEXT`: to show a log position.
+    Lsn(&'a str),
+}
+
+impl<'a> Request<'a> {
+    /// What the line asks for, or `None` where it is not well formed. A cell's bytes are put into
+    /// `bytes`, in place of what is there.
+    pub fn parse(line: &'a [u8], bytes: &'a mut Vec<u8>) -> Result<Option<Request<'a>>, AllocError>
+        ensures { IfOk result (λ request. option_map view request ≡ request_of line.now) }
+    {
+        let Some((command, rest)) = split_word(line) else {
+            return Ok(None);
+        };
+        if command == b"norm".as_slice() {
+            return Request::parse_norm(rest, bytes);
+        }
+        if command == b"type".as_slice() {
+            return Ok(Request::parse_type(rest));
+        }
+        if command == b"lsn".as_slice() {
+            return Ok(Request::parse_lsn(rest));
+        }
+        Ok(None)
+    }
+
+    /// What `norm` and these words ask for.
+    fn parse_norm(
+        words: &'a [u8],
+        bytes: &'a mut Vec<u8>,
+    ) -> Result<Option<Request<'a>>, AllocError>
+        ensures { IfOk result (λ request. option_map view request ≡ norm_of words.now) }
+    {
+        let Some((name, cell)) = split_word(words) else {
+            return Ok(None);
+        };
+        let Some(name) = Name::parse(name) else {
+            return Ok(None);
+        };
+        let Some(cell) = parse_cell(cell, bytes)? else {
+            return Ok(None);
+        };
+        Ok(Some(Request::Norm(name, cell)))
+    }
+
+    /// What `type` and this word ask for.
+    fn parse_type(word: &'a [u8]) -> Option<Request<'a>>
+        ensures { option_map view result ≡ option_map type_of (oid_of_word word.now) }
+    {
+        let oid = parse_oid(word)?;
+        Some(Request::TypeOf(oid))
+    }
+
+    /// What `lsn` and this text ask for.
+    fn parse_lsn(text: &'a [u8]) -> Option<Request<'a>>
+        ensures { option_map view result ≡ lsn_of_text text.now }
+    {
+        match str::from_utf8(text) {
+            Ok(text) => Some(Request::Lsn(text)),
+            Err(_) => None,
+        }
+    }
+}
+
+/// The cell that the word spells: `NULL`, `-` for no bytes, or an even, positive number of
+/// hexadecimal digits. Its bytes are put into `bytes`.
+fn parse_cell<'a>(
+    word: &[u8],
+    bytes: &'a mut Vec<u8>,
+) -> Result<Option<Option<&'a [u8]>>, AllocError>
+    ensures { IfOk result (λ cell. option_map cell_of cell ≡ cell_of_word word.now) }
+{
+    match word {
+        b"NULL" => Ok(Some(None)),
+        b"-" => Ok(Some(Some(&[]))),
+        [] => Ok(None),
+        digits => match decode(digits, bytes)? {
+            Some(bytes) => Ok(Some(Some(bytes))),
+            None => Ok(None),
+        },
+    }
+}
+
+/// The bytes that the digits spell, put into `bytes` in place of what is there; `None` where they
+/// spell none.
+fn decode<'a>(digits: &[u8], bytes: &'a mut Vec<u8>) -> Result<Option<&'a [u8]>, AllocError>
+    ensures { IfOk result (λ cell. option_map (λ b. Some b.now) cell ≡ digits_cell (decode_of digits.now)) }
+{
+    bytes.clear();
+    bytes.resize(digits.len() / 2, 0)?;
+    match hex::decode_to_slice(digits, bytes.as_mut_slice()) {
+        Ok(()) => Ok(Some(bytes.as_slice())),
+        Err(_) => Ok(None),
+    }
+}
+
+/// The OID that 1 to 10 decimal digits write.
+fn parse_oid(word: &[u8]) -> Option<Oid>
+    ensures { result ≡ oid_of_word word.now }
+{
+    if word.len() > 10 || word.starts_with(b"+") {
+        return None;
+    }
+    match str::from_utf8(word) {
+        Ok(digits) => digits.parse().ok(),
+        Err(_) => None,
+    }
+}
+
+/// The word before the first space, and what stands after it.
+#[tactic(auto, using(crate::proofs::Requests::split_more, crate::proofs::Requests::split_none))]
+fn split_word(line: &[u8]) -> Option<(&[u8], &[u8])>
+    ensures { option_map (λ parts. (parts.0.now, parts.1.now)) result ≡ split 32 line.now }
+{
+    split_once(line, b' ')
+}

@@ -1,0 +1,63 @@
+-- Answers after answers.
+use Rattle.std.proofs.Common.{◌≡◌, ℕ, List, Option, [], ◌∷◌, ◌++◌, ◌+◌, length, refl, sym, ap, subst, ◌∙◌, append_assoc}
+use Rattle.std.proofs.Math.Seq.{take-append-add}
+use Rattle.std.specs.Io.KnownBytes.{Appends}
+use Rattle.std.proofs.KnownBytes.{Appends-nil, Appends-trans}
+use Rattle.streams.specs.Answers.{Answered, GainsAnswers, WritesAnswers, WritesPart}
+
+pub answered-append : (A : List ℕ → List ℕ → Type 0) (a b : List (List ℕ)) (x y : List ℕ) → Answered A a x
+    → Answered A b y → Answered A (a ++ b) (x ++ y)
+answered-append A [] b x y p q = subst (Answered A b) (sym (ap (λ (l : List ℕ). l ++ y) p)) q
+answered-append A (line ∷ a) b x y p q = record {
+  answer = p.answer;
+  rest = p.rest ++ y;
+  answers = p.answers;
+  is = ap (λ (l : List ℕ). l ++ y) p.is ∙ append_assoc p.answer (10 ∷ p.rest) y;
+  rest_answers = answered-append A a b p.rest y p.rest_answers q;
+}
+
+-- an answer and byte 10 were put after what was there
+pub gains_one : (A : List ℕ → List ℕ → Type 0) (line answer old mid new : List ℕ) → A line answer
+    → mid ≡ old ++ answer → new ≡ mid ++ 10 ∷ []
+    → GainsAnswers A (line ∷ []) old new
+gains_one A line answer old mid new p e f = (
+  answer ++ 10 ∷ [],
+  record { answer = answer; rest = []; answers = p; is = refl; rest_answers = refl },
+  f ∙ ap (λ (l : List ℕ). l ++ 10 ∷ []) e
+      ∙ append_assoc old answer (10 ∷ []),
+)
+
+pub gains_more : (A : List ℕ → List ℕ → Type 0) (a b : List (List ℕ)) (old mid new : List ℕ)
+    → GainsAnswers A a old mid → GainsAnswers A b mid new
+    → GainsAnswers A (a ++ b) old new
+gains_more A a b old mid new p q = (
+  p.0 ++ q.0,
+  answered-append A a b p.0 q.0 p.1 q.1,
+  q.2 ∙ ap (λ (l : List ℕ). l ++ q.0) p.2
+      ∙ append_assoc old p.0 q.0,
+)
+
+-- what was put after nothing is the answers
+pub gained : (A : List ℕ → List ℕ → Type 0) (lines : List (List ℕ)) (old new : List ℕ) → GainsAnswers A lines old new
+    → old ≡ [] → Answered A lines new
+gained A lines old new p none = subst (Answered A lines) (sym (p.2 ∙ ap (λ (l : List ℕ). l ++ p.0) none)) p.1
+
+pub writes_none : (A : List ℕ → List ℕ → Type 0) (o : Option (List ℕ)) → WritesAnswers A [] o o
+writes_none A o = ([], refl, Appends-nil o)
+
+pub writes_more : (A : List ℕ → List ℕ → Type 0) (a b : List (List ℕ)) (o n m : Option (List ℕ))
+    → WritesAnswers A a o n → WritesAnswers A b n m
+    → WritesAnswers A (a ++ b) o m
+writes_more A a b o n m p q = (p.0 ++ q.0, answered-append A a b p.0 q.0 p.1 q.1, Appends-trans o n m _ _ p.2 q.2)
+
+-- a beginning after whole answers
+pub writes_part : (A : List ℕ → List ℕ → Type 0) (a b : List (List ℕ)) (o n m : Option (List ℕ))
+    → WritesAnswers A a o n → WritesPart A b n m
+    → WritesPart A (a ++ b) o m
+writes_part A a b o n m p q = record {
+  text = p.0 ++ q.text;
+  written = length p.0 + q.written;
+  answers = answered-append A a b p.0 q.text p.1 q.answers;
+  appends =
+      subst (Appends o m) (sym (take-append-add p.0 q.text q.written)) (Appends-trans o n m _ _ p.2 q.appends);
+}

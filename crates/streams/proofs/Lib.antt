@@ -1,0 +1,6 @@
+-- The lemmas of this crate's proofs.
+mod Answers
+mod LineLaws
+pub mod Outcomes
+mod Sent
+mod Steps

@@ -1,0 +1,5 @@
+//! Streams of lines, each of which is answered.
+#![tactic(auto)]
+
+pub mod lines;
+pub mod split;
