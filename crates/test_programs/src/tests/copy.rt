@@ -6,7 +6,7 @@ mod dates;
 mod lines;
 mod numbers;
 mod small_values;
-mod streams;
+mod failing_streams;
 mod texts;
 mod tuples;
 mod user_types;
