@@ -3,9 +3,9 @@ use Rattle.std.proofs.Common.{◌≡◌, ℕ, List, Option, [], ◌∷◌, ◌++
 use Rattle.std.proofs.Math.Seq.{take-append-add}
 use Rattle.std.specs.Io.KnownBytes.{Appends}
 use Rattle.std.proofs.KnownBytes.{Appends-nil, Appends-trans}
-use Rattle.streams.specs.Answers.{Answered, GainsAnswers, WritesAnswers, WritesPart}
+use Rattle.streams.specs.Answers.{Answering, Answered, GainsAnswers, WritesAnswers, WritesPart}
 
-pub answered-append : (A : List ℕ → List ℕ → Type 0) (a b : List (List ℕ)) (x y : List ℕ) → Answered A a x
+pub answered-append : (A : Answering) (a b : List (List ℕ)) (x y : List ℕ) → Answered A a x
     → Answered A b y → Answered A (a ++ b) (x ++ y)
 answered-append A [] b x y p q = subst (Answered A b) (sym (ap (λ (l : List ℕ). l ++ y) p)) q
 answered-append A (line ∷ a) b x y p q = record {
@@ -17,7 +17,7 @@ answered-append A (line ∷ a) b x y p q = record {
 }
 
 -- an answer and byte 10 were put after what was there
-pub gains_one : (A : List ℕ → List ℕ → Type 0) (line answer old mid new : List ℕ) → A line answer
+pub gains_one : (A : Answering) (line answer old mid new : List ℕ) → A line answer
     → mid ≡ old ++ answer → new ≡ mid ++ 10 ∷ []
     → GainsAnswers A (line ∷ []) old new
 gains_one A line answer old mid new p e f = (
@@ -27,7 +27,7 @@ gains_one A line answer old mid new p e f = (
       ∙ append_assoc old answer (10 ∷ []),
 )
 
-pub gains_more : (A : List ℕ → List ℕ → Type 0) (a b : List (List ℕ)) (old mid new : List ℕ)
+pub gains_more : (A : Answering) (a b : List (List ℕ)) (old mid new : List ℕ)
     → GainsAnswers A a old mid → GainsAnswers A b mid new
     → GainsAnswers A (a ++ b) old new
 gains_more A a b old mid new p q = (
@@ -38,20 +38,20 @@ gains_more A a b old mid new p q = (
 )
 
 -- what was put after nothing is the answers
-pub gained : (A : List ℕ → List ℕ → Type 0) (lines : List (List ℕ)) (old new : List ℕ) → GainsAnswers A lines old new
+pub gained : (A : Answering) (lines : List (List ℕ)) (old new : List ℕ) → GainsAnswers A lines old new
     → old ≡ [] → Answered A lines new
 gained A lines old new p none = subst (Answered A lines) (sym (p.2 ∙ ap (λ (l : List ℕ). l ++ p.0) none)) p.1
 
-pub writes_none : (A : List ℕ → List ℕ → Type 0) (o : Option (List ℕ)) → WritesAnswers A [] o o
+pub writes_none : (A : Answering) (o : Option (List ℕ)) → WritesAnswers A [] o o
 writes_none A o = ([], refl, Appends-nil o)
 
-pub writes_more : (A : List ℕ → List ℕ → Type 0) (a b : List (List ℕ)) (o n m : Option (List ℕ))
+pub writes_more : (A : Answering) (a b : List (List ℕ)) (o n m : Option (List ℕ))
     → WritesAnswers A a o n → WritesAnswers A b n m
     → WritesAnswers A (a ++ b) o m
 writes_more A a b o n m p q = (p.0 ++ q.0, answered-append A a b p.0 q.0 p.1 q.1, Appends-trans o n m _ _ p.2 q.2)
 
 -- a beginning after whole answers
-pub writes_part : (A : List ℕ → List ℕ → Type 0) (a b : List (List ℕ)) (o n m : Option (List ℕ))
+pub writes_part : (A : Answering) (a b : List (List ℕ)) (o n m : Option (List ℕ))
     → WritesAnswers A a o n → WritesPart A b n m
     → WritesPart A (a ++ b) o m
 writes_part A a b o n m p q = record {

@@ -2,7 +2,7 @@
 use Rattle.std.proofs.Common.{arith, length, ◌≡◌, ℕ, List, [], ◌∷◌, ◌++◌, refl, sym, ap, ◌∙◌, append_assoc}
 use Rattle.std.proofs.Common.{if◌then◌else◌}
 use Rattle.streams.specs.Lines.{lines_of, onto, IsOneLine}
-use Rattle.streams.specs.Answers.{GainsAnswers, TakesLines, TakesSome}
+use Rattle.streams.specs.Answers.{Answering, GainsAnswers, TakesLines, TakesSome}
 use Rattle.streams.proofs.Answers.{gains_more}
 
 pub one_line-append : (xs ys : List ℕ) → IsOneLine xs → IsOneLine ys → IsOneLine (xs ++ ys)
@@ -34,12 +34,12 @@ pub last_line : (xs : List ℕ) → IsOneLine xs → (length xs ≡ 0 → ⊥) �
 last_line [] p h = absurd (h refl)
 last_line (x ∷ xs) p h = lines_of-last x xs p
 
-pub takes_some : (A : List ℕ → List ℕ → Type 0) (xs line old new : List ℕ) → TakesLines A xs line old new
+pub takes_some : (A : Answering) (xs line old new : List ℕ) → TakesLines A xs line old new
     → TakesSome A xs old new
 takes_some A xs line old new t = (t.0, λ more. (lines_of (line ++ more), t.1 more), t.2)
 
 -- the next line is taken
-pub takes_next : (A : List ℕ → List ℕ → Type 0) (xs line last after old mid new : List ℕ) → IsOneLine line
+pub takes_next : (A : Answering) (xs line last after old mid new : List ℕ) → IsOneLine line
     → IsOneLine last
     → TakesLines A xs (line ++ (last ++ 10 ∷ after)) old mid → GainsAnswers A ((line ++ last) ∷ []) mid new
     → TakesLines A xs after old new

@@ -5,12 +5,12 @@ use Rattle.std.proofs.Math.Seq.{take-append_seam}
 use Rattle.std.specs.Io.KnownBytes.{Appends, Consumes, Keeps, IsAtEnd}
 use Rattle.std.proofs.KnownBytes.{Appends-kept}
 use Rattle.streams.specs.Lines.{lines_of}
-use Rattle.streams.specs.Answers.{WritesAnswers, WritesPart, AnswersAll, AnswersSome, AnswersPart, Splits, TakesLines}
-use Rattle.streams.specs.Answers.{TakesSome, IsUnderWay}
+use Rattle.streams.specs.Answers.{Answering, WritesAnswers, WritesPart, AnswersAll, AnswersSome, AnswersPart, Splits}
+use Rattle.streams.specs.Answers.{TakesLines, TakesSome, IsUnderWay}
 use Rattle.streams.proofs.Answers.{gained, writes_more, writes_part}
 use Rattle.streams.proofs.LineLaws.{takes_some}
 
-pub under_way-kept : (A : List ℕ → List ℕ → Type 0) (a b d o n : Option (List ℕ)) (line : List ℕ)
+pub under_way-kept : (A : Answering) (a b d o n : Option (List ℕ)) (line : List ℕ)
     → IsUnderWay A a b o n line → Keeps b d
     → IsUnderWay A a d o n line
 under_way-kept A None b d o n line u k = tt
@@ -29,19 +29,19 @@ first_lines : (x : List ℕ) (done rest : List (List ℕ)) → lines_of x ≡ do
     ≡ take (length done) (lines_of x)
 first_lines x done rest e = sym (ap (λ (l : List (List ℕ)). take (length done) l) e ∙ take-append_seam done rest)
 
-answers_first : (A : List ℕ → List ℕ → Type 0) (x : List ℕ) (done rest : List (List ℕ)) (o n : Option (List ℕ))
+answers_first : (A : Answering) (x : List ℕ) (done rest : List (List ℕ)) (o n : Option (List ℕ))
     → lines_of x ≡ done ++ rest
     → WritesAnswers A done o n → AnswersSome A (Some x) o n
 answers_first A x done rest o n e w =
     (length done, subst (λ (l : List (List ℕ)). WritesAnswers A l o n) (first_lines x done rest e) w)
 
-answers_part : (A : List ℕ → List ℕ → Type 0) (x : List ℕ) (done rest : List (List ℕ)) (o n : Option (List ℕ))
+answers_part : (A : Answering) (x : List ℕ) (done rest : List (List ℕ)) (o n : Option (List ℕ))
     → lines_of x ≡ done ++ rest
     → WritesPart A done o n → AnswersPart A (Some x) o n
 answers_part A x done rest o n e w =
     (length done, subst (λ (l : List (List ℕ)). WritesPart A l o n) (first_lines x done rest e) w)
 
-pub under_way-some : (A : List ℕ → List ℕ → Type 0) (a b o n : Option (List ℕ)) (line : List ℕ)
+pub under_way-some : (A : Answering) (a b o n : Option (List ℕ)) (line : List ℕ)
     → IsUnderWay A a b o n line → AnswersSome A a o n
 under_way-some A None b o n line u = tt
 under_way-some A (Some x) None o n line u = absurd u
@@ -65,8 +65,8 @@ splits_taken x line y block z next done more s k t = λ after.
     (t (z ++ after) ∙ ap (λ (l : List ℕ). more ++ lines_of l) (sym (append_assoc next z after)))
     ∙ sym (append_assoc done more _)
 
-pub under_way-taken : (A : List ℕ → List ℕ
-    → Type 0) (a b d o n m : Option (List ℕ)) (line next block old new : List ℕ) → IsUnderWay A a b o n line
+pub under_way-taken : (A : Answering) (a b d o n m : Option (List ℕ)) (line next block old new : List ℕ)
+    → IsUnderWay A a b o n line
     → Consumes b d block
     → TakesLines A (line ++ block) next old new → old ≡ [] → Appends n m new → IsUnderWay A a d o m next
 under_way-taken A None b d o n m line next block old new u k t none w = tt
@@ -85,7 +85,7 @@ lines_begun : (x line y block z : List ℕ) (done more rest : List (List ℕ)) �
 lines_begun x line y block z done more rest e k f =
     lines_after x line y block z done e k ∙ ap (λ (l : List (List ℕ)). done ++ l) f ∙ sym (append_assoc done more rest)
 
-pub under_way-stopped : (A : List ℕ → List ℕ → Type 0) (a b d o n m : Option (List ℕ)) (line block old new : List ℕ)
+pub under_way-stopped : (A : Answering) (a b d o n m : Option (List ℕ)) (line block old new : List ℕ)
     → IsUnderWay A a b o n line
     → Consumes b d block
     → TakesSome A (line ++ block) old new → old ≡ [] → Appends n m new → AnswersSome A a o m
@@ -97,8 +97,8 @@ under_way-stopped A (Some x) (Some y) (Some z) o n m line block old new u k t no
     (lines_begun x line y block z u.0 t.0 _ (whole x (line ++ y) u.0 u.1) k (t.1 z).1)
     (writes_more A u.0 t.0 o n m u.2 (new, gained A t.0 old new t.2 none, w))
 
-pub under_way-partial : (A : List ℕ → List ℕ
-    → Type 0) (a b d o n m : Option (List ℕ)) (line block old new : List ℕ) (j : ℕ) → IsUnderWay A a b o n line
+pub under_way-partial : (A : Answering) (a b d o n m : Option (List ℕ)) (line block old new : List ℕ) (j : ℕ)
+    → IsUnderWay A a b o n line
     → Consumes b d block
     → TakesSome A (line ++ block) old new → old ≡ [] → Appends n m (take j new) → AnswersPart A a o m
 under_way-partial A None b d o n m line block old new j u k t none w = tt
@@ -111,7 +111,7 @@ under_way-partial A (Some x) (Some y) (Some z) o n m line block old new j u k t 
     (record { text = new; written = j; answers = gained A t.0 old new t.2 none; appends = w }))
 
 -- either way, some lines were taken
-pub takes_either : (A : List ℕ → List ℕ → Type 0) {T E : Type 0} (r : Result T E) (xs next old new : List ℕ)
+pub takes_either : (A : Answering) {T E : Type 0} (r : Result T E) (xs next old new : List ℕ)
     → OnOk r (TakesLines A xs next old new)
     → OnErr r (TakesSome A xs old new) → TakesSome A xs old new
 takes_either A (Ok x) xs next old new t s = takes_some A xs next old new t
@@ -124,7 +124,7 @@ at_end x line y z done e k end =
     e ∙ ap (λ (l : List ℕ). done ++ lines_of (line ++ l)) (k ∙ end)
     ∙ ap (λ (l : List ℕ). done ++ lines_of l) (append-nil line)
 
-pub under_way-all : (A : List ℕ → List ℕ → Type 0) (a b d o n m : Option (List ℕ)) (line : List ℕ)
+pub under_way-all : (A : Answering) (a b d o n m : Option (List ℕ)) (line : List ℕ)
     → IsUnderWay A a b o n line → Consumes b d []
     → IsAtEnd d
     → WritesAnswers A (lines_of line) n m → AnswersAll A a o m
@@ -135,7 +135,7 @@ under_way-all A (Some x) (Some y) (Some z) o n m line u k end w =
     subst (λ (l : List (List ℕ)). WritesAnswers A l o m)
     (sym (at_end x line y z u.0 (whole x (line ++ y) u.0 u.1) k end)) (writes_more A u.0 (lines_of line) o n m u.2 w)
 
-pub under_way-unfinished : (A : List ℕ → List ℕ → Type 0) (a b o n m : Option (List ℕ)) (line : List ℕ)
+pub under_way-unfinished : (A : Answering) (a b o n m : Option (List ℕ)) (line : List ℕ)
     → IsUnderWay A a b o n line → Keeps n m
     → AnswersSome A a o m
 under_way-unfinished A None b o n m line u w = tt
@@ -143,7 +143,7 @@ under_way-unfinished A (Some x) None o n m line u w = absurd u
 under_way-unfinished A (Some x) (Some y) o n m line u w =
     answers_first A x u.0 _ o m (whole x (line ++ y) u.0 u.1) (u.2.0, u.2.1, Appends-kept o n m _ u.2.2 w)
 
-pub under_way-end_partial : (A : List ℕ → List ℕ → Type 0) (a b d o n m : Option (List ℕ)) (line : List ℕ)
+pub under_way-end_partial : (A : Answering) (a b d o n m : Option (List ℕ)) (line : List ℕ)
     → IsUnderWay A a b o n line → Consumes b d []
     → IsAtEnd d
     → WritesPart A (lines_of line) n m → AnswersPart A a o m

@@ -5,7 +5,7 @@
 
 ghost use Rattle.std.specs.Prelude.{◌≡◌, ◌≢◌, ℕ, ◌≤◌, List, [], ◌∷◌, ◌++◌, take, length, OnOk, OnErr, IfErr};
 ghost use Rattle.std.specs.Io.KnownBytes.{Appends, Keeps};
-ghost use Rattle.streams.specs.Answers.{GainsAnswers, WritesAnswers, WritesPart, AnswersAll, AnswersSome};
+ghost use Rattle.streams.specs.Answers.{Answering, GainsAnswers, WritesAnswers, WritesPart, AnswersAll, AnswersSome};
 ghost use Rattle.streams.specs.Answers.{AnswersPart, AnswersGiven, TakesLines, TakesSome};
 ghost use Rattle.streams.specs.Lines.{lines_of, IsOneLine};
 
@@ -16,7 +16,7 @@ use std::io::{ErrorKind, Read, Write};
 /// What answers lines.
 pub trait AnswerLine {
     /// The text answers the line.
-    ghost answers: { List ℕ → List ℕ → Type 0 };
+    ghost answers: { Answering };
 
     /// Appends the answer to a line, without a byte 10. Where memory is refused, what is pending
     /// stays as it was.

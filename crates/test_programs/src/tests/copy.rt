@@ -3,10 +3,10 @@
 mod calendar;
 mod command_lines;
 mod dates;
+mod failing_streams;
 mod lines;
 mod numbers;
 mod small_values;
-mod failing_streams;
 mod texts;
 mod tuples;
 mod user_types;

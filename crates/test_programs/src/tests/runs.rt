@@ -75,11 +75,22 @@ fn interrupted_streams_change_no_answer(rt: HostRuntime) -> Result<(), Fail> {
     Ok(())
 }
 
-/// How many bytes the lines that end in the text have.
-fn ended_in(text: &[u8]) -> usize {
-    text.iter()
-        .rposition(|&byte| byte == b'\n')
-        .map_or(0, |place| place.saturating_add(1))
+/// How many bytes the lines have that end in the first `given` bytes.
+fn ended_in(given: usize) -> usize {
+    let mut ended = 0;
+    for (place, byte) in LINES.iter().enumerate().take(given) {
+        if *byte == b'\n' {
+            ended = place.saturating_add(1);
+        }
+    }
+    ended
+}
+
+/// The run failed so, after the first `count` bytes of the answers.
+fn failed_after(is_fault: bool, taken: &[u8], count: usize) -> Result<(), Fail> {
+    holds(is_fault, "another outcome")?;
+    same(taken.len(), count)?;
+    holds(LINES.starts_with(taken), "another answer")
 }
 
 /// A reader that fails after `left` bytes leaves the answers to the lines that ended in them.
@@ -88,8 +99,8 @@ fn fails_to_read(alloc: Global, step: usize, left: usize) -> Result<(), Fail> {
     let mut input = Pieces { rest, step, left };
     let mut taken = Vec::new(alloc);
     let outcome = answer_lines(alloc, &mut Echo, &mut input, &mut taken);
-    holds(matches!(outcome, Err(RunFault::Read)), "no failed read")?;
-    same(taken.as_slice(), &LINES[..ended_in(&LINES[..left])])
+    let is_read = matches!(outcome, Err(RunFault::Read));
+    failed_after(is_read, taken.as_slice(), ended_in(left))
 }
 
 #[test]
@@ -102,17 +113,23 @@ fn a_reader_may_fail_at_each_byte(rt: HostRuntime) -> Result<(), Fail> {
     Ok(())
 }
 
-/// A writer that fails, or takes nothing, after `room` bytes took the first of the answers.
+/// A writer that fails after `room` bytes took the first of the answers.
 fn fails_to_write(alloc: Global, step: usize, room: usize) -> Result<(), Fail> {
-    let mut failing = Narrow::new(alloc, step, room);
-    let outcome = answer_lines(alloc, &mut Echo, &mut { LINES }, &mut failing);
-    holds(matches!(outcome, Err(RunFault::Write)), "no failed write")?;
-    same(failing.taken.as_slice(), &LINES[..room])?;
+    let mut input = LINES;
+    let mut output = Narrow::new(alloc, step, room);
+    let outcome = answer_lines(alloc, &mut Echo, &mut input, &mut output);
+    let is_write = matches!(outcome, Err(RunFault::Write));
+    failed_after(is_write, output.taken.as_slice(), room)
+}
+
+/// And so did one that takes nothing after `room` bytes.
+fn stalls(alloc: Global, room: usize) -> Result<(), Fail> {
+    let mut input = LINES;
     let taken = Vec::new(alloc);
-    let mut stalled = Stalled { taken, room };
-    let outcome = answer_lines(alloc, &mut Echo, &mut { LINES }, &mut stalled);
-    holds(matches!(outcome, Err(RunFault::Write)), "no failed write")?;
-    same(stalled.taken.as_slice(), &LINES[..room])
+    let mut output = Stalled { taken, room };
+    let outcome = answer_lines(alloc, &mut Echo, &mut input, &mut output);
+    let is_write = matches!(outcome, Err(RunFault::Write));
+    failed_after(is_write, output.taken.as_slice(), room)
 }
 
 #[test]
@@ -121,6 +138,7 @@ fn a_writer_may_fail_at_each_byte(rt: HostRuntime) -> Result<(), Fail> {
         for step in STEPS {
             fails_to_write(rt.alloc(), step, room)?;
         }
+        stalls(rt.alloc(), room)?;
     }
     Ok(())
 }
