@@ -50,8 +50,8 @@ pub fn refuses<'a, T: FromSql<'a>>(
     Ok(())
 }
 
-/// Each proper front of the cell is refused with the fault of its number, from the empty one on, and 0 where it is read; those
-/// without a number have another size than the format's.
+/// Each proper front of the cell is refused with the fault of its number, from the empty one on, and 0
+/// where it is read; those without a number have another size than the format's.
 pub fn refuses_fronts<'a, T: FromSql<'a>>(
     alloc: Global,
     ty: &Type,
