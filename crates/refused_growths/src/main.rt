@@ -2,7 +2,7 @@
 //! refused growth. It fails where a row has another answer than its own or out of memory, or where a refusal left
 //! something.
 //!
-//! `.ci/refuse-growths` runs it with each growth of memory refused.
+//! `.ci/memory` runs it with each growth of memory refused.
 #![tactic(auto)]
 
 mod arrays;
@@ -12,6 +12,7 @@ mod outcome;
 mod params;
 mod small_values;
 mod texts;
+mod texts_in_arrays;
 mod timestamps;
 mod types;
 
@@ -25,6 +26,7 @@ fn main(rt: HostRuntime) -> ExitCode {
     frames::rows(alloc, &mut tally);
     small_values::rows(alloc, &mut tally);
     texts::rows(alloc, &mut tally);
+    texts_in_arrays::rows(alloc, &mut tally);
     timestamps::rows(alloc, &mut tally);
     params::rows(alloc, &mut tally);
     types::rows(alloc, &mut tally);

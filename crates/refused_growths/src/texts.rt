@@ -49,6 +49,7 @@ pub fn rows(alloc: Global, tally: &mut Tally) {
         ("a map", reads_map(alloc)),
         ("a map, rewritten", rewrites_map(alloc)),
         ("a map of two", writes_map(alloc)),
+        ("a truncated map", refuses_map(alloc)),
         ("an ltree", writes_ltree(alloc)),
         ("an ltree without a version", refuses_ltree(alloc)),
     ]);
@@ -87,6 +88,10 @@ fn writes_map(alloc: Global) -> Result<(), RowFault> {
     let value = String::from_str(alloc, "b")?;
     map.insert(String::from_str(alloc, "a")?, Some(value))?;
     writes(alloc, &map, &hstore(alloc)?, &TWO)
+}
+
+fn refuses_map(alloc: Global) -> Result<(), RowFault> {
+    refuses::<Map>(alloc, &hstore(alloc)?, Some(&TWO[..22]), SIZE)
 }
 
 fn writes_ltree(alloc: Global) -> Result<(), RowFault> {

@@ -10,6 +10,7 @@ mod refusals;
 mod refused_fields;
 mod session_ids;
 mod timestamps;
+mod unequal_values;
 mod user_defined;
 mod view;
 mod wrappers;

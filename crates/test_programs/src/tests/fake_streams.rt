@@ -88,6 +88,26 @@ impl Write for Stalled {
     }
 }
 
+/// Would block at each call.
+#[derive(Drop)]
+pub struct Blocked;
+
+impl Read for Blocked {
+    fn read(&mut self, _: &mut [u8]) -> io::Result<usize> {
+        Err(Error::from(ErrorKind::WouldBlock))
+    }
+}
+
+impl Write for Blocked {
+    fn write(&mut self, _: &[u8]) -> io::Result<usize> {
+        Err(Error::from(ErrorKind::WouldBlock))
+    }
+
+    fn flush(&mut self) -> io::Result<()> {
+        Ok(())
+    }
+}
+
 /// Is interrupted at every other call, the first one too.
 #[derive(Drop)]
 pub struct Disturbed<T> {

@@ -1,7 +1,7 @@
 //! Tests of runs over lines, by readers and writers that give, take or fail in pieces.
 ghost use Rattle.std.specs.Prelude.{◌≡◌};
 
-use super::fake_streams::{Disturbed, Narrow, Pieces, ROOM, Stalled};
+use super::fake_streams::{Blocked, Disturbed, Narrow, Pieces, ROOM, Stalled};
 use rows::{hoard, holds, same};
 use std::alloc::{AllocError, Global};
 use std::test::Fail;
@@ -73,6 +73,27 @@ fn interrupted_streams_change_no_answer(rt: HostRuntime) -> Result<(), Fail> {
         same(output.inner.taken.as_slice(), LINES)?;
     }
     Ok(())
+}
+
+#[test]
+fn streams_may_move_a_byte_at_a_time_for_long(rt: HostRuntime) -> Result<(), Fail> {
+    let mut text = Vec::new(rt.alloc());
+    text.resize(4 * BLOCK, b'6')?;
+    let mut input = Pieces::new(text.as_slice(), 1);
+    let mut output = Narrow::new(rt.alloc(), 1, ROOM);
+    answer_lines(rt.alloc(), &mut Echo, &mut input, &mut output)?;
+    text.push(b'\n')?;
+    holds(output.taken == text, "another answer to a long line")
+}
+
+#[test]
+fn a_stream_that_would_block_has_failed(rt: HostRuntime) -> Result<(), Fail> {
+    let mut taken = Vec::new(rt.alloc());
+    let outcome = answer_lines(rt.alloc(), &mut Echo, &mut Blocked, &mut taken);
+    failed_after(matches!(outcome, Err(RunFault::Read)), taken.as_slice(), 0)?;
+    let mut input = LINES;
+    let outcome = answer_lines(rt.alloc(), &mut Echo, &mut input, &mut Blocked);
+    holds(matches!(outcome, Err(RunFault::Write)), "another outcome")
 }
 
 /// How many bytes the lines have that end in the first `given` bytes.
