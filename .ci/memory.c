@@ -58,7 +58,7 @@ static int is_refused(long more) {
     return 1;
 }
 
-/* Counts a block in use, or as many times as `sign` says. */
+/* Counts a block that is in use from now on, where the sign is 1, or no longer, where it is -1. */
 static void count(void *block, int sign) {
     if (block) {
         blocks += sign;
