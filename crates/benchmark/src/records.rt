@@ -1,10 +1,11 @@
 //! A composite type of three fields.
 
 use crate::values::{FromSeed, Seed};
-use crate::work::{Made, Work, measure, user_type};
+use crate::work::{Made, Work, measure};
 use pg_record::InventoryItem;
+use pg_record::types::item_type;
+use postgres_types::Fault;
 use postgres_types::private::BytesMut;
-use postgres_types::{Fault, Field, Kind, Type};
 use std::alloc::Global;
 
 /// Does the case of that name, where it is of this file.
@@ -13,21 +14,6 @@ pub fn run(name: &str, work: Work, frames: &mut BytesMut) -> Made {
         "item" => Some(items(work, frames)),
         _ => None,
     }
-}
-
-/// A field of that name and type.
-fn field(alloc: Global, name: &str, ty: Type) -> Result<Field, Fault> {
-    Ok(Field::new(String::from_str(alloc, name)?, ty))
-}
-
-/// The composite type of the items.
-fn item_type(alloc: Global) -> Result<Type, Fault> {
-    let fields = vec![in alloc;
-        field(alloc, "name", Type::TEXT)?,
-        field(alloc, "supplier_id", Type::INT4)?,
-        field(alloc, "price", Type::INT8)?,
-    ]?;
-    user_type(alloc, "InventoryItem", 100_003, Kind::Composite(fields))
 }
 
 /// An item, of which every eighth has no price.
@@ -45,6 +31,6 @@ impl FromSeed for InventoryItem {
 }
 
 fn items(work: Work, frames: &mut BytesMut) -> Result<u64, Fault> {
-    let ty = item_type(work.alloc)?;
+    let ty = item_type(work.alloc, 100_003)?;
     measure::<InventoryItem>(work, frames, &ty)
 }

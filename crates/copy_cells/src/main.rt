@@ -6,14 +6,16 @@
 #![tactic(auto)]
 
 use anyhow::{Result, bail};
+use named_types::{Base, Program};
 use pg_copy::arguments::{Request, parse};
 use pg_copy::columns::Column;
 use pg_copy::read::read;
 use pg_copy::write::write;
 use std::alloc::Global;
 use std::env;
+use std::fmt::Write;
 
-/// What `--help` prints.
+/// What `--help` prints before the names of types.
 const HELP: &str = "\
 copy_cells read [--oid NAME=OID].. TYPE.. reads a binary COPY of columns of these types, and writes each row as a line
 of COPY's text format:
@@ -22,10 +24,11 @@ copy_cells write [--oid NAME=OID].. TYPE.. reads such lines, and writes a binary
     copy_cells write int8 text timestamptz < lines | psql -c 'COPY t FROM STDIN (FORMAT binary)'
 copy_read and copy_write stand for these two commands. Values are written, and read, as the server writes them with
 DateStyle ISO, TimeZone UTC and IntervalStyle postgres.
-Types: bool char int2 int4 int8 oid text varchar bpchar name bytea bit varbit inet addr cidr macaddr uuid pg_lsn
-date date_inf time timestamp timestamp_inf timestamptz unix unix_inf interval json jsonb
-int2vector oidvector ltree hstore item mood session. After a name [] says arrays, but for the last line, of which
-item alone has arrays; ? may stand there, since every column and element may be NULL.
+";
+
+/// What it prints after them.
+const NOTES: &str = "\
+After a name [] says arrays, but for the last types; ? may stand there, since every column and element may be NULL.
 --oid item=OID is the OID of \"InventoryItem\" on the server, which stands in cells of its arrays.
 Whole rows alone are written. A fault is told on standard error, with its row or line and its column, and the status
 is 1.
@@ -43,7 +46,7 @@ enum Direction {
 fn main(rt: HostRuntime) -> Result<()> {
     let words: Vec<String> = env::args(&rt)?.skip(1).collect(rt.alloc())?;
     let Some((direction, columns)) = asked(rt.alloc(), words.as_slice())? else {
-        return Ok(rt.print(HELP)?);
+        return help(&rt);
     };
     let (alloc, mut input, mut output) = (rt.alloc(), rt.stdin(), rt.stdout());
     match direction {
@@ -51,6 +54,26 @@ fn main(rt: HostRuntime) -> Result<()> {
         Direction::Write => write(alloc, columns.as_slice(), &mut input, &mut output)?,
     }
     Ok(())
+}
+
+/// Prints what `--help` asks for.
+fn help(rt: &HostRuntime) -> Result<()> {
+    rt.print(HELP)?;
+    let with_arrays = names(rt.alloc(), true)?;
+    let without_arrays = names(rt.alloc(), false)?;
+    println!(rt; "Types:{with_arrays}\nand{without_arrays}")?;
+    Ok(rt.print(NOTES)?)
+}
+
+/// The base names of a COPY that have arrays, or have none, with a space before each.
+fn names(alloc: Global, has_arrays: bool) -> Result<String> {
+    let mut names = String::new(alloc);
+    for base in Base::ALL {
+        if Program::Copy.knows(base) && base.has_arrays() == has_arrays {
+            write!(names, " {}", base.name())?;
+        }
+    }
+    Ok(names)
 }
 
 /// The direction and the columns that the words of a command line ask for, or `None` where they ask for help.

@@ -2,7 +2,5 @@
 mod CopyLaws
 mod EscapeLaws
 mod LineLaws
-mod Outcomes
 mod OutputLaws
-mod Sent
 mod TupleLaws

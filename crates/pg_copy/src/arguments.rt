@@ -1,7 +1,6 @@
 //! The command line: options, and the types of the columns.
 
 use crate::columns::Column;
-use crate::names::column;
 use crate::user_types::Oids;
 use postgres_types::Oid;
 use std::alloc::{AllocError, AllocFailed, Global};
@@ -116,7 +115,7 @@ fn columns(alloc: Global, names: &[String], oids: &Oids) -> Result<Request, Argu
     }
     let mut columns = Vec::new(alloc);
     for name in names {
-        let Some(column) = column(alloc, name.as_str(), oids)? else {
+        let Some(column) = Column::parse(alloc, name.as_str(), oids)? else {
             let name = String::from_str(alloc, name.as_str())?;
             return Err(ArgumentFault::UnknownType(name));
         };

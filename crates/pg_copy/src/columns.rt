@@ -1,49 +1,70 @@
 //! The columns of a COPY.
 
+use crate::user_types::Oids;
+use named_types::{Base, Name, base_names};
 use postgres_types::Type;
-
-/// By which Rust type the values of a column, or the elements of its arrays, are read and written.
-#[derive(Debug, Clone, Copy, PartialEq, Eq)]
-pub enum Conversion {
-    Bool,
-    Char,
-    Int2,
-    Int4,
-    Int8,
-    Oid,
-    Text,
-    Bytea,
-    Bits,
-    Inet,
-    Addr,
-    Cidr,
-    MacAddr,
-    Uuid,
-    PgLsn,
-    Date,
-    DateInf,
-    Time,
-    Timestamp,
-    TimestampInf,
-    TimestampTz,
-    Unix,
-    UnixInf,
-    Interval,
-    Json,
-    Int2Vector,
-    OidVector,
-    Hstore,
-    Item,
-    Mood,
-    Session,
-}
+use std::alloc::{AllocError, Global};
 
 /// A column.
 #[derive(Debug, Drop)]
 pub struct Column {
-    pub conversion: Conversion,
+    /// The base name of its values, or of the elements of its arrays.
+    pub base: Base,
     /// Whether its values are arrays.
     pub is_array: bool,
     /// The type of its values.
     pub ty: Type,
+}
+
+// The Postgres types of a base name that a COPY knows: its own, and that of its arrays where it has
+// arrays.
+macro_rules! types {
+    (
+        ($of:expr, $alloc:ident, $oids:ident)
+        $($letter:literal { $($base:ident $name:literal $types:tt $(only $program:ident)?,)* })*
+    ) => {
+        match $of {
+            $($(Base::$base => row_types!(($alloc, $oids) $types $($program)?),)*)*
+        }
+    };
+}
+
+// The same of a row.
+macro_rules! row_types {
+    ($args:tt $types:tt Pgcell) => {
+        None
+    };
+    (($alloc:ident, $oids:ident) [$rust:ty, user.$own:ident, user.$arrays:ident]) => {
+        Some(($oids.$own($alloc)?, Some($oids.$arrays($alloc)?)))
+    };
+    (($alloc:ident, $oids:ident) [$rust:ty, user.$own:ident]) => {
+        Some(($oids.$own($alloc)?, None))
+    };
+    ($args:tt [$rust:ty, $own:ident]) => {
+        Some((Type::$own, None))
+    };
+    ($args:tt [$rust:ty, $own:ident, $arrays:ident] $($program:ident)?) => {
+        Some((Type::$own, Some(Type::$arrays)))
+    };
+}
+
+impl Column {
+    /// The column of that name; `None` where it is the name of no type that has a conversion.
+    ///
+    /// The values of a column and the elements of its arrays may be NULL, whether `?` stands there or
+    /// not.
+    pub fn parse(alloc: Global, name: &str, oids: &Oids) -> Result<Option<Column>, AllocError> {
+        let Some(Name { base, form }) = Name::parse(name.as_bytes()) else {
+            return Ok(None);
+        };
+        let types: Option<(Type, Option<Type>)> = base_names!(types(base, alloc, oids));
+        let Some((own, arrays)) = types else {
+            return Ok(None);
+        };
+        let is_array = form.is_array();
+        Ok(
+            form.pick(own, arrays)
+                .map(|ty| Column { base, is_array, ty }),
+        )
+    }
 }

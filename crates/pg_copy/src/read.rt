@@ -7,11 +7,11 @@ use crate::columns::Column;
 use crate::copy_fault::{CopyFault, Row, value_fault};
 use crate::escapes::escape;
 use crate::show::push_cell;
-use crate::streams::{BLOCK, read_block, write_whole};
 use crate::tuples::{Front, front_of, take_header};
 use std::alloc::Global;
 use std::io::{Read, Write};
 use std::mem;
+use streams::blocks::{BLOCK, read_block, write_whole};
 
 /// What is to come of a COPY.
 #[derive(Debug, Clone, Copy, PartialEq, Eq)]
@@ -70,12 +70,16 @@ pub fn read<R: Read, W: Write>(
     let mut spare = Vec::new(alloc);
     let mut block = [0; BLOCK];
     'reads: for _ in 0..u64::MAX {
-        let len = read_block(input, &mut block)?;
+        let Ok(len) = read_block(input, &mut block) else {
+            return Err(CopyFault::Read);
+        };
         if len == 0 {
             return reading.finish();
         }
         let taken = reading.take_block(&block[..len], &mut held, &mut spare);
-        write_whole(output, reading.lines.as_slice())?;
+        if write_whole(output, reading.lines.as_slice()).is_err() {
+            return Err(CopyFault::Write);
+        }
         taken?;
         reading.lines.clear();
     }

@@ -1,11 +1,12 @@
-//! The text of a cell, by the conversion of its column.
+//! The text of a cell, by the base name of its column.
 
-use crate::columns::{Column, Conversion};
-use crate::text::ToText;
-use crate::text::arrays::push_array;
-use crate::text::hstore::Map;
+use crate::columns::Column;
 use jiff::civil;
+use named_types::{Base, base_names};
 use pg_record::{InventoryItem, Mood, SessionId};
+use pg_text::ToText;
+use pg_text::arrays::push_array;
+use pg_text::hstore::Map;
 use postgres_types::private::read_value;
 use postgres_types::{
     BitVec, Date, Fault, FromSql, Interval, IpCidr, IpInet, MacAddress, PgLsn, Timestamp, Type,
@@ -19,42 +20,35 @@ use uuid::Uuid;
 /// Whether a value stands there, and not NULL; or the fault of reading.
 type Shown = Result<bool, Fault>;
 
+// A cell is read by the row of its column's base name.
+macro_rules! push {
+    (
+        ($alloc:ident, $column:ident, $row:ident, $text:ident)
+        $($letter:literal { $($base:ident $name:literal $types:tt $(only $program:ident)?,)* })*
+    ) => {
+        match $column.base {
+            $($(Base::$base => push_row!(($alloc, $column, $row, $text) $types),)*)*
+        }
+    };
+}
+
+// The same as the Rust type of a row, or what that is borrowed as.
+macro_rules! push_row {
+    ($args:tt [String, $($types:tt)*]) => {
+        push_as::<&str> $args
+    };
+    ($args:tt [Vec<u8>, $($types:tt)*]) => {
+        push_as::<&[u8]> $args
+    };
+    ($args:tt [$rust:ty, $($types:tt)*]) => {
+        push_as::<$rust> $args
+    };
+}
+
 /// Takes the frame at the front of the row, and appends the text of the value that its cell is read
 /// as. After a fault a part of the text may stand there.
 pub fn push_cell(alloc: Global, column: &Column, row: &mut &[u8], text: &mut Vec<u8>) -> Shown {
-    match column.conversion {
-        Conversion::Bool => push_as::<bool>(alloc, column, row, text),
-        Conversion::Char => push_as::<i8>(alloc, column, row, text),
-        Conversion::Int2 => push_as::<i16>(alloc, column, row, text),
-        Conversion::Int4 => push_as::<i32>(alloc, column, row, text),
-        Conversion::Int8 => push_as::<i64>(alloc, column, row, text),
-        Conversion::Oid => push_as::<u32>(alloc, column, row, text),
-        Conversion::Text => push_as::<&str>(alloc, column, row, text),
-        Conversion::Bytea => push_as::<&[u8]>(alloc, column, row, text),
-        Conversion::Bits => push_as::<BitVec>(alloc, column, row, text),
-        Conversion::Inet => push_as::<IpInet>(alloc, column, row, text),
-        Conversion::Addr => push_as::<IpAddr>(alloc, column, row, text),
-        Conversion::Cidr => push_as::<IpCidr>(alloc, column, row, text),
-        Conversion::MacAddr => push_as::<MacAddress>(alloc, column, row, text),
-        Conversion::Uuid => push_as::<Uuid>(alloc, column, row, text),
-        Conversion::PgLsn => push_as::<PgLsn>(alloc, column, row, text),
-        Conversion::Json => push_as::<Value>(alloc, column, row, text),
-        Conversion::Date => push_as::<civil::Date>(alloc, column, row, text),
-        Conversion::DateInf => push_as::<Date<civil::Date>>(alloc, column, row, text),
-        Conversion::Time => push_as::<civil::Time>(alloc, column, row, text),
-        Conversion::Timestamp => push_as::<civil::DateTime>(alloc, column, row, text),
-        Conversion::TimestampInf => push_as::<Timestamp<civil::DateTime>>(alloc, column, row, text),
-        Conversion::TimestampTz => push_as::<jiff::Timestamp>(alloc, column, row, text),
-        Conversion::Unix => push_as::<UnixTime>(alloc, column, row, text),
-        Conversion::UnixInf => push_as::<Timestamp<UnixTime>>(alloc, column, row, text),
-        Conversion::Interval => push_as::<Interval>(alloc, column, row, text),
-        Conversion::Int2Vector => push_as::<Vec<i16>>(alloc, column, row, text),
-        Conversion::OidVector => push_as::<Vec<u32>>(alloc, column, row, text),
-        Conversion::Hstore => push_as::<Map>(alloc, column, row, text),
-        Conversion::Item => push_as::<InventoryItem>(alloc, column, row, text),
-        Conversion::Mood => push_as::<Mood>(alloc, column, row, text),
-        Conversion::Session => push_as::<SessionId>(alloc, column, row, text),
-    }
+    base_names!(push(alloc, column, row, text))
 }
 
 /// The same as a `T`, or as a list of them.

@@ -1,6 +1,7 @@
-//! The user-defined types of the table of names, in the schema public.
+//! The user-defined types of the table of base names.
 
-use postgres_types::{Field, Kind, Oid, Type};
+use pg_record::types::{item_array_type, item_type, mood_type, session_id_type, simple_type};
+use postgres_types::{Oid, Type};
 use std::alloc::{AllocError, Global};
 
 /// The OIDs of the user-defined types. A server gives a type its OID when it is made; in a COPY the
@@ -36,50 +37,34 @@ impl Oids {
         }
         true
     }
-}
 
-/// A type of that name, OID and kind.
-fn user_type(alloc: Global, name: &str, oid: Oid, kind: Kind) -> Result<Type, AllocError> {
-    let name = String::from_str(alloc, name)?;
-    let schema = String::from_str(alloc, "public")?;
-    Type::new(alloc, name, oid, kind, schema).map_err(|_| AllocError)
-}
+    /// The type of ltree.
+    pub fn ltree(&self, alloc: Global) -> Result<Type, AllocError> {
+        simple_type(alloc, "ltree", self.ltree)
+    }
 
-/// A type of that name and OID, of kind Simple.
-pub fn simple_type(alloc: Global, name: &str, oid: Oid) -> Result<Type, AllocError> {
-    user_type(alloc, name, oid, Kind::Simple)
-}
+    /// The type of hstore.
+    pub fn hstore(&self, alloc: Global) -> Result<Type, AllocError> {
+        simple_type(alloc, "hstore", self.hstore)
+    }
 
-/// A field of that name and type.
-fn field(alloc: Global, name: &str, type_: Type) -> Result<Field, AllocError> {
-    Ok(Field::new(String::from_str(alloc, name)?, type_))
-}
+    /// The composite type of [`InventoryItem`](pg_record::InventoryItem).
+    pub fn item(&self, alloc: Global) -> Result<Type, AllocError> {
+        item_type(alloc, self.item)
+    }
 
-/// The composite type of [`InventoryItem`](pg_record::InventoryItem).
-pub fn item_type(alloc: Global, oid: Oid) -> Result<Type, AllocError> {
-    let name = field(alloc, "name", Type::TEXT)?;
-    let supplier_id = field(alloc, "supplier_id", Type::INT4)?;
-    let price = field(alloc, "price", Type::INT8)?;
-    let fields = vec![in alloc; name, supplier_id, price]?;
-    user_type(alloc, "InventoryItem", oid, Kind::Composite(fields))
-}
+    /// The type of its arrays, whose own OID stands in no cell.
+    pub fn item_array(&self, alloc: Global) -> Result<Type, AllocError> {
+        item_array_type(alloc, 100_004, self.item(alloc)?)
+    }
 
-/// The type of its arrays, whose own OID stands in no cell.
-pub fn item_array_type(alloc: Global, oid: Oid) -> Result<Type, AllocError> {
-    let element = item_type(alloc, oid)?;
-    user_type(alloc, "_InventoryItem", 100_004, Kind::Array(element))
-}
+    /// The enumerated type of [`Mood`](pg_record::Mood).
+    pub fn mood(&self, alloc: Global) -> Result<Type, AllocError> {
+        mood_type(alloc, self.mood)
+    }
 
-/// The enumerated type of [`Mood`](pg_record::Mood).
-pub fn mood_type(alloc: Global, oid: Oid) -> Result<Type, AllocError> {
-    let sad = String::from_str(alloc, "Sad")?;
-    let ok = String::from_str(alloc, "Ok")?;
-    let happy = String::from_str(alloc, "Happy")?;
-    let labels = vec![in alloc; sad, ok, happy]?;
-    user_type(alloc, "Mood", oid, Kind::Enum(labels))
-}
-
-/// The domain of [`SessionId`](pg_record::SessionId).
-pub fn session_type(alloc: Global, oid: Oid) -> Result<Type, AllocError> {
-    user_type(alloc, "SessionId", oid, Kind::Domain(Type::BYTEA))
+    /// The domain of [`SessionId`](pg_record::SessionId).
+    pub fn session(&self, alloc: Global) -> Result<Type, AllocError> {
+        session_id_type(alloc, self.session)
+    }
 }

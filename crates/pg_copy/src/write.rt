@@ -10,13 +10,14 @@ use crate::columns::Column;
 use crate::copy_fault::{CopyFault, Row, value_fault};
 use crate::escapes::unescape;
 use crate::parse::push_frame;
-use crate::streams::{BLOCK, read_block, write_whole};
-use crate::text::no_value;
-use memchr::{memchr, memchr2};
+use memchr::memchr2;
+use pg_text::no_value;
 use postgres_types::Fault;
 use postgres_types::private::BytesMut;
 use std::alloc::Global;
 use std::io::{Read, Write};
+use streams::blocks::{BLOCK, read_block, write_whole};
+use streams::split::split_once;
 
 /// What a binary COPY begins with: the signature, no flag, and a header extension of no byte.
 const HEADER: &[u8; 19] = b"PGCOPY\n\xff\r\n\0\0\0\0\0\0\0\0\0";
@@ -60,7 +61,9 @@ pub fn write<R: Read, W: Write>(
     let Ok(count) = i16::try_from(columns.len()) else {
         return Err(CopyFault::TooManyColumns);
     };
-    write_whole(output, HEADER)?;
+    if write_whole(output, HEADER).is_err() {
+        return Err(CopyFault::Write);
+    }
     let mut writing = Writing {
         alloc,
         columns,
@@ -72,12 +75,16 @@ pub fn write<R: Read, W: Write>(
     };
     let mut block = [0; BLOCK];
     'reads: for _ in 0..u64::MAX {
-        let len = read_block(input, &mut block)?;
+        let Ok(len) = read_block(input, &mut block) else {
+            return Err(CopyFault::Read);
+        };
         if len == 0 {
             return writing.finish(output);
         }
         let taken = writing.take(&block[..len]);
-        write_whole(output, writing.out.as_slice())?;
+        if write_whole(output, writing.out.as_slice()).is_err() {
+            return Err(CopyFault::Write);
+        }
         taken?;
         writing.out.clear();
     }
@@ -95,7 +102,7 @@ impl Writing<'_> {
         let mut rest = block;
         // Of lines there are no more than bytes.
         'lines: for _ in 0..block.len() {
-            let Some((last, after)) = split_line(rest) else {
+            let Some((last, after)) = split_once(rest, b'\n') else {
                 break;
             };
             self.end_line(last)?;
@@ -250,14 +257,11 @@ impl Writing<'_> {
     {
         self.end_rest()?;
         self.out.extend_from_slice(&[0xff, 0xff])?;
-        write_whole(output, self.out.as_slice())
+        match write_whole(output, self.out.as_slice()) {
+            Ok(()) => Ok(()),
+            Err(_) => Err(CopyFault::Write),
+        }
     }
-}
-
-/// The bytes before the first line feed, and those after it.
-fn split_line(bytes: &[u8]) -> Option<(&[u8], &[u8])> {
-    let end = memchr(b'\n', bytes)?;
-    Some((&bytes[..end], &bytes[end + 1..]))
 }
 
 /// Appends the frame of the text's cell.

@@ -3,3 +3,4 @@ pub mod InventoryItems
 pub mod MoodLaws
 pub mod Moods
 pub mod SessionIds
+pub mod Types

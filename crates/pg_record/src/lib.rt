@@ -5,6 +5,7 @@
 mod inventory_item;
 mod mood;
 mod session_id;
+pub mod types;
 
 pub use inventory_item::InventoryItem;
 pub use mood::Mood;

@@ -6,7 +6,7 @@ use Rattle.postgres_types.specs.Appending.{Wire}
 use Rattle.postgres_types.specs.Rewriting.{Rewrites}
 use Rattle.pg_types.specs.declared.fault.Fault.{Fault}
 use Rattle.pg_types.specs.declared.format.IsNull.{IsNull}
-use Rattle.pgcell.specs.Norm.{PrintsRefusal, WritesOf, norm_text}
+use Rattle.pgcell.specs.Norm.{AppendsRefusal, WritesOf, norm_text}
 use Rattle.pgcell.specs.Rewritten.{RewrittenTo}
 
 -- what rewriting a cell answers is one of the written forms that the cell is rewritten to
@@ -23,7 +23,7 @@ writes_rewritten reads wire cell old new (Err f) h = (h.0, refused (refusal_of f
 
 -- the text of a refusal answers, where it is one of the written forms
 pub refusal_answers : (P : Wire → Type 0) (refusal : Option Refusal) (old new : List ℕ)
-    → IfSome refusal (λ r. P (Err r)) → PrintsRefusal refusal old new
+    → IfSome refusal (λ r. P (Err r)) → AppendsRefusal refusal old new
     → (text : List ℕ) × ((v : Wire) × P v × (text ≡ norm_text v)) × (new ≡ old ++ text)
 refusal_answers P None old new p prints = absurd prints
 refusal_answers P (Some r) old new p prints = (norm_text (Err r), (Err r, p, refl), prints)

@@ -20,7 +20,7 @@ lsn_answer (Some position) = codes "ok " ++ lsn_text position
 -- a line that is not well formed is answered `bad line`
 abbrev pub AnswersRequest : Option Asked → List ℕ → Type 0
 AnswersRequest None text = text ≡ codes "bad line"
-AnswersRequest (Some (norm name cell)) text = AnswersNorm name.0 name.1 cell text
+AnswersRequest (Some (norm name cell)) text = AnswersNorm name cell text
 AnswersRequest (Some (type_of oid)) text = AnswersType oid text
 AnswersRequest (Some (lsn position)) text = text ≡ lsn_answer (lsn_of position)
 

@@ -1,8 +1,6 @@
 -- The words of names, of rewriting a cell by a name, and of lines and their answers.
 pub mod Answer
-pub mod BaseNames
-pub mod Forms
-pub mod Names
+pub mod Entries
 pub mod Norm
 pub mod Request
 pub mod Rewritten

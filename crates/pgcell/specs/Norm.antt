@@ -9,10 +9,11 @@ use Rattle.postgres_types.specs.Appending.{Wire}
 use Rattle.postgres_types.specs.Writing.{Writes}
 use Rattle.pg_types.specs.declared.fault.Fault.{Fault}
 use Rattle.pg_types.specs.declared.format.IsNull.{IsNull}
-use Rattle.pgcell.specs.BaseNames.{Entry, no_entry, entry, entry_of}
-use Rattle.pgcell.specs.Forms.{type_in}
+use Rattle.named_types.specs.Names.{picked}
+use Rattle.named_types.specs.declared.name.Form.{Form}
+use Rattle.named_types.specs.declared.name.Name.{Name}
+use Rattle.pgcell.specs.Entries.{Entry, no_entry, entry, entry_of}
 use Rattle.pgcell.specs.Rewritten.{Rewriting}
-use Rattle.pgcell.specs.declared.names.Form.{Form}
 
 -- the text of a written form: `null`, `ok` and the bytes in hexadecimal, `-` where there are none, or `refused` and
 -- the number of the fault
@@ -23,29 +24,29 @@ norm_text (Ok (Some (byte ∷ bytes))) = codes "ok " ++ encode_lower (byte ∷ b
 norm_text (Err refusal) = codes "refused " ++ decimal (number_of refusal)
 
 -- the text of a refusal was appended
-abbrev pub PrintsRefusal : Option Refusal → List ℕ → List ℕ → Type 0
-PrintsRefusal None old new = ⊥
-PrintsRefusal (Some refusal) old new = new ≡ old ++ norm_text (Err refusal)
+abbrev pub AppendsRefusal : Option Refusal → List ℕ → List ℕ → Type 0
+AppendsRefusal None old new = ⊥
+AppendsRefusal (Some refusal) old new = new ≡ old ++ norm_text (Err refusal)
 
 -- what a call answered and wrote is a written form of which P holds, unless memory ran out
 abbrev pub WritesOf : (Wire → Type 0) → List ℕ → List ℕ → Result IsNull Fault → Type 0
 WritesOf P old new (Ok null) = (w : Wire) × P w × Writes w old new (Ok null)
 WritesOf P old new (Err f) = (new ≡ old) × IfSome (refusal_of f) (λ r. P (Err r))
 
--- the text is that of a cell that was rewritten by a Postgres type; where there is none, no text is
+-- the text is that of a cell that was rewritten by a Postgres type; where there is none, the line is not well formed
 abbrev pub AnswersAt : Option Content → (Content → Cell → Wire → Type 0) → Cell → List ℕ → Type 0
-AnswersAt None rewritten cell text = ⊥
+AnswersAt None rewritten cell text = text ≡ codes "bad line"
 AnswersAt (Some ty) rewritten cell text = (w : Wire) × rewritten ty cell w × (text ≡ norm_text w)
 
 -- the same in a form, by the one of a type and the type of its arrays that the form stands for
 abbrev pub AnswersIn : Content → Option Content → Rewriting → Form → Cell → List ℕ → Type 0
-AnswersIn own arrays rewritten form = AnswersAt (type_in form own arrays) (rewritten form)
+AnswersIn own arrays rewritten form = AnswersAt (picked form own arrays) (rewritten form)
 
--- the same by an entry of the table
+-- the same by an entry of the table; without one, the line is not well formed
 abbrev pub AnswersEntry : Entry → Form → Cell → List ℕ → Type 0
-AnswersEntry no_entry form cell text = ⊥
+AnswersEntry no_entry form cell text = text ≡ codes "bad line"
 AnswersEntry (entry own arrays rewritten) form cell text = AnswersIn own arrays rewritten form cell text
 
--- the text answers `norm` of a base name in a form, and a cell
-abbrev pub AnswersNorm : List ℕ → Form → Cell → List ℕ → Type 0
-AnswersNorm base = AnswersEntry (entry_of base)
+-- the text answers `norm` of a name and a cell
+abbrev pub AnswersNorm : Name → Cell → List ℕ → Type 0
+AnswersNorm name = AnswersEntry (entry_of name.base) name.form

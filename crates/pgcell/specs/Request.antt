@@ -1,16 +1,20 @@
 -- What a line asks for.
-use Rattle.std.specs.Prelude.{ℕ, ◌==◌, ◌&&◌, ◌^◌, List, [], ◌∷◌, length, Option, Some, None, option_map, option_and_then}
+use Rattle.std.specs.Prelude.{ℕ, Bool, ◌==◌, ◌&&◌, ◌^◌, List, [], ◌∷◌, length, Option, Some, None, option_map, option_and_then}
 use Rattle.std.specs.Prelude.{Result, Ok, Err, if◌then◌else◌, codes, nat_lt}
 use Rattle.std.specs.Str.{all_ascii_digits, is_utf8}
 use Rattle.std.specs.Str.Parse.{digits_value}
 use Rattle.hex.specs.Hex.{decode_of}
 use Rattle.hex.specs.declared.error.FromHexError.{FromHexError}
 use Rattle.postgres_types.specs.Cells.{Cell, cell_of}
-use Rattle.pgcell.specs.Forms.{same_word}
-use Rattle.pgcell.specs.Names.{name_of, name_view}
-use Rattle.pgcell.specs.declared.names.Form.{Form}
+use Rattle.std.specs.Cmp.Lexicographic.{pointwise}
+use Rattle.named_types.specs.Names.{name_of}
+use Rattle.named_types.specs.declared.name.Name.{Name}
 use Rattle.pgcell.specs.declared.request.Request.{Request}
 use Rattle.pgcell.specs.declared.request.Request.TheVariants.{Norm, TypeOf, Lsn}
+
+-- two words are the same
+abbrev pub same_word : List ℕ → List ℕ → Bool
+same_word = pointwise ◌==◌
 
 -- the bytes before the first separator and those after it, where there is one
 abbrev pub split : ℕ → List ℕ → Option (List ℕ × List ℕ)
@@ -42,7 +46,7 @@ oid_of_word word =
 
 -- what is asked for: to rewrite a cell, to show a type, to show a log position
 pub data Asked : Type 0 where
-  norm : List ℕ × Form → Cell → Asked
+  norm : Name → Cell → Asked
   type_of : ℕ → Asked
   lsn : List ℕ → Asked
 
@@ -70,6 +74,6 @@ request_of line = option_and_then (λ parts. asked_by parts.0 parts.1) (split 32
 
 -- what a request asks for
 abbrev pub view : Request → Asked
-view (Norm name cell) = norm (name_view name) (cell_of cell)
+view (Norm name cell) = norm name (cell_of cell)
 view (TypeOf oid) = type_of oid
 view (Lsn text) = lsn text.now

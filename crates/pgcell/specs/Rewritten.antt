@@ -11,8 +11,8 @@ use Rattle.postgres_types.specs.Texts.{ReadsText, has_version, wire_text}
 use Rattle.postgres_types.specs.Appending.{Wire}
 use Rattle.postgres_types.specs.OptionReading.{ReadsOption}
 use Rattle.postgres_types.specs.OptionWriting.{wire_option}
-use Rattle.pgcell.specs.declared.names.Form.{Form}
-use Rattle.pgcell.specs.declared.names.Form.TheVariants.{Plain, Optional, Array, OptionalArray}
+use Rattle.named_types.specs.declared.name.Form.{Form}
+use Rattle.named_types.specs.declared.name.Form.TheVariants.{Plain, Optional, Array, OptionalArray}
 
 -- how a cell is rewritten by a name: in its form, and by its Postgres type
 abbrev pub Rewriting : Type 1

@@ -1,35 +1,26 @@
--- The user-defined types of the table of base names, in the schema public.
-use Rattle.std.specs.Prelude.{ℕ, Bool, [], ◌∷◌, codes}
-use Prim.Native.String.{String as Literal}
-use Rattle.postgres_types.specs.Content.{Content, BuiltInType, UserDefinedType, KindContent, SimpleKind, EnumKind}
-use Rattle.postgres_types.specs.Content.{ArrayKind, CompositeKind, DomainKind, FieldAnd, NoFields, same_type}
-use Rattle.pg_types.specs.declared.types.built_in.BuiltIn.TheVariants.{Bytea as ByteaRow, Int4 as Int4Row}
-use Rattle.pg_types.specs.declared.types.built_in.BuiltIn.TheVariants.{Int8 as Int8Row, Text as TextRow}
+-- The user-defined types of the table of base names.
+use Rattle.std.specs.Prelude.{Bool, codes}
+use Rattle.postgres_types.specs.Content.{Content, same_type}
+use Rattle.pg_record.specs.Types.{item_array_type, item_type, mood_type, session_id_type, simple_type}
 
--- a type of that name, OID and kind
-abbrev pub user_type : Literal → ℕ → KindContent → Content
-user_type name oid kind = UserDefinedType (codes name) oid kind (codes "public")
+-- the types, each with an OID that a server could have given it
+abbrev pub ltree : Content
+ltree = simple_type (codes "ltree") 100001
 
--- a type of that name and OID, of kind Simple
-abbrev pub simple_type : Literal → ℕ → Content
-simple_type name oid = user_type name oid SimpleKind
+abbrev pub hstore : Content
+hstore = simple_type (codes "hstore") 100002
 
--- the composite type InventoryItem, with fields of TEXT, INT4 and INT8
-abbrev pub item_type : Content
-item_type = user_type "InventoryItem" 100003 (CompositeKind (FieldAnd (codes "name") (BuiltInType TextRow)
-    (FieldAnd (codes "supplier_id") (BuiltInType Int4Row) (FieldAnd (codes "price") (BuiltInType Int8Row) NoFields))))
+abbrev pub item : Content
+item = item_type 100003
 
--- the type of its arrays
-abbrev pub item_array_type : Content
-item_array_type = user_type "_InventoryItem" 100004 (ArrayKind item_type)
+abbrev pub item_array : Content
+item_array = item_array_type 100004 item
 
--- the enumerated type Mood
-abbrev pub mood_type : Content
-mood_type = user_type "Mood" 100005 (EnumKind (codes "Sad" ∷ codes "Ok" ∷ codes "Happy" ∷ []))
+abbrev pub mood : Content
+mood = mood_type 100005
 
--- the domain SessionId over BYTEA
-abbrev pub session_id_type : Content
-session_id_type = user_type "SessionId" 100006 (DomainKind (BuiltInType ByteaRow))
+abbrev pub session : Content
+session = session_id_type 100006
 
 -- whether a type is that one
 unfoldable pub is_type : Content → Content → Bool

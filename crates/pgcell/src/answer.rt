@@ -39,14 +39,14 @@ impl AnswerLine for Answerer {
         match Request::parse(line, &mut self.bytes)? {
             None => pending.extend_from_slice(b"bad line"),
             Some(Request::Norm(name, cell)) => self.rewriter.norm(alloc, name, cell, pending),
-            Some(Request::TypeOf(oid)) => show_type(alloc, oid, pending),
-            Some(Request::Lsn(text)) => show_lsn(alloc, text, pending),
+            Some(Request::TypeOf(oid)) => append_type(alloc, oid, pending),
+            Some(Request::Lsn(text)) => append_lsn(alloc, text, pending),
         }
     }
 }
 
-/// The answer to `type OID`.
-fn show_type(alloc: Global, oid: Oid, pending: &mut Vec<u8>) -> Result<(), AllocError>
+/// Appends the answer to `type OID`.
+fn append_type(alloc: Global, oid: Oid, pending: &mut Vec<u8>) -> Result<(), AllocError>
     ensures ok { OnOk result ((text : List ℕ)
         × AnswersType oid text
         × (pending.new.items ≡ pending.old.items ++ text)) }
@@ -59,8 +59,8 @@ fn show_type(alloc: Global, oid: Oid, pending: &mut Vec<u8>) -> Result<(), Alloc
     pending.extend_from_slice(text.as_bytes())
 }
 
-/// The answer to `lsn TEXT`.
-fn show_lsn(alloc: Global, text: &str, pending: &mut Vec<u8>) -> Result<(), AllocError>
+/// Appends the answer to `lsn TEXT`.
+fn append_lsn(alloc: Global, text: &str, pending: &mut Vec<u8>) -> Result<(), AllocError>
     ensures ok { OnOk result (pending.new.items ≡ pending.old.items ++ lsn_answer (lsn_of text.now)) }
     ensures err { OnErr result (pending.new.items ≡ pending.old.items) }
 {

@@ -1,23 +1,50 @@
-//! Answers each line of standard input by a line on standard output.
+//! Answers each line of standard input by a line on standard output. With `--names` it prints the
+//! names of types instead, a line of them for each base name.
 //!
-//! The exit status is 0 where every line was answered, and 1 where the input could not be read, the
-//! output could not be written, or memory was refused. Nothing else is printed.
+//! The exit status is 0 where every line was answered, or the names were printed, and 1 where the
+//! input could not be read, the output could not be written, memory was refused, or there is another
+//! argument. Nothing else is printed.
 #![tactic(auto)]
 
 mod answer;
-mod base_names;
-mod names;
 mod norm;
 mod request;
 mod run;
 mod user_types;
 
+use named_types::{Base, Program};
 use run::run;
+use std::env;
+use std::io::{self, Write};
 use std::process::ExitCode;
 
 fn main(rt: HostRuntime) -> ExitCode {
-    match run(rt.alloc(), &mut rt.stdin(), &mut rt.stdout()) {
-        Ok(()) => ExitCode::SUCCESS,
-        Err(_) => ExitCode::FAILURE,
+    let Ok(mut arguments) = env::args(&rt) else {
+        return ExitCode::FAILURE;
+    };
+    let is_done = match arguments.nth(1) {
+        None => run(rt.alloc(), &mut rt.stdin(), &mut rt.stdout()).is_ok(),
+        Some(argument) => argument.as_str() == "--names" && print_names(&mut rt.stdout()).is_ok(),
+    };
+    if is_done {
+        ExitCode::SUCCESS
+    } else {
+        ExitCode::FAILURE
     }
+}
+
+/// Prints the names of each base name that pgcell knows.
+fn print_names<W: Write>(output: &mut W) -> io::Result<()> {
+    for base in Base::ALL {
+        if !Program::Pgcell.knows(base) {
+            continue;
+        }
+        let name = base.name();
+        write!(output, "{name} {name}?")?;
+        if base.has_arrays() {
+            write!(output, " {name}[] {name}?[]")?;
+        }
+        writeln!(output)?;
+    }
+    Ok(())
 }

@@ -5,7 +5,7 @@ ghost use Rattle.pgcell.specs.Request.{cell_of_word, lsn_of_text, norm_of, oid_o
 ghost use Rattle.pgcell.specs.Request.{digits_cell, split, type_of};
 ghost use Rattle.postgres_types.specs.Cells.{cell_of};
 
-use crate::names::Name;
+use named_types::Name;
 use postgres_types::Oid;
 use std::alloc::AllocError;
 use streams::split::split_once;
@@ -14,7 +14,7 @@ use streams::split::split_once;
 #[derive(Debug, Clone, Copy)]
 pub enum Request<'a> {
     /// `norm NAME CELL`: to rewrite a cell, of which `None` is NULL.
-    Norm(Name<'a>, Option<&'a [u8]>),
+    Norm(Name, Option<&'a [u8]>),
     /// `type OID`: to show a type.
     TypeOf(Oid),
     /// `lsn TEXT`: to show a log position.

@@ -22,6 +22,10 @@ pub err_weaker : {T E : Type 0} {P Q : E → Type 0} (r : Result T E) → ((e : 
 err_weaker (Ok x) f p = tt
 err_weaker (Err e) f p = f e p
 
+pub on_err_weaker : {T E : Type 0} {P Q : Type 0} (r : Result T E) → (P → Q) → OnErr r P → OnErr r Q
+on_err_weaker (Ok x) f p = tt
+on_err_weaker (Err e) f p = f p
+
 pub err_always : {T E : Type 0} {P : E → Type 0} (r : Result T E) → ((e : E) → P e) → IfErr r P
 err_always (Ok x) f = tt
 err_always (Err e) f = f e

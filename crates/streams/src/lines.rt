@@ -3,15 +3,16 @@
 //! The input is read in blocks. What the lines that end in a block are answered is written before
 //! the next block is read, so that no more is held than the longest line and one block's answers.
 
-ghost use Rattle.std.specs.Prelude.{◌≡◌, ◌≢◌, ℕ, ◌≤◌, List, [], ◌∷◌, ◌++◌, take, length, OnOk, OnErr, IfErr};
-ghost use Rattle.std.specs.Io.KnownBytes.{Appends, Keeps};
+ghost use Rattle.std.specs.Prelude.{◌≡◌, ◌≢◌, ℕ, List, [], ◌∷◌, ◌++◌, OnOk, OnErr, IfErr};
+ghost use Rattle.std.specs.Io.KnownBytes.{Keeps};
 ghost use Rattle.streams.specs.Answers.{Answering, GainsAnswers, WritesAnswers, WritesPart, AnswersAll, AnswersSome};
 ghost use Rattle.streams.specs.Answers.{AnswersPart, AnswersGiven, TakesLines, TakesSome};
 ghost use Rattle.streams.specs.Lines.{lines_of, IsOneLine};
 
+use crate::blocks::{BLOCK, read_block, write_whole};
 use crate::split::split_once;
 use std::alloc::{AllocError, Global};
-use std::io::{ErrorKind, Read, Write};
+use std::io::{Read, Write};
 
 /// What answers lines.
 pub trait AnswerLine {
@@ -42,9 +43,6 @@ pub enum RunFault {
     Memory,
 }
 
-/// How many bytes are asked of a reader at a time.
-pub const BLOCK: usize = 65_536;
-
 /// Answers each line of the input.
 ///
 /// A read or a write that was interrupted is tried again. After any fault but that of a write,
@@ -69,17 +67,17 @@ pub fn answer_lines<A: AnswerLine, R: Read, W: Write>(
     let mut pending = Vec::new(alloc);
     let mut block = [0; BLOCK];
     'reads: for _ in 0..u64::MAX {
-        let n = match input.read(&mut block) {
-            Ok(n) => n,
-            Err(e) if e.kind() == ErrorKind::Interrupted => continue,
-            Err(_) => return Err(RunFault::Read),
+        let Ok(n) = read_block(input, &mut block) else {
+            return Err(RunFault::Read);
         };
         if n == 0 {
             return finish(alloc, answerer, line.as_slice(), &mut pending, output);
         }
         let taken = take_block(alloc, answerer, &block[..n], &mut line, &mut pending);
         // The lines before the one that memory was refused for are still answered.
-        write_whole(output, pending.as_slice())?;
+        if write_whole(output, pending.as_slice()).is_err() {
+            return Err(RunFault::Write);
+        }
         if taken.is_err() {
             return Err(RunFault::Memory);
         }
@@ -153,28 +151,6 @@ fn answer_line<A: AnswerLine>(
     Ok(())
 }
 
-/// Writes all of it. Where a write fails, a beginning of it is written.
-fn write_whole<W: Write>(output: &mut W, bytes: &[u8]) -> Result<(), RunFault>
-    ensures ok { OnOk result (Appends (W.contents output.old) (W.contents output.new) bytes.now) }
-    ensures err { OnErr result ((k : ℕ) × (k ≤ length bytes.now)
-        × Appends (W.contents output.old) (W.contents output.new) (take k bytes.now)) }
-    ensures fault { IfErr result (λ e. e ≡ RunFault.Write) }
-{
-    let mut sent = 0;
-    'turns: for _ in 0..u64::MAX {
-        if sent == bytes.len() {
-            return Ok(());
-        }
-        match output.write(&bytes[sent..]) {
-            Ok(0) => return Err(RunFault::Write),
-            Ok(n) => sent += n,
-            Err(e) if e.kind() == ErrorKind::Interrupted => {}
-            Err(_) => return Err(RunFault::Write),
-        }
-    }
-    Err(RunFault::Write)
-}
-
 /// Answers the last line, which no byte 10 ends.
 fn finish<A: AnswerLine, W: Write>(
     alloc: Global,
@@ -198,5 +174,8 @@ fn finish<A: AnswerLine, W: Write>(
     if answer_line(alloc, answerer, line, pending).is_err() {
         return Err(RunFault::Memory);
     }
-    write_whole(output, pending.as_slice())
+    match write_whole(output, pending.as_slice()) {
+        Ok(()) => Ok(()),
+        Err(_) => Err(RunFault::Write),
+    }
 }

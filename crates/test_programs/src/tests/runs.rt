@@ -5,7 +5,8 @@ use super::fake_streams::{Blocked, Disturbed, Narrow, Pieces, ROOM, Stalled};
 use rows::{hoard, holds, same};
 use std::alloc::{AllocError, Global};
 use std::test::Fail;
-use streams::lines::{AnswerLine, BLOCK, RunFault, answer_lines};
+use streams::blocks::BLOCK;
+use streams::lines::{AnswerLine, RunFault, answer_lines};
 
 /// Answers each line by the line itself.
 #[derive(Drop)]

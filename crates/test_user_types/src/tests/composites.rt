@@ -3,7 +3,7 @@
 
 use own_types::composite::Purchase;
 use own_types::nested_composite::{Address, Parcel};
-use pg_record::InventoryItem;
+use pg_record::{InventoryItem, types};
 use postgres_types::composite::Composite;
 use postgres_types::{Fault, Field, Kind, Type, UnixTime};
 use rows::code::{FIELD_COUNT, FIELD_OID, SIZE, TRANSMIT, WAS_NULL};
@@ -102,20 +102,12 @@ fn parcel_type(alloc: Global) -> Result<Type, Fault> {
     composite(alloc, "parcel", 0x4006, &fields)
 }
 
-/// The fields of an item.
-const ITEM_FIELDS: [(&str, Type); 3] = [
-    ("name", Type::TEXT),
-    ("supplier_id", Type::INT4),
-    ("price", Type::INT8),
-];
-
 fn item_type(alloc: Global) -> Result<Type, Fault> {
-    composite(alloc, "InventoryItem", 100_003, &ITEM_FIELDS)
+    Ok(types::item_type(alloc, 100_003)?)
 }
 
 fn item_array(alloc: Global) -> Result<Type, Fault> {
-    let kind = Kind::Array(item_type(alloc)?);
-    user_type(alloc, "_InventoryItem", 100_004, kind, "public")
+    Ok(types::item_array_type(alloc, 100_004, item_type(alloc)?)?)
 }
 
 fn purchase_type(alloc: Global) -> Result<Type, Fault> {

@@ -2,6 +2,7 @@
 
 use super::view::Item;
 use pg_record::InventoryItem;
+use pg_record::types::{item_array_type, item_type};
 use postgres_types::composite::Composite;
 use postgres_types::{Fault, Field, FromSql, Kind, ToSql, Type};
 use rows::code::{FIELD_COUNT, FIELD_OID, SIZE, UTF8, WAS_NULL};
@@ -24,10 +25,6 @@ const NAMES: [&str; 3] = ["name", "supplier_id", "price"];
 
 /// Their types.
 const ITEM: [Type; 3] = [Type::TEXT, Type::INT4, Type::INT8];
-
-fn item_type(alloc: Global) -> Result<Type, Fault> {
-    composite(alloc, "InventoryItem", &NAMES, &ITEM)
-}
 
 /// The cell of "nut", 7 and no price.
 const NUT: &[u8] =
@@ -75,7 +72,7 @@ const ITEMS: [(&str, i32, Option<i64>, &[u8]); 2] = [
 
 #[test]
 fn an_item_is_a_record_by_hand(rt: HostRuntime) -> Result<(), Fail> {
-    let ty = item_type(rt.alloc())?;
+    let ty = item_type(rt.alloc(), 100_003)?;
     for (name, supplier_id, price, cell) in ITEMS {
         let value = item(rt.alloc(), name, supplier_id, price)?;
         spells(rt.alloc(), &ty, &[(value, cell)])?;
@@ -85,7 +82,7 @@ fn an_item_is_a_record_by_hand(rt: HostRuntime) -> Result<(), Fail> {
 
 #[test]
 fn an_item_is_a_record_as_a_view(rt: HostRuntime) -> Result<(), Fail> {
-    let ty = item_type(rt.alloc())?;
+    let ty = item_type(rt.alloc(), 100_003)?;
     for (name, supplier_id, price, cell) in ITEMS {
         let value = view(rt.alloc(), name, supplier_id, price)?;
         spells(rt.alloc(), &ty, &[(value, cell)])?;
@@ -158,14 +155,14 @@ const REFUSED_FIELDS: [(Option<&[u8]>, u32); 9] = [
 
 #[test]
 fn damaged_records_are_refused_by_hand(rt: HostRuntime) -> Result<(), Fail> {
-    let ty = item_type(rt.alloc())?;
+    let ty = item_type(rt.alloc(), 100_003)?;
     refuses::<InventoryItem>(rt.alloc(), &ty, &REFUSED)?;
     refuses::<InventoryItem>(rt.alloc(), &ty, &REFUSED_FIELDS)
 }
 
 #[test]
 fn damaged_records_are_refused_as_a_view(rt: HostRuntime) -> Result<(), Fail> {
-    let ty = item_type(rt.alloc())?;
+    let ty = item_type(rt.alloc(), 100_003)?;
     refuses::<Composite<Item>>(rt.alloc(), &ty, &REFUSED)?;
     refuses::<Composite<Item>>(rt.alloc(), &ty, &REFUSED_FIELDS)
 }
@@ -256,7 +253,7 @@ const OTHER_NULL: &[u8] =
 
 #[test]
 fn any_negative_length_is_null(rt: HostRuntime) -> Result<(), Fail> {
-    let ty = item_type(rt.alloc())?;
+    let ty = item_type(rt.alloc(), 100_003)?;
     rewrites::<InventoryItem>(rt.alloc(), &ty, OTHER_NULL, NUT)?;
     rewrites::<Composite<Item>>(rt.alloc(), &ty, OTHER_NULL, NUT)
 }
@@ -267,15 +264,15 @@ const NUTS: &[u8] = b"\0\0\0\x01\0\0\0\0\0\x01\x86\xa3\0\0\0\x01\0\0\0\x01\0\0\0
 
 #[test]
 fn items_stand_in_lists(rt: HostRuntime) -> Result<(), Fail> {
-    let kind = Kind::Array(item_type(rt.alloc())?);
-    let ty = user_type(rt.alloc(), "_InventoryItem", 100_004, kind, "public")?;
+    let item = item_type(rt.alloc(), 100_003)?;
+    let ty = item_array_type(rt.alloc(), 100_004, item)?;
     rewrites::<Vec<InventoryItem>>(rt.alloc(), &ty, NUTS, NUTS)?;
     rewrites::<Vec<Composite<Item>>>(rt.alloc(), &ty, NUTS, NUTS)
 }
 
 #[test]
 fn items_stand_in_boxes_and_options(rt: HostRuntime) -> Result<(), Fail> {
-    let ty = item_type(rt.alloc())?;
+    let ty = item_type(rt.alloc(), 100_003)?;
     rewrites::<Box<InventoryItem>>(rt.alloc(), &ty, NUT, NUT)?;
     writes_null(rt.alloc(), &None::<InventoryItem>, &ty)?;
     let nut = item(rt.alloc(), "nut", 7, None)?;

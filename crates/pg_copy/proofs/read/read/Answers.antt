@@ -3,7 +3,7 @@ use Rattle.std.proofs.Common.{◌≡◌, ◌∙◌, length, take}
 use Rattle.std.specs.Io.KnownBytes.{Appends}
 use Rattle.pg_copy.specs.Lines.{IsLine}
 use Rattle.pg_copy.specs.Outputs.{AreRows}
-use Rattle.pg_copy.proofs.Outcomes.{err_always, on_err}
+use Rattle.streams.proofs.Outcomes.{err_always, on_err}
 use Rattle.pg_copy.proofs.OutputLaws.{part_next, pending, whole_next, whole_part}
 use Rattle.pg_copy.proofs.read.read.Goals as goal
 

@@ -4,7 +4,7 @@ use Rattle.std.specs.Io.KnownBytes.{Appends}
 use Rattle.pg_copy.specs.Tuples.{IsTuple}
 use Rattle.pg_copy.proofs.CopyLaws.{begins_part, ends, ends_part, has_begun, has_begun_kept, header_part}
 use Rattle.pg_copy.proofs.CopyLaws.{nothing_part, rows_next, rows_next_part}
-use Rattle.pg_copy.proofs.Outcomes.{err_always, err_weaker, ok_weaker, on_err, on_err_weaker}
+use Rattle.streams.proofs.Outcomes.{err_always, err_weaker, ok_weaker, on_err, on_err_weaker}
 use Rattle.pg_copy.proofs.OutputLaws.{pending}
 use Rattle.pg_copy.proofs.write.write.Goals as goal
 

@@ -1,6 +1,6 @@
 //! Tests of the calendar.
 
-use pg_copy::calendar::Civil;
+use pg_text::calendar::Civil;
 use rows::{holds, same};
 use std::test::Fail;
 

@@ -2,7 +2,7 @@
 use Rattle.std.proofs.Common.{◌≡◌, ◌∙◌}
 use Rattle.pg_copy.specs.Outputs.{Extends}
 use Rattle.pg_copy.proofs.LineLaws.{fields_extend, next_field}
-use Rattle.pg_copy.proofs.Outcomes.{on_err}
+use Rattle.streams.proofs.Outcomes.{on_err}
 use Rattle.pg_copy.proofs.OutputLaws.{extends_more}
 use Rattle.pg_copy.proofs.read.Reading.push_line.Goals as goal
 

@@ -1,7 +1,7 @@
 -- What the proof of `finish` answers by hand.
 use Rattle.std.proofs.Common.{◌∙◌}
 use Rattle.pg_copy.proofs.CopyLaws.{ends_nothing}
-use Rattle.pg_copy.proofs.Outcomes.{ok_weaker, on_err, on_err_weaker}
+use Rattle.streams.proofs.Outcomes.{ok_weaker, on_err, on_err_weaker}
 use Rattle.pg_copy.proofs.OutputLaws.{gains_all}
 use Rattle.pg_copy.proofs.write.Writing.finish.Goals as goal
 

@@ -26,11 +26,11 @@ returns-in-Some-Norm-clause-ok c =
     let old = c.args.pending.now.items in
     let new = c.norm.new.pending.items in
     let asked = rw c.in-Some-Norm.field-0-is at (rw c.in-Some-Norm.is at c.in_ok-parse.ensures) in
-    ok_weaker {P = (text : List ℕ) × AnswersNorm name.base.now name.form cell text × (new ≡ old ++ text)} c.norm.result
+    ok_weaker {P = (text : List ℕ) × AnswersNorm name cell text × (new ≡ old ++ text)} c.norm.result
     (λ answer. (
       answer.0,
       answers_line c.args.line.now
-          (Some (norm (name.base.now, name.form) cell)) answer.0 asked answer.1,
+          (Some (norm name cell)) answer.0 asked answer.1,
       answer.2,
     )) c.norm.ensures.ok
 
@@ -38,17 +38,17 @@ pub returns-in-Some-TypeOf-clause-ok : goal.returns-in-Some-TypeOf-clause-ok
 returns-in-Some-TypeOf-clause-ok c =
     let oid = c.in-Some-TypeOf.oid in
     let old = c.args.pending.now.items in
-    let new = c.show_type.new.pending.items in
+    let new = c.append_type.new.pending.items in
     let asked = rw c.in-Some-TypeOf.field-0-is at (rw c.in-Some-TypeOf.is at c.in_ok-parse.ensures) in
-    ok_weaker {P = (text : List ℕ) × AnswersType oid text × (new ≡ old ++ text)} c.show_type.result
+    ok_weaker {P = (text : List ℕ) × AnswersType oid text × (new ≡ old ++ text)} c.append_type.result
     (λ answer. (answer.0, answers_line c.args.line.now (Some (type_of oid)) answer.0 asked answer.1, answer.2))
-    c.show_type.ensures.ok
+    c.append_type.ensures.ok
 
 pub returns-in-Some-Lsn-clause-ok : goal.returns-in-Some-Lsn-clause-ok
 returns-in-Some-Lsn-clause-ok c =
     let position = c.in-Some-Lsn.text.now in
     let answer = lsn_answer (lsn_of position) in
     let asked = rw c.in-Some-Lsn.field-0-is at (rw c.in-Some-Lsn.is at c.in_ok-parse.ensures) in
-    ok_weaker {P = c.show_lsn.new.pending.items ≡ c.args.pending.now.items ++ answer} c.show_lsn.result
+    ok_weaker {P = c.append_lsn.new.pending.items ≡ c.args.pending.now.items ++ answer} c.append_lsn.result
     (λ answer_text. (answer, answers_line c.args.line.now (Some (lsn position)) answer asked refl, answer_text))
-    c.show_lsn.ensures.ok
+    c.append_lsn.ensures.ok

@@ -3,7 +3,7 @@ use Rattle.std.proofs.Common.{◌≡◌, ◌++◌, ℕ, List, Option, OnOk, opti
 use Rattle.postgres_types.specs.Cells.{cell_of}
 use Rattle.postgres_types.specs.Content.{Content, content}
 use Rattle.postgres_types.specs.Faults.{refusal_of}
-use Rattle.pgcell.specs.Forms.{type_in}
+use Rattle.named_types.specs.Names.{picked}
 use Rattle.pgcell.specs.Norm.{AnswersAt}
 use Rattle.pgcell.specs.Rewritten.{RewrittenAs}
 use Rattle.streams.proofs.Outcomes.{ok_weaker}
@@ -14,13 +14,13 @@ pub returns-clause-ok : goal.returns-clause-ok
 returns-clause-ok g c =
     let cell = cell_of c.args.cell in
     let old = c.args.pending.now.items in
-    let new = c.print_fault.new.pending.items in
+    let new = c.append_fault.new.pending.items in
     let rewritten = RewrittenAs g.T.FromSql.reads g.T.ToSql.wire c.args.form in
     let gives = rewritten (content c.in-Some.ty) cell in
-    let Printed = λ (ty : Option Content). OnOk c.print_fault.result
+    let Printed = λ (ty : Option Content). OnOk c.append_fault.result
     ((text : List ℕ) × AnswersAt ty rewritten cell text × (new ≡ old ++ text)) in
-    let ty = type_in c.args.form (content c.args.own) (option_map content c.args.arrays) in
-    let picked = rw c.in-Some.is at c.pick.ensures in
-    subst Printed {y = ty} picked
-    (ok_weaker c.print_fault.result (refusal_answers gives (refusal_of c.in-Err.fault) old new c.in-Err.ensures.1)
-    c.print_fault.ensures.ok)
+    let ty = picked c.args.form (content c.args.own) (option_map content c.args.arrays) in
+    let is = rw c.in-Some.is at c.pick.ensures in
+    subst Printed {y = ty} is
+    (ok_weaker c.append_fault.result (refusal_answers gives (refusal_of c.in-Err.fault) old new c.in-Err.ensures.1)
+    c.append_fault.ensures.ok)

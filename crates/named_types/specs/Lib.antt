@@ -1,0 +1,3 @@
+-- The words of names.
+pub mod BaseNames
+pub mod Names

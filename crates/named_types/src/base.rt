@@ -1,0 +1,238 @@
+//! The table of base names.
+ghost use Rattle.std.specs.Prelude.{◌≡◌};
+ghost use Rattle.named_types.specs.BaseNames.{base_name, base_of, has_arrays, knows};
+
+/// The table of the base names, in alphabetical order and by their first letters: of each its
+/// member of [`Base`], the name, its Rust type, its Postgres type and, where it has arrays, their
+/// Postgres type, each a constant of `Type`, or `user` and a user-defined type; and, where one
+/// program alone knows it, which. `$rows` is the macro that is called with all rows, after the
+/// arguments.
+#[macro_export]
+macro_rules! base_names {
+    ($rows:ident $args:tt) => {
+        $rows! { $args
+            b'a' {
+                Addr "addr" [IpAddr, INET, INET_ARRAY],
+            }
+            b'b' {
+                Bit "bit" [BitVec, BIT, BIT_ARRAY],
+                Bool "bool" [bool, BOOL, BOOL_ARRAY],
+                Bpchar "bpchar" [String, BPCHAR, BPCHAR_ARRAY],
+                Bytea "bytea" [Vec<u8>, BYTEA, BYTEA_ARRAY],
+            }
+            b'c' {
+                Char "char" [i8, CHAR, CHAR_ARRAY],
+                Cidr "cidr" [IpCidr, CIDR, CIDR_ARRAY],
+            }
+            b'd' {
+                Date "date" [civil::Date, DATE, DATE_ARRAY],
+                DateInf "date_inf" [Date<civil::Date>, DATE, DATE_ARRAY],
+            }
+            b'h' {
+                Hstore "hstore" [Map, user.hstore],
+            }
+            b'i' {
+                Inet "inet" [IpInet, INET, INET_ARRAY],
+                Int2 "int2" [i16, INT2, INT2_ARRAY],
+                Int2Vector "int2vector" [Vec<i16>, INT2_VECTOR],
+                Int4 "int4" [i32, INT4, INT4_ARRAY],
+                Int8 "int8" [i64, INT8, INT8_ARRAY],
+                Interval "interval" [Interval, INTERVAL, INTERVAL_ARRAY],
+                Item "item" [InventoryItem, user.item, user.item_array],
+            }
+            b'j' {
+                Json "json" [Value, JSON, JSON_ARRAY] only Copy,
+                Jsonb "jsonb" [Value, JSONB, JSONB_ARRAY] only Copy,
+            }
+            b'l' {
+                Ltree "ltree" [String, user.ltree],
+            }
+            b'm' {
+                Macaddr "macaddr" [MacAddress, MACADDR, MACADDR_ARRAY],
+                Mood "mood" [Mood, user.mood],
+            }
+            b'n' {
+                Name "name" [String, NAME, NAME_ARRAY],
+            }
+            b'o' {
+                Oid "oid" [u32, OID, OID_ARRAY],
+                OidVector "oidvector" [Vec<u32>, OID_VECTOR],
+            }
+            b'p' {
+                PgLsn "pg_lsn" [PgLsn, PG_LSN, PG_LSN_ARRAY],
+            }
+            b's' {
+                Session "session" [SessionId, user.session],
+            }
+            b't' {
+                Text "text" [String, TEXT, TEXT_ARRAY],
+                Time "time" [civil::Time, TIME, TIME_ARRAY],
+                Timestamp "timestamp" [civil::DateTime, TIMESTAMP, TIMESTAMP_ARRAY],
+                TimestampInf "timestamp_inf" [Timestamp<civil::DateTime>, TIMESTAMP, TIMESTAMP_ARRAY],
+                Timestamptz "timestamptz" [jiff::Timestamp, TIMESTAMPTZ, TIMESTAMPTZ_ARRAY],
+            }
+            b'u' {
+                Unix "unix" [UnixTime, TIMESTAMP, TIMESTAMP_ARRAY],
+                UnixInf "unix_inf" [Timestamp<UnixTime>, TIMESTAMP, TIMESTAMP_ARRAY],
+                Unknown "unknown" [String, UNKNOWN] only Pgcell,
+                Uuid "uuid" [Uuid, UUID, UUID_ARRAY],
+            }
+            b'v' {
+                Varbit "varbit" [BitVec, VARBIT, VARBIT_ARRAY],
+                Varchar "varchar" [String, VARCHAR, VARCHAR_ARRAY],
+            }
+        }
+    };
+}
+
+/// A program that knows base names.
+#[derive(Debug, Clone, Copy, PartialEq, Eq)]
+pub enum Program {
+    /// pgcell.
+    Pgcell,
+    /// copy_read and copy_write.
+    Copy,
+}
+
+/// A base name.
+#[derive(Debug, Clone, Copy, PartialEq, Eq)]
+pub enum Base {
+    Addr,
+    Bit,
+    Bool,
+    Bpchar,
+    Bytea,
+    Char,
+    Cidr,
+    Date,
+    DateInf,
+    Hstore,
+    Inet,
+    Int2,
+    Int2Vector,
+    Int4,
+    Int8,
+    Interval,
+    Item,
+    Json,
+    Jsonb,
+    Ltree,
+    Macaddr,
+    Mood,
+    Name,
+    Oid,
+    OidVector,
+    PgLsn,
+    Session,
+    Text,
+    Time,
+    Timestamp,
+    TimestampInf,
+    Timestamptz,
+    Unix,
+    UnixInf,
+    Unknown,
+    Uuid,
+    Varbit,
+    Varchar,
+}
+
+// The base names that begin with the first letter of the bytes are compared with them.
+macro_rules! found {
+    (($bytes:ident) $($letter:literal { $($base:ident $name:literal $types:tt $(only $program:ident)?,)* })*) => {
+        match $bytes {
+            $([$letter, ..] => match $bytes {
+                $(_ if $bytes == $name.as_bytes() => Some(Base::$base),)*
+                _ => None,
+            },)*
+            _ => None,
+        }
+    };
+}
+
+// All base names.
+macro_rules! all {
+    (() $($letter:literal { $($base:ident $name:literal $types:tt $(only $program:ident)?,)* })*) => {
+        [$($(Base::$base,)*)*]
+    };
+}
+
+// The name of a base name.
+macro_rules! name_of {
+    (($of:expr) $($letter:literal { $($base:ident $name:literal $types:tt $(only $program:ident)?,)* })*) => {
+        match $of {
+            $($(Base::$base => $name,)*)*
+        }
+    };
+}
+
+// Whether a base name has arrays: whether two Postgres types stand in its row.
+macro_rules! has_arrays {
+    (($of:expr) $($letter:literal { $($base:ident $name:literal $types:tt $(only $program:ident)?,)* })*) => {
+        match $of {
+            $($(Base::$base => has_arrays!($types),)*)*
+        }
+    };
+    ([$rust:ty, user.$own:ident]) => {
+        false
+    };
+    ([$rust:ty, $own:ident]) => {
+        false
+    };
+    ([$rust:ty, $($types:tt)*]) => {
+        true
+    };
+}
+
+// Whether the program knows a base name.
+macro_rules! knows {
+    (
+        ($program:expr, $of:expr)
+        $($letter:literal { $($base:ident $name:literal $types:tt $(only $only:ident)?,)* })*
+    ) => {
+        match $of {
+            $($(Base::$base => knows!($program $(, $only)?),)*)*
+        }
+    };
+    ($program:expr) => {
+        true
+    };
+    ($program:expr, $only:ident) => {
+        matches!($program, Program::$only)
+    };
+}
+
+impl Program {
+    /// Whether the program knows the base name.
+    pub fn knows(self, base: Base) -> bool
+        ensures { result ≡ knows self base }
+    {
+        base_names!(knows(self, base))
+    }
+}
+
+impl Base {
+    /// All of them, in alphabetical order.
+    pub const ALL: [Base; 38] = base_names!(all());
+
+    /// Whether it has arrays.
+    pub fn has_arrays(self) -> bool
+        ensures { result ≡ has_arrays self }
+    {
+        base_names!(has_arrays(self))
+    }
+
+    /// The base name that the bytes are, or `None` where they are none.
+    pub fn parse(bytes: &[u8]) -> Option<Base>
+        ensures { result ≡ base_of bytes.now }
+    {
+        base_names!(found(bytes))
+    }
+
+    /// The name.
+    pub fn name(self) -> &'static str
+        ensures { result.now ≡ base_name self }
+    {
+        base_names!(name_of(self))
+    }
+}

@@ -1,0 +1,40 @@
+//! Bytes.
+
+use crate::{FromText, ToText, no_value};
+use hex::FromHexError;
+use postgres_types::Fault;
+use std::alloc::{AllocError, Global};
+
+/// `\x` and two hexadecimal digits a byte (`byteaout`, with bytea_output hex).
+impl ToText for &[u8] {
+    fn to_text(&self, _alloc: Global, out: &mut Vec<u8>) -> Result<(), AllocError> {
+        out.extend_from_slice(b"\\x")?;
+        push_hex(self, out)
+    }
+}
+
+/// Appends two hexadecimal digits a byte.
+fn push_hex(bytes: &[u8], out: &mut Vec<u8>) -> Result<(), AllocError> {
+    let start = out.len();
+    if bytes.len() > (usize::MAX - start) / 2 {
+        return Err(AllocError);
+    }
+    out.resize(start + 2 * bytes.len(), 0)?;
+    match hex::encode_to_slice(bytes, &mut out[start..]) {
+        Ok(()) => Ok(()),
+        Err(_) => unreachable!(),
+    }
+}
+
+impl FromText for Vec<u8> {
+    fn from_text(alloc: Global, text: &str) -> Result<Vec<u8>, Fault> {
+        let Some(digits) = text.strip_prefix("\\x") else {
+            return Err(no_value());
+        };
+        match hex::decode(alloc, digits) {
+            Ok(bytes) => Ok(bytes),
+            Err(FromHexError::OutOfMemory) => Err(Fault::Memory),
+            Err(_) => Err(no_value()),
+        }
+    }
+}

@@ -1,0 +1,189 @@
+//! Dates, times of day and timestamps, of `jiff` and of our own, with and without infinities.
+
+use crate::calendar::Civil;
+use crate::date_forms::{
+    Clock, DateTime, parse_clock, parse_date, parse_datetime, push_clock, push_date, push_datetime,
+    push_era,
+};
+use crate::{FromText, ToText, no_value};
+use jiff::civil;
+use postgres_types::{Date, Fault, Timestamp, UnixTime};
+use std::alloc::{AllocError, Global};
+
+/// 2000-01-01, in days from 1970-01-01.
+const POSTGRES_EPOCH_DAY: i64 = 10_957;
+
+/// The zone that a timestamp with a time zone is written in.
+const UTC: &[u8] = b"+00";
+
+/// The date of `jiff`'s.
+fn civil_of(date: civil::Date) -> Civil {
+    Civil {
+        year: i64::from(date.year()),
+        month: u32::from(date.month().unsigned_abs()),
+        day: u32::from(date.day().unsigned_abs()),
+    }
+}
+
+/// The time of day of `jiff`'s.
+fn clock_of(time: civil::Time) -> Clock {
+    Clock {
+        hour: u32::from(time.hour().unsigned_abs()),
+        minute: u32::from(time.minute().unsigned_abs()),
+        second: u32::from(time.second().unsigned_abs()),
+        micros: time.subsec_nanosecond().unsigned_abs() / 1_000,
+    }
+}
+
+/// `jiff`'s date; `None` where it has none.
+fn jiff_date(date: Civil) -> Option<civil::Date> {
+    let year = i16::try_from(date.year).ok()?;
+    let month = i8::try_from(date.month).ok()?;
+    let day = i8::try_from(date.day).ok()?;
+    civil::Date::new(year, month, day).ok()
+}
+
+/// `jiff`'s time of day; `None` where there is no such time.
+fn jiff_time(clock: Clock) -> Option<civil::Time> {
+    let hour = i8::try_from(clock.hour).ok()?;
+    let minute = i8::try_from(clock.minute).ok()?;
+    let second = i8::try_from(clock.second).ok()?;
+    let nanos = i32::try_from(clock.micros.checked_mul(1_000)?).ok()?;
+    civil::Time::new(hour, minute, second, nanos).ok()
+}
+
+/// `2000-01-31` (`date_out`).
+impl ToText for civil::Date {
+    fn to_text(&self, _alloc: Global, out: &mut Vec<u8>) -> Result<(), AllocError> {
+        let date = civil_of(*self);
+        push_date(date, out)?;
+        push_era(date, out)
+    }
+}
+
+impl FromText for civil::Date {
+    fn from_text(_alloc: Global, text: &str) -> Result<civil::Date, Fault> {
+        parse_date(text).and_then(jiff_date).ok_or(no_value())
+    }
+}
+
+/// `23:59:59.5` (`time_out`).
+impl ToText for civil::Time {
+    fn to_text(&self, _alloc: Global, out: &mut Vec<u8>) -> Result<(), AllocError> {
+        push_clock(clock_of(*self), out)
+    }
+}
+
+impl FromText for civil::Time {
+    fn from_text(_alloc: Global, text: &str) -> Result<civil::Time, Fault> {
+        parse_clock(text).and_then(jiff_time).ok_or(no_value())
+    }
+}
+
+/// `2000-01-31 23:59:59.5` (`timestamp_out`).
+impl ToText for civil::DateTime {
+    fn to_text(&self, _alloc: Global, out: &mut Vec<u8>) -> Result<(), AllocError> {
+        let datetime = DateTime {
+            date: civil_of(self.date()),
+            clock: clock_of(self.time()),
+        };
+        push_datetime(datetime, b"", out)
+    }
+}
+
+/// The day and time of day as `jiff`'s; `None` where it has none.
+fn jiff_datetime(datetime: DateTime) -> Option<civil::DateTime> {
+    let date = jiff_date(datetime.date)?;
+    Some(date.to_datetime(jiff_time(datetime.clock)?))
+}
+
+impl FromText for civil::DateTime {
+    fn from_text(_alloc: Global, text: &str) -> Result<civil::DateTime, Fault> {
+        parse_datetime(text, b"")
+            .and_then(jiff_datetime)
+            .ok_or(no_value())
+    }
+}
+
+/// `2000-01-31 23:59:59.5+00` (`timestamptz_out`).
+impl ToText for jiff::Timestamp {
+    fn to_text(&self, _alloc: Global, out: &mut Vec<u8>) -> Result<(), AllocError> {
+        let micros = self.as_microsecond();
+        let seconds = micros.div_euclid(1_000_000);
+        push_datetime(
+            DateTime::new(seconds, micros.rem_euclid(1_000_000) as u32),
+            UTC,
+            out,
+        )
+    }
+}
+
+impl FromText for jiff::Timestamp {
+    fn from_text(_alloc: Global, text: &str) -> Result<jiff::Timestamp, Fault> {
+        let Some(micros) = parse_datetime(text, UTC).and_then(|datetime| datetime.micros_from(0))
+        else {
+            return Err(no_value());
+        };
+        jiff::Timestamp::from_microsecond(micros).map_err(|_| no_value())
+    }
+}
+
+/// `2000-01-31 23:59:59.5` (`timestamp_out`), by a calendar of our own, which has every year.
+impl ToText for UnixTime {
+    fn to_text(&self, _alloc: Global, out: &mut Vec<u8>) -> Result<(), AllocError> {
+        push_datetime(DateTime::new(self.secs(), self.nanos() / 1_000), b"", out)
+    }
+}
+
+impl FromText for UnixTime {
+    fn from_text(_alloc: Global, text: &str) -> Result<UnixTime, Fault> {
+        match parse_datetime(text, b"").and_then(|datetime| datetime.micros_from(
+            POSTGRES_EPOCH_DAY,
+        )) {
+            Some(micros) => Ok(UnixTime::from_postgres_micros(micros)),
+            None => Err(no_value()),
+        }
+    }
+}
+
+/// `infinity`, `-infinity` or the date.
+impl<T: ToText> ToText for Date<T> {
+    fn to_text(&self, alloc: Global, out: &mut Vec<u8>) -> Result<(), AllocError> {
+        match self {
+            Date::PosInfinity => out.extend_from_slice(b"infinity"),
+            Date::NegInfinity => out.extend_from_slice(b"-infinity"),
+            Date::Value(date) => date.to_text(alloc, out),
+        }
+    }
+}
+
+impl<T: FromText> FromText for Date<T> {
+    fn from_text(alloc: Global, text: &str) -> Result<Date<T>, Fault> {
+        match text {
+            "infinity" => Ok(Date::PosInfinity),
+            "-infinity" => Ok(Date::NegInfinity),
+            _ => Ok(Date::Value(T::from_text(alloc, text)?)),
+        }
+    }
+}
+
+/// `infinity`, `-infinity` or the timestamp.
+impl<T: ToText> ToText for Timestamp<T> {
+    fn to_text(&self, alloc: Global, out: &mut Vec<u8>) -> Result<(), AllocError> {
+        match self {
+            Timestamp::PosInfinity => out.extend_from_slice(b"infinity"),
+            Timestamp::NegInfinity => out.extend_from_slice(b"-infinity"),
+            Timestamp::Value(timestamp) => timestamp.to_text(alloc, out),
+        }
+    }
+}
+
+impl<T: FromText> FromText for Timestamp<T> {
+    fn from_text(alloc: Global, text: &str) -> Result<Timestamp<T>, Fault> {
+        match text {
+            "infinity" => Ok(Timestamp::PosInfinity),
+            "-infinity" => Ok(Timestamp::NegInfinity),
+            _ => Ok(Timestamp::Value(T::from_text(alloc, text)?)),
+        }
+    }
+}

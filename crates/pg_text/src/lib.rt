@@ -1,0 +1,43 @@
+//! PostgreSQL's own texts of values: what its output functions write, with DateStyle ISO, TimeZone
+//! UTC and IntervalStyle postgres, and what its input functions read of that.
+#![tactic(auto)]
+
+pub mod arrays;
+mod bits;
+mod bytea;
+pub mod calendar;
+mod date_forms;
+mod dates;
+mod digits;
+mod documents;
+pub mod hstore;
+mod intervals;
+mod items;
+mod network;
+mod numbers;
+mod quotes;
+mod records;
+mod scanner;
+mod small;
+mod texts;
+
+use postgres_types::Fault;
+use std::alloc::{AllocError, Global};
+
+/// A type whose values have a text.
+pub trait ToText {
+    /// Appends the value's text. Out of memory, a part of it may stand there.
+    fn to_text(&self, alloc: Global, out: &mut Vec<u8>) -> Result<(), AllocError>;
+}
+
+/// A type that is read from a text.
+pub trait FromText: Sized + Drop {
+    /// The value of the text, of which the server's output functions write one for each value; a
+    /// text that is none is the fault `User`.
+    fn from_text(alloc: Global, text: &str) -> Result<Self, Fault>;
+}
+
+/// The fault of a text that is no value of its type.
+pub fn no_value() -> Fault {
+    Fault::user("no value of its type")
+}

@@ -1,0 +1,117 @@
+//! Numbers, booleans and `"char"`.
+
+use crate::digits::push_number;
+use crate::{FromText, ToText, no_value};
+use postgres_types::Fault;
+use std::alloc::{AllocError, Global};
+
+/// `t` or `f` (`boolout`).
+impl ToText for bool {
+    fn to_text(&self, _alloc: Global, out: &mut Vec<u8>) -> Result<(), AllocError> {
+        out.extend_from_slice(if *self { b"t" } else { b"f" })
+    }
+}
+
+impl FromText for bool {
+    fn from_text(_alloc: Global, text: &str) -> Result<bool, Fault> {
+        match text {
+            "t" | "true" => Ok(true),
+            "f" | "false" => Ok(false),
+            _ => Err(no_value()),
+        }
+    }
+}
+
+/// No byte for 0, a backslash and three octal digits for a negative one, and otherwise the byte
+/// itself (`charout`).
+impl ToText for i8 {
+    fn to_text(&self, _alloc: Global, out: &mut Vec<u8>) -> Result<(), AllocError> {
+        let byte = self.cast_unsigned();
+        match byte {
+            0 => Ok(()),
+            1..=127 => Ok(out.push(byte)?),
+            _ => out.extend_from_slice(&[
+                b'\\',
+                b'0' + byte / 64,
+                b'0' + byte / 8 % 8,
+                b'0' + byte % 8,
+            ]),
+        }
+    }
+}
+
+impl FromText for i8 {
+    fn from_text(_alloc: Global, text: &str) -> Result<i8, Fault> {
+        match text.as_bytes() {
+            [] => Ok(0),
+            [byte] => Ok(byte.cast_signed()),
+            [b'\\', high, middle, low] => match octal(*high, *middle, *low) {
+                Some(byte) => Ok(byte.cast_signed()),
+                None => Err(no_value()),
+            },
+            _ => Err(no_value()),
+        }
+    }
+}
+
+/// The byte of three octal digits.
+fn octal(high: u8, middle: u8, low: u8) -> Option<u8> {
+    match (high, middle, low) {
+        (b'0'..=b'3', b'0'..=b'7', b'0'..=b'7') => {
+            Some((high - b'0') * 64 + (middle - b'0') * 8 + (low - b'0'))
+        }
+        _ => None,
+    }
+}
+
+/// Decimal digits (`int2out`).
+impl ToText for i16 {
+    fn to_text(&self, _alloc: Global, out: &mut Vec<u8>) -> Result<(), AllocError> {
+        push_number(*self, out)
+    }
+}
+
+impl FromText for i16 {
+    fn from_text(_alloc: Global, text: &str) -> Result<i16, Fault> {
+        text.parse().map_err(|_| no_value())
+    }
+}
+
+/// Decimal digits (`int4out`).
+impl ToText for i32 {
+    fn to_text(&self, _alloc: Global, out: &mut Vec<u8>) -> Result<(), AllocError> {
+        push_number(*self, out)
+    }
+}
+
+impl FromText for i32 {
+    fn from_text(_alloc: Global, text: &str) -> Result<i32, Fault> {
+        text.parse().map_err(|_| no_value())
+    }
+}
+
+/// Decimal digits (`int8out`).
+impl ToText for i64 {
+    fn to_text(&self, _alloc: Global, out: &mut Vec<u8>) -> Result<(), AllocError> {
+        push_number(*self, out)
+    }
+}
+
+impl FromText for i64 {
+    fn from_text(_alloc: Global, text: &str) -> Result<i64, Fault> {
+        text.parse().map_err(|_| no_value())
+    }
+}
+
+/// Decimal digits (`oidout`).
+impl ToText for u32 {
+    fn to_text(&self, _alloc: Global, out: &mut Vec<u8>) -> Result<(), AllocError> {
+        push_number(*self, out)
+    }
+}
+
+impl FromText for u32 {
+    fn from_text(_alloc: Global, text: &str) -> Result<u32, Fault> {
+        text.parse().map_err(|_| no_value())
+    }
+}

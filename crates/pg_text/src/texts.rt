@@ -1,0 +1,18 @@
+//! Texts.
+
+use crate::{FromText, ToText};
+use postgres_types::Fault;
+use std::alloc::{AllocError, Global};
+
+/// Itself (`textout`).
+impl ToText for &str {
+    fn to_text(&self, _alloc: Global, out: &mut Vec<u8>) -> Result<(), AllocError> {
+        out.extend_from_slice(self.as_bytes())
+    }
+}
+
+impl FromText for String {
+    fn from_text(alloc: Global, text: &str) -> Result<String, Fault> {
+        Ok(String::from_str(alloc, text)?)
+    }
+}

@@ -1,0 +1,101 @@
+-- What each base name stands for.
+use Rattle.std.specs.Prelude.{ℕ, Option, Some, None, map, String, Vec}
+use Rattle.postgres_types.specs.Content.{Content, BuiltInType, kind_of}
+use Rattle.std.specs.Int.{w8, w16, w32, w64}
+use Rattle.std.specs.Global.{Global}
+use Rattle.std.specs.HashMap.{HashMap}
+use Rattle.std.specs.declared.hash.BuildHasherDefault.{BuildHasherDefault}
+use Rattle.std.specs.declared.hash.FoldHasher.{FoldHasher}
+use Rattle.postgres_types.specs.Bits.{ReadsBits, wire_bits}
+use Rattle.postgres_types.specs.Bytea.{ReadsBytes, wire_bytes}
+use Rattle.postgres_types.specs.Civil.{ReadsDate, ReadsDateTime, ReadsInstant, ReadsTime, wire_date, wire_datetime}
+use Rattle.postgres_types.specs.Civil.{wire_instant, wire_time}
+use Rattle.postgres_types.specs.Hstore.{ReadsHstore, owned_entry, wire_hstore}
+use Rattle.postgres_types.specs.Interval.{ReadsInterval, wire_interval}
+use Rattle.postgres_types.specs.FixedBytes.{ReadsFixedBytes, wire_fixed_bytes}
+use Rattle.postgres_types.specs.Timestamps.{ReadsTimestamp, nanos_of, wire_timestamp}
+use Rattle.postgres_types.specs.Network.{ReadsAddress, ReadsCidr, ReadsInet, wire_address, wire_cidr, wire_inet}
+use Rattle.postgres_types.specs.Numbers.{ReadsBool, ReadsSigned, ReadsUnsigned, wire_bool, wire_signed, wire_unsigned}
+use Rattle.postgres_types.specs.Special.{ReadsSpecial, date_view, timestamp_view, wire_special}
+use Rattle.pg_types.specs.declared.types.built_in.BuiltIn.{BuiltIn as Row}
+use Rattle.pg_types.specs.declared.types.built_in.BuiltIn.TheVariants as row
+use Rattle.postgres_types.specs.Records.{fields_of_kind}
+use Rattle.pg_record.specs.InventoryItems.{reads_item, wire_item}
+use Rattle.pg_record.specs.Moods.{ReadsMood, wire_mood}
+use Rattle.pg_record.specs.SessionIds.{ReadsSessionId, wire_session_id}
+use Rattle.pgcell.specs.UserTypes.{hstore, item, item_array, ltree, mood, session}
+use Rattle.pgcell.specs.Rewritten.{ReadsVec, wire_vec, Rewriting, RewrittenAs, RewrittenPlain, RewrittenText}
+use Rattle.named_types.specs.declared.base.Base.{Base}
+use Rattle.named_types.specs.declared.base.Base.TheVariants as base
+
+-- what a base name stands for: its Postgres type, the type of its arrays, if it has arrays, and how a cell is rewritten
+pub data Entry : Type 1 where
+  no_entry : Entry
+  entry : Content → Option Content → Rewriting → Entry
+
+-- a base name with two of the built-in types
+abbrev pub built_in : Row → Row → Rewriting → Entry
+built_in own arrays = entry (BuiltInType own) (Some (BuiltInType arrays))
+
+-- a base name without arrays
+abbrev pub no_arrays : Content → Rewriting → Entry
+no_arrays own = entry own None
+
+-- a map of texts
+abbrev pub Map : Type 0
+Map = HashMap (String Global) (Option (String Global)) (BuildHasherDefault FoldHasher)
+
+-- an item is rewritten by the fields of the type
+abbrev pub RewrittenItem : Rewriting
+RewrittenItem =
+    RewrittenAs (λ ty. reads_item (fields_of_kind (kind_of ty))) (λ ty. wire_item (fields_of_kind (kind_of ty)))
+
+-- the entry of a base name; json and jsonb have none, since serde_json::Value has no law of reading back
+abbrev pub entry_of : Base → Entry
+entry_of base.Addr = built_in row.Inet row.InetArray (RewrittenPlain ReadsAddress wire_address)
+entry_of base.Bit = built_in row.Bit row.BitArray (RewrittenPlain (ReadsBits (λ v. v)) wire_bits)
+entry_of base.Bool = built_in row.Bool row.BoolArray (RewrittenPlain ReadsBool wire_bool)
+entry_of base.Bpchar = built_in row.Bpchar row.BpcharArray RewrittenText
+entry_of base.Bytea =
+    built_in row.Bytea row.ByteaArray (RewrittenPlain {A = Vec ℕ Global} (ReadsBytes (λ v. v.items)) (λ v. wire_bytes v.items))
+entry_of base.Char = built_in row.Char row.CharArray (RewrittenPlain (ReadsSigned w8) (wire_signed w8))
+entry_of base.Cidr = built_in row.Cidr row.CidrArray (RewrittenPlain ReadsCidr wire_cidr)
+entry_of base.Date = built_in row.Date row.DateArray (RewrittenPlain ReadsDate wire_date)
+entry_of base.DateInf =
+    built_in row.Date row.DateArray (RewrittenPlain (ReadsSpecial w32 date_view ReadsDate) (λ v. wire_special w32 wire_date (date_view v)))
+entry_of base.Hstore =
+    no_arrays hstore (RewrittenPlain {A = Map} ReadsHstore (λ m. wire_hstore (map owned_entry m.entries)))
+entry_of base.Inet = built_in row.Inet row.InetArray (RewrittenPlain ReadsInet wire_inet)
+entry_of base.Int2 = built_in row.Int2 row.Int2Array (RewrittenPlain (ReadsSigned w16) (wire_signed w16))
+entry_of base.Int2Vector =
+    no_arrays (BuiltInType row.Int2Vector) (RewrittenAs (ReadsVec (λ _. ReadsSigned w16)) (wire_vec (λ _. wire_signed w16)))
+entry_of base.Int4 = built_in row.Int4 row.Int4Array (RewrittenPlain (ReadsSigned w32) (wire_signed w32))
+entry_of base.Int8 = built_in row.Int8 row.Int8Array (RewrittenPlain (ReadsSigned w64) (wire_signed w64))
+entry_of base.Interval = built_in row.Interval row.IntervalArray (RewrittenPlain ReadsInterval wire_interval)
+entry_of base.Item = entry item (Some item_array) RewrittenItem
+entry_of base.Json = no_entry
+entry_of base.Jsonb = no_entry
+entry_of base.Ltree = no_arrays ltree RewrittenText
+entry_of base.Macaddr =
+    built_in row.Macaddr row.MacaddrArray (RewrittenPlain (ReadsFixedBytes 6) (wire_fixed_bytes 6))
+entry_of base.Mood = no_arrays mood (RewrittenPlain ReadsMood wire_mood)
+entry_of base.Name = built_in row.Name row.NameArray RewrittenText
+entry_of base.Oid = built_in row.Oid row.OidArray (RewrittenPlain (ReadsUnsigned w32) (wire_unsigned w32))
+entry_of base.OidVector =
+    no_arrays (BuiltInType row.OidVector) (RewrittenAs (ReadsVec (λ _. ReadsUnsigned w32)) (wire_vec (λ _. wire_unsigned w32)))
+entry_of base.PgLsn = built_in row.PgLsn row.PgLsnArray (RewrittenPlain (ReadsUnsigned w64) (wire_unsigned w64))
+entry_of base.Session = no_arrays session (RewrittenPlain ReadsSessionId wire_session_id)
+entry_of base.Text = built_in row.Text row.TextArray RewrittenText
+entry_of base.Time = built_in row.Time row.TimeArray (RewrittenPlain ReadsTime wire_time)
+entry_of base.Timestamp = built_in row.Timestamp row.TimestampArray (RewrittenPlain ReadsDateTime wire_datetime)
+entry_of base.TimestampInf =
+    built_in row.Timestamp row.TimestampArray (RewrittenPlain (ReadsSpecial w64 timestamp_view ReadsDateTime) (λ v. wire_special w64 wire_datetime (timestamp_view v)))
+entry_of base.Timestamptz = built_in row.Timestamptz row.TimestamptzArray (RewrittenPlain ReadsInstant wire_instant)
+entry_of base.Unix =
+    built_in row.Timestamp row.TimestampArray (RewrittenPlain (ReadsTimestamp nanos_of) (λ v. wire_timestamp (nanos_of v)))
+entry_of base.UnixInf =
+    built_in row.Timestamp row.TimestampArray (RewrittenPlain (ReadsSpecial w64 timestamp_view (ReadsTimestamp nanos_of)) (λ v. wire_special w64 (λ u. wire_timestamp (nanos_of u)) (timestamp_view v)))
+entry_of base.Unknown = no_arrays (BuiltInType row.Unknown) RewrittenText
+entry_of base.Uuid = built_in row.Uuid row.UuidArray (RewrittenPlain (ReadsFixedBytes 16) (wire_fixed_bytes 16))
+entry_of base.Varbit = built_in row.Varbit row.VarbitArray (RewrittenPlain (ReadsBits (λ v. v)) wire_bits)
+entry_of base.Varchar = built_in row.Varchar row.VarcharArray RewrittenText

@@ -1,0 +1,45 @@
+//! Reading in blocks, and writing whole.
+ghost use Rattle.std.specs.Prelude.{◌≤◌, ℕ, length, take, IfOk, OnOk, OnErr};
+ghost use Rattle.std.specs.Io.KnownBytes.{Appends, ReadConsumes};
+
+use std::io::{self, ErrorKind, Read, Write};
+
+/// How many bytes are asked of a reader at a time.
+pub const BLOCK: usize = 65_536;
+
+/// Reads into the block and answers how many bytes, 0 at the end of the input. A read that was
+/// interrupted is tried again.
+pub fn read_block<R: Read>(input: &mut R, block: &mut [u8]) -> io::Result<usize>
+    ensures bound { IfOk result (λ n. n ≤ length block.new) }
+    ensures bytes { ReadConsumes (R.remaining input.old) (R.remaining input.new) result block.new }
+{
+    'turns: for _ in 0..u64::MAX {
+        match input.read(block) {
+            Err(e) if e.kind() == ErrorKind::Interrupted => {}
+            answer => return answer,
+        }
+    }
+    Err(io::Error::from(ErrorKind::Interrupted))
+}
+
+/// Writes all of it. A write that was interrupted is tried again. Where a write fails, or takes
+/// nothing, a beginning of it is written.
+pub fn write_whole<W: Write>(output: &mut W, bytes: &[u8]) -> io::Result<()>
+    ensures ok { OnOk result (Appends (W.contents output.old) (W.contents output.new) bytes.now) }
+    ensures err { OnErr result ((k : ℕ) × (k ≤ length bytes.now)
+        × Appends (W.contents output.old) (W.contents output.new) (take k bytes.now)) }
+{
+    let mut sent = 0;
+    'turns: for _ in 0..u64::MAX {
+        if sent == bytes.len() {
+            return Ok(());
+        }
+        match output.write(&bytes[sent..]) {
+            Ok(0) => return Err(io::Error::from(ErrorKind::WriteZero)),
+            Ok(n) => sent += n,
+            Err(e) if e.kind() == ErrorKind::Interrupted => {}
+            Err(e) => return Err(e),
+        }
+    }
+    Err(io::Error::from(ErrorKind::Interrupted))
+}
