@@ -223,6 +223,7 @@ impl Base {
     }
 
     /// The base name that the bytes are, or `None` where they are none.
+    #[inline(never)]
     pub fn parse(bytes: &[u8]) -> Option<Base>
         ensures { result ≡ base_of bytes.now }
     {

@@ -7,12 +7,15 @@ use crate::norm::Rewriter;
 use crate::request::Request;
 use postgres_types::{Oid, PgLsn, Type};
 use std::alloc::{AllocError, Global};
+use std::fmt::Write;
 use streams::lines::AnswerLine;
 
-/// What answering keeps from line to line: the bytes of a cell, and what rewriting keeps.
+/// What answering keeps from line to line: the bytes of a cell, an answer that is a text, and what
+/// rewriting keeps.
 #[derive(Drop)]
 pub struct Answerer {
     bytes: Vec<u8>,
+    text: String,
     rewriter: Rewriter,
 }
 
@@ -22,6 +25,7 @@ impl Answerer {
         let rewriter = Rewriter::new(alloc)?;
         Ok(Answerer {
             bytes: Vec::new(alloc),
+            text: String::new(alloc),
             rewriter,
         })
     }
@@ -39,14 +43,14 @@ impl AnswerLine for Answerer {
         match Request::parse(line, &mut self.bytes)? {
             None => pending.extend_from_slice(b"bad line"),
             Some(Request::Norm(name, cell)) => self.rewriter.norm(alloc, name, cell, pending),
-            Some(Request::TypeOf(oid)) => append_type(alloc, oid, pending),
-            Some(Request::Lsn(text)) => append_lsn(alloc, text, pending),
+            Some(Request::TypeOf(oid)) => append_type(oid, &mut self.text, pending),
+            Some(Request::Lsn(lsn)) => append_lsn(lsn, &mut self.text, pending),
         }
     }
 }
 
 /// Appends the answer to `type OID`.
-fn append_type(alloc: Global, oid: Oid, pending: &mut Vec<u8>) -> Result<(), AllocError>
+fn append_type(oid: Oid, text: &mut String, pending: &mut Vec<u8>) -> Result<(), AllocError>
     ensures ok { OnOk result ((text : List ℕ)
         × AnswersType oid text
         × (pending.new.items ≡ pending.old.items ++ text)) }
@@ -55,18 +59,20 @@ fn append_type(alloc: Global, oid: Oid, pending: &mut Vec<u8>) -> Result<(), All
     let Some(ty) = Type::from_oid(oid) else {
         return pending.extend_from_slice(b"none");
     };
-    let text = format!(in alloc; "ok {ty}")?;
+    text.clear();
+    write!(text, "ok {ty}")?;
     pending.extend_from_slice(text.as_bytes())
 }
 
 /// Appends the answer to `lsn TEXT`.
-fn append_lsn(alloc: Global, text: &str, pending: &mut Vec<u8>) -> Result<(), AllocError>
-    ensures ok { OnOk result (pending.new.items ≡ pending.old.items ++ lsn_answer (lsn_of text.now)) }
+fn append_lsn(lsn: &str, text: &mut String, pending: &mut Vec<u8>) -> Result<(), AllocError>
+    ensures ok { OnOk result (pending.new.items ≡ pending.old.items ++ lsn_answer (lsn_of lsn.now)) }
     ensures err { OnErr result (pending.new.items ≡ pending.old.items) }
 {
-    let Ok(lsn) = text.parse::<PgLsn>() else {
+    let Ok(lsn) = lsn.parse::<PgLsn>() else {
         return pending.extend_from_slice(b"bad lsn");
     };
-    let text = format!(in alloc; "ok {lsn}")?;
+    text.clear();
+    write!(text, "ok {lsn}")?;
     pending.extend_from_slice(text.as_bytes())
 }

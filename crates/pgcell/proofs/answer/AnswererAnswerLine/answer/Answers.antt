@@ -46,7 +46,7 @@ returns-in-Some-TypeOf-clause-ok c =
 
 pub returns-in-Some-Lsn-clause-ok : goal.returns-in-Some-Lsn-clause-ok
 returns-in-Some-Lsn-clause-ok c =
-    let position = c.in-Some-Lsn.text.now in
+    let position = c.in-Some-Lsn.lsn.now in
     let answer = lsn_answer (lsn_of position) in
     let asked = rw c.in-Some-Lsn.field-0-is at (rw c.in-Some-Lsn.is at c.in_ok-parse.ensures) in
     ok_weaker {P = c.append_lsn.new.pending.items ≡ c.args.pending.now.items ++ answer} c.append_lsn.result
