@@ -1,7 +1,6 @@
 -- Laws of lines.
-use Rattle.std.proofs.Common.{◌≡◌, ℕ, suc, zero, ◌+◌, ◌<◌, List, [], ◌∷◌, ◌++◌, length, refl, ap, sym, ◌∙◌, arith}
+use Rattle.std.proofs.Common.{◌≡◌, ℕ, suc, zero, ◌+◌, List, [], ◌∷◌, ◌++◌, length, refl, ap, sym, ◌∙◌, arith}
 use Rattle.std.proofs.Common.{append_assoc, append-nil, length-append}
-use Rattle.std.specs.List.{AllByRecursion}
 use Rattle.pg_copy.specs.Lines.{GainsFields, IsField, IsLine, tab_before, tabbed}
 use Rattle.pg_copy.specs.Outputs.{Extends, Gains}
 use Rattle.pg_copy.proofs.OutputLaws.{all_append}

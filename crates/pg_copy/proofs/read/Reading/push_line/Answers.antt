@@ -1,5 +1,5 @@
 -- What the proof of `push_line` answers by hand.
-use Rattle.std.proofs.Common.{◌≡◌, ◌∙◌}
+use Rattle.std.proofs.Common.{◌∙◌}
 use Rattle.pg_copy.specs.Outputs.{Extends}
 use Rattle.pg_copy.proofs.LineLaws.{fields_extend, next_field}
 use Rattle.streams.proofs.Outcomes.{on_err}

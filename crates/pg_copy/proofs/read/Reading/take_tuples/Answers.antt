@@ -1,5 +1,5 @@
 -- What the proof of `take_tuples` answers by hand.
-use Rattle.std.proofs.Common.{◌≡◌, ◌∙◌, subst, length, List, ℕ}
+use Rattle.std.proofs.Common.{◌∙◌, subst, length, List}
 use Rattle.pg_copy.specs.Lines.{IsLine}
 use Rattle.pg_copy.specs.Outputs.{Gains}
 use Rattle.pg_copy.specs.declared.columns.Column.{Column}
