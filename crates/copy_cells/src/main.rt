@@ -28,7 +28,7 @@ DateStyle ISO, TimeZone UTC and IntervalStyle postgres.
 
 /// What it prints after them.
 const NOTES: &str = "\
-After a name [] says arrays, but for the last types; ? may stand there, since every column and element may be NULL.
+After a name [] says arrays; ? may stand there, since every column and element may be NULL.
 --oid item=OID is the OID of \"InventoryItem\" on the server, which stands in cells of its arrays.
 Whole rows alone are written. A fault is told on standard error, with its row or line and its column, and the status
 is 1.
@@ -61,17 +61,25 @@ fn help(rt: &HostRuntime) -> Result<()> {
     rt.print(HELP)?;
     let with_arrays = names(rt.alloc(), true)?;
     let without_arrays = names(rt.alloc(), false)?;
-    println!(rt; "Types:{with_arrays}\nand{without_arrays}")?;
+    println!(rt; "Types:\n{with_arrays}\nand without arrays:\n{without_arrays}")?;
     Ok(rt.print(NOTES)?)
 }
 
-/// The base names of a COPY that have arrays, or have none, with a space before each.
+/// The base names of a COPY that have arrays, or have none, on lines of some 100 bytes.
 fn names(alloc: Global, has_arrays: bool) -> Result<String> {
     let mut names = String::new(alloc);
+    let mut width: usize = 0;
     for base in Base::ALL {
-        if Program::Copy.knows(base) && base.has_arrays() == has_arrays {
-            write!(names, " {}", base.name())?;
+        if !Program::Copy.knows(base) || base.has_arrays() != has_arrays {
+            continue;
         }
+        if width > 100 {
+            names.push('\n')?;
+            width = 0;
+        }
+        let name = base.name();
+        write!(names, " {name}")?;
+        width = width.saturating_add(name.len()).saturating_add(1);
     }
     Ok(names)
 }
