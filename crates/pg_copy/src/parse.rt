@@ -23,9 +23,6 @@ use uuid::Uuid;
 /// A text, of which `None` is NULL.
 pub type Text<'a> = Option<&'a str>;
 
-/// What framing answers.
-type Framed = Result<(), Fault>;
-
 // A text is written by the row of its column's base name.
 macro_rules! push {
     (
@@ -51,7 +48,12 @@ macro_rules! push_row {
 /// Appends the frame of the cell that the value of the text is written as. A text that is no value
 /// of the column's type is the fault `User`; another fault is that of writing. Either leaves the
 /// buffer's bytes as they were.
-pub fn push_frame(alloc: Global, column: &Column, text: Text<'_>, out: &mut BytesMut) -> Framed
+pub fn push_frame(
+    alloc: Global,
+    column: &Column,
+    text: Text<'_>,
+    out: &mut BytesMut,
+) -> Result<(), Fault>
     ensures ok { OnOk result (Gains IsFrame out.old.items out.new.items) }
     ensures err { OnErr result (out.new.items ≡ out.old.items) }
 {
@@ -59,7 +61,12 @@ pub fn push_frame(alloc: Global, column: &Column, text: Text<'_>, out: &mut Byte
 }
 
 /// The same as a text, which is written where it lies, or as a list of them.
-fn push_text(alloc: Global, column: &Column, text: Text<'_>, out: &mut BytesMut) -> Framed
+fn push_text(
+    alloc: Global,
+    column: &Column,
+    text: Text<'_>,
+    out: &mut BytesMut,
+) -> Result<(), Fault>
     ensures ok { OnOk result (Gains IsFrame out.old.items out.new.items) }
     ensures err { OnErr result (out.new.items ≡ out.old.items) }
 {
@@ -75,7 +82,7 @@ fn push_as<T: FromText + ToSql>(
     column: &Column,
     text: Text<'_>,
     out: &mut BytesMut,
-) -> Framed
+) -> Result<(), Fault>
     ensures ok { OnOk result (Gains IsFrame out.old.items out.new.items) }
     ensures err { OnErr result (out.new.items ≡ out.old.items) }
 {
@@ -95,7 +102,7 @@ fn push_array_as<T: FromText + ToSql>(
     ty: &Type,
     text: Text<'_>,
     out: &mut BytesMut,
-) -> Framed
+) -> Result<(), Fault>
     ensures ok { OnOk result (Gains IsFrame out.old.items out.new.items) }
     ensures err { OnErr result (out.new.items ≡ out.old.items) }
 {

@@ -17,9 +17,6 @@ use std::alloc::Global;
 use std::net::IpAddr;
 use uuid::Uuid;
 
-/// Whether a value stands there, and not NULL; or the fault of reading.
-type Shown = Result<bool, Fault>;
-
 // A cell is read by the row of its column's base name.
 macro_rules! push {
     (
@@ -45,9 +42,14 @@ macro_rules! push_row {
     };
 }
 
-/// Takes the frame at the front of the row, and appends the text of the value that its cell is read
-/// as. After a fault a part of the text may stand there.
-pub fn push_cell(alloc: Global, column: &Column, row: &mut &[u8], text: &mut Vec<u8>) -> Shown {
+/// Takes the frame at the front of the row, appends the text of the value that its cell is read as,
+/// and answers whether there is one, and not NULL. After a fault a part of the text may stand there.
+pub fn push_cell(
+    alloc: Global,
+    column: &Column,
+    row: &mut &[u8],
+    text: &mut Vec<u8>,
+) -> Result<bool, Fault> {
     base_names!(push(alloc, column, row, text))
 }
 
@@ -57,7 +59,7 @@ fn push_as<'a, T: FromSql<'a> + ToText>(
     column: &Column,
     row: &mut &'a [u8],
     text: &mut Vec<u8>,
-) -> Shown {
+) -> Result<bool, Fault> {
     if column.is_array {
         return push_array_as::<T>(alloc, &column.ty, row, text);
     }
@@ -78,7 +80,7 @@ fn push_array_as<'a, T: FromSql<'a> + ToText>(
     ty: &Type,
     row: &mut &'a [u8],
     text: &mut Vec<u8>,
-) -> Shown {
+) -> Result<bool, Fault> {
     let is_accepted = <Option<Vec<Option<T>>> as FromSql<'a>>::accepts(ty);
     check_type(is_accepted, ty, "Option")?;
     let frame = *row;

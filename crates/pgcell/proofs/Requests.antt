@@ -5,7 +5,7 @@ use Rattle.std.specs.Str.{is_utf8}
 use Rattle.std.proofs.lemmas.Bool.{eq-eqb}
 use Rattle.std.proofs.lemmas.Str.{IsUtf8-from_is_utf8}
 use Rattle.pgcell.specs.Answer.{Answer, AnswersRequest}
-use Rattle.pgcell.specs.Request.{Asked, request_of, split}
+use Rattle.pgcell.specs.Request.{Command, request_of, split}
 use Rattle.streams.specs.Lines.{Lacks}
 
 -- the first part ends at the first separator
@@ -34,7 +34,7 @@ no_text text x true e h = absurd (h (IsUtf8-from_is_utf8 text e))
 no_text text x false e h = rw e refl
 
 -- a request's answer is the line's
-pub answers_line : (line : List ℕ) (request : Option Asked) (text : List ℕ) → request ≡ request_of line
+pub answers_line : (line : List ℕ) (request : Option Command) (text : List ℕ) → request ≡ request_of line
     → AnswersRequest request text → Answer line text
 unfolding Answer
 answers_line line request text e h = subst (λ r. AnswersRequest r text) e h

@@ -4,7 +4,7 @@ use Rattle.postgres_types.specs.BuiltInRows.{row_oid}
 use Rattle.postgres_types.specs.Content.{Content, IsBuiltIn, oid_of, type_text}
 use Rattle.postgres_types.specs.Lsn.{lsn_of, lsn_text}
 use Rattle.pgcell.specs.Norm.{AnswersNorm}
-use Rattle.pgcell.specs.Request.{Asked, norm, type_of, lsn, request_of}
+use Rattle.pgcell.specs.Request.{Command, norm, type_of, lsn, request_of}
 
 -- the text of the built-in type of this OID; `none` where no built-in type has it
 abbrev pub AnswersType : ℕ → List ℕ → Type 0
@@ -18,7 +18,7 @@ lsn_answer None = codes "bad lsn"
 lsn_answer (Some position) = codes "ok " ++ lsn_text position
 
 -- a line that is not well formed is answered `bad line`
-abbrev pub AnswersRequest : Option Asked → List ℕ → Type 0
+abbrev pub AnswersRequest : Option Command → List ℕ → Type 0
 AnswersRequest None text = text ≡ codes "bad line"
 AnswersRequest (Some (norm name cell)) text = AnswersNorm name cell text
 AnswersRequest (Some (type_of oid)) text = AnswersType oid text

@@ -45,35 +45,35 @@ oid_of_word word =
     else None
 
 -- what is asked for: to rewrite a cell, to show a type, to show a log position
-pub data Asked : Type 0 where
-  norm : Name → Cell → Asked
-  type_of : ℕ → Asked
-  lsn : List ℕ → Asked
+pub data Command : Type 0 where
+  norm : Name → Cell → Command
+  type_of : ℕ → Command
+  lsn : List ℕ → Command
 
 -- `norm NAME CELL`
-abbrev pub norm_of : List ℕ → Option Asked
+abbrev pub norm_of : List ℕ → Option Command
 norm_of words =
     option_and_then (λ parts. option_and_then (λ name. option_map (norm name) (cell_of_word parts.1))
     (name_of parts.0)) (split 32 words)
 
 -- `lsn TEXT`, the whole rest of the line, which is UTF-8
-abbrev pub lsn_of_text : List ℕ → Option Asked
+abbrev pub lsn_of_text : List ℕ → Option Command
 lsn_of_text text = if is_utf8 text then Some (lsn text) else None
 
 -- what a command and the rest of its line ask for
-abbrev pub asked_by : List ℕ → List ℕ → Option Asked
-asked_by command rest =
+abbrev pub command_of : List ℕ → List ℕ → Option Command
+command_of command rest =
     if same_word command (codes "norm") then norm_of rest
     else if same_word command (codes "type") then option_map type_of (oid_of_word rest)
     else if same_word command (codes "lsn") then lsn_of_text rest
     else None
 
 -- what a line asks for: the command ends at the first space
-abbrev pub request_of : List ℕ → Option Asked
-request_of line = option_and_then (λ parts. asked_by parts.0 parts.1) (split 32 line)
+abbrev pub request_of : List ℕ → Option Command
+request_of line = option_and_then (λ parts. command_of parts.0 parts.1) (split 32 line)
 
 -- what a request asks for
-abbrev pub view : Request → Asked
+abbrev pub view : Request → Command
 view (Norm name cell) = norm name (cell_of cell)
 view (TypeOf oid) = type_of oid
 view (Lsn text) = lsn text.now

@@ -10,6 +10,7 @@ mod infinities;
 mod intervals;
 mod memory;
 mod names;
+mod no_day;
 mod timestamps;
 mod types;
 mod user_timestamp;

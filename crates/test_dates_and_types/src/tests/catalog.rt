@@ -1,9 +1,9 @@
 //! The built-in types by their OIDs, as in the server's catalog.
 
 use postgres_types::{KindRef, Oid, Type};
-use rows::{displays, holds, same};
 use std::borrow::Cow;
 use std::test::Fail;
+use test_support::{displays, holds, same};
 
 /// An OID, its type, the type's name and, of an array, the type of its elements.
 type Row = (Oid, Type, &'static str, Option<Type>);

@@ -4,9 +4,9 @@ use jiff::Timestamp;
 use jiff::civil::{Date, DateTime, Time};
 use postgres_types::Type;
 use postgres_types::protocol::{date_from_sql, date_to_sql, time_from_sql, time_to_sql};
-use rows::code::{DECODE, SIZE, WAS_NULL};
-use rows::{accepts, displays, has_cells, has_functions, reads, simple_type, writes};
 use std::test::Fail;
+use test_support::code::{DECODE, SIZE, WAS_NULL};
+use test_support::{accepts, displays, has_cells, has_functions, reads, simple_type, writes};
 
 /// Year, month and day.
 type Day = (i16, i8, i8);

@@ -1,9 +1,9 @@
 //! Copies of types, kinds and fields.
 
 use postgres_types::{Field, Kind, Type};
-use rows::{holds, same, simple_type, user_type};
 use std::alloc::Global;
 use std::test::Fail;
+use test_support::{holds, same, simple_type, user_type};
 
 fn text(alloc: Global) -> Result<String, Fail> {
     Ok(String::from_str(alloc, "a")?)

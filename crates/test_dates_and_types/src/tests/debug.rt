@@ -4,9 +4,9 @@ use postgres_types::protocol::{inet_from_sql, varbit_from_sql};
 use postgres_types::{
     BitVec, Field, Format, IpCidr, IpInet, IsNull, Kind, MacAddress, PgLsn, Type, WrongType,
 };
-use rows::{debugs, simple_type, unix};
 use std::net::{IpAddr, Ipv4Addr};
 use std::test::Fail;
+use test_support::{debugs, simple_type, unix};
 
 fn ten() -> IpAddr {
     IpAddr::V4(Ipv4Addr::new(10, 0, 0, 0))

@@ -1,14 +1,14 @@
 //! A row that does not hold fails.
 
 use postgres_types::{Fault, Type};
-use rows::{
+use std::io::Eprint;
+use std::process::Termination;
+use std::test::Fail;
+use test_support::{
     accepts, code, debugs, displays, holds, null_takes_no_memory, read, reads, reads_back, refusal,
     refuses, refuses_type, refuses_value, refuses_values, rewrites, same, spells, takes_no_memory,
     unix, writes, writes_by_room, writes_null,
 };
-use std::io::Eprint;
-use std::process::Termination;
-use std::test::Fail;
 
 /// The cells of 7 and 8.
 const SEVEN: [u8; 4] = [0, 0, 0, 7];

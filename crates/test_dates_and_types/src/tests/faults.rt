@@ -1,9 +1,9 @@
 //! Faults: their numbers and texts.
 
 use postgres_types::{Fault, Type, WasNull, WrongType};
-use rows::{code, debugs, displays, same};
 use std::alloc::Global;
 use std::test::Fail;
+use test_support::{code, debugs, displays, same};
 
 /// The faults that a constant can hold: the number, the fault and its text.
 const FAULTS: [(u32, Fault, &str); 21] = [

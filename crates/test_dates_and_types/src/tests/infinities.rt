@@ -1,15 +1,17 @@
 //! Dates and timestamps with infinities.
 
+use super::no_day::NoDay;
 use jiff::civil;
+use own_types::newtype::Days;
 use pg_base::special::laws::{same_date, same_timestamp};
 use postgres_types::{Date, Format, FromSql, Paired, Timestamp, ToSql, Type, UnixTime};
-use rows::code::{DECODE, SIZE, TRANSMIT, WAS_NULL};
-use rows::{
-    Days, NoDay, accepts, debugs, has_cells, holds, reads_back, refuses, refuses_both,
-    refuses_type, rewrites, same, spells, unix, writes, writes_null,
-};
 use std::alloc::Global;
 use std::test::Fail;
+use test_support::code::{DECODE, SIZE, TRANSMIT, WAS_NULL};
+use test_support::{
+    accepts, debugs, has_cells, holds, reads_back, refuses, refuses_both, refuses_type, rewrites,
+    same, spells, unix, writes, writes_null,
+};
 
 const LAST_DATE: [u8; 4] = [0x7f, 0xff, 0xff, 0xff];
 

@@ -3,9 +3,11 @@
 use pg_base::interval::laws::same_interval;
 use postgres_types::protocol::{interval_from_sql, interval_to_sql};
 use postgres_types::{Interval, Type};
-use rows::code::{SIZE, WAS_NULL};
-use rows::{accepts, debugs, has_cells, has_functions, holds, refuses_type, rewrites, spells};
 use std::test::Fail;
+use test_support::code::{SIZE, WAS_NULL};
+use test_support::{
+    accepts, debugs, has_cells, has_functions, holds, refuses_type, rewrites, spells,
+};
 
 /// Microseconds, days and months, and their cell. The third row is of
 /// `1 mon 2 days 00:00:03`, the last two are those that PostgreSQL takes for infinities.

@@ -2,10 +2,10 @@
 
 use postgres_types::private::BytesMut;
 use postgres_types::{ToSql, Type, from_sql_nullable};
-use rows::code::{MEMORY, WRONG_TYPE};
-use rows::{hoard, holds, same};
 use std::alloc::Global;
 use std::test::Fail;
+use test_support::code::{MEMORY, WRONG_TYPE};
+use test_support::{hoard, holds, same};
 
 /// The numbers of the faults of five calls: a write into `room`, a write into `full`, a write of
 /// NULL, a reading that takes memory, and a write that is refused for its type.

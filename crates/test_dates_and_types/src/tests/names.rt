@@ -3,13 +3,13 @@
 use jiff::Timestamp;
 use jiff::civil::{Date, DateTime, Time};
 use postgres_types::{BitVec, IpCidr, IpInet, MacAddress, PgLsn, ToSql};
-use rows::{refuses_type, simple_type, unix};
 use serde_json::Value;
 use std::alloc::Global;
 use std::borrow::{CowSlice, CowStr};
 use std::collections::HashMap;
 use std::net::{IpAddr, Ipv4Addr};
 use std::test::Fail;
+use test_support::{refuses_type, simple_type, unix};
 use uuid::Uuid;
 
 fn ten() -> IpAddr {

@@ -3,14 +3,14 @@
 use pg_base::unix_time::laws::{same_unix_time, unix_time_order};
 use postgres_types::protocol::{timestamp_from_sql, timestamp_to_sql};
 use postgres_types::{Timestamp, Type, UnixTime};
-use rows::code::{SIZE, TRANSMIT, USER, WAS_NULL};
-use rows::{
-    debugs, has_functions, holds, reads_back, refuses, refuses_both, same, takes_no_memory, unix,
-    writes,
-};
 use std::alloc::Global;
 use std::cmp::Ordering;
 use std::test::Fail;
+use test_support::code::{SIZE, TRANSMIT, USER, WAS_NULL};
+use test_support::{
+    debugs, has_functions, holds, reads_back, refuses, refuses_both, same, takes_no_memory, unix,
+    writes,
+};
 
 const FIRST: [u8; 8] = [0x80, 0, 0, 0, 0, 0, 0, 0];
 

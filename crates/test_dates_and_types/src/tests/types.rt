@@ -5,9 +5,9 @@ use pg_base::types::laws::{
     same_type,
 };
 use postgres_types::{Fault, Field, Kind, Type};
-use rows::{displays, holds, same, simple_type, user_type};
 use std::alloc::Global;
 use std::test::Fail;
+use test_support::{displays, holds, same, simple_type, user_type};
 
 fn mood(alloc: Global, schema: &str) -> Result<Type, Fault> {
     let sad = String::from_str(alloc, "sad")?;

@@ -3,9 +3,9 @@
 use postgres_types::private::BytesMut;
 use postgres_types::protocol::{timestamp_from_sql, timestamp_to_sql};
 use postgres_types::{Fault, Format, FromSql, IsNull, Timestamp, ToSql, Type, WrongType};
-use rows::{binds, reads, spells};
 use std::alloc::Global;
 use std::test::Fail;
+use test_support::{binds, reads, spells};
 
 /// Microseconds from 2000-01-01 00:00:00; every integer is a value.
 #[derive(Debug, Clone, Copy, PartialEq)]

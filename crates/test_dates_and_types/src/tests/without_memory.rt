@@ -4,13 +4,13 @@ use postgres_types::private::{BytesMut, read_be_i32, read_value};
 use postgres_types::{
     BitVec, Fault, Format, FromSql, IsNull, PgLsn, ToSql, Type, rewrite, to_sql_checked_as,
 };
-use rows::code::WRONG_TYPE;
-use rows::fault_code;
-use rows::without_memory::{Answered, Target, answer_without_memory, gives, yes};
 use serde_json::Value;
 use std::alloc::Global;
 use std::collections::HashMap;
 use std::test::Fail;
+use test_support::code::WRONG_TYPE;
+use test_support::fault_code;
+use test_support::without_memory::{Answered, Target, answer_without_memory, gives, yes};
 
 type Map = HashMap<String, Option<String>>;
 

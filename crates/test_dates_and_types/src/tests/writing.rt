@@ -2,9 +2,9 @@
 
 use postgres_types::private::BytesMut;
 use postgres_types::{Format, IsNull, ToSql, Type, rewrite, to_sql_checked_as};
-use rows::code::{UTF8, WAS_NULL};
-use rows::{displays, fault_code, holds, refuses_type, same};
 use std::test::Fail;
+use test_support::code::{UTF8, WAS_NULL};
+use test_support::{displays, fault_code, holds, refuses_type, same};
 
 #[test]
 fn integers_are_appended(rt: HostRuntime) -> Result<(), Fail> {

@@ -17,9 +17,9 @@ use pg_copy::columns::Column;
 use pg_copy::copy_fault::CopyFault;
 use pg_copy::read::read;
 use pg_copy::write::write;
-use rows::same;
 use std::alloc::Global;
 use std::test::Fail;
+use test_support::same;
 
 /// The name of a type, a cell, and the field that stands for it in a line.
 type Row = (&'static str, Option<&'static [u8]>, &'static [u8]);

@@ -2,11 +2,11 @@
 ghost use Rattle.std.specs.Prelude.{◌≡◌};
 
 use super::fake_streams::{Blocked, Disturbed, Narrow, Pieces, ROOM, Stalled};
-use rows::{hoard, holds, same};
 use std::alloc::{AllocError, Global};
 use std::test::Fail;
 use streams::blocks::BLOCK;
 use streams::lines::{AnswerLine, RunFault, answer_lines};
+use test_support::{hoard, holds, same};
 
 /// Answers each line by the line itself.
 #[derive(Drop)]

@@ -5,10 +5,10 @@ use postgres_types::composite::{
 };
 use postgres_types::private::BytesMut;
 use postgres_types::{Fault, Field, Kind, Type};
-use rows::code::{FIELD_COUNT, FIELD_OID, SIZE, TRANSMIT};
-use rows::{fault_code, same, user_type};
 use std::alloc::Global;
 use std::test::Fail;
+use test_support::code::{FIELD_COUNT, FIELD_OID, SIZE, TRANSMIT};
+use test_support::{fault_code, same, user_type};
 
 /// The composite type `pair` of one field, `id`.
 fn pair(alloc: Global) -> Result<Type, Fault> {

@@ -6,12 +6,12 @@ use own_types::nested_composite::{Address, Parcel};
 use pg_record::{InventoryItem, types};
 use postgres_types::composite::Composite;
 use postgres_types::{Fault, Field, Kind, Type, UnixTime};
-use rows::code::{FIELD_COUNT, FIELD_OID, SIZE, TRANSMIT, WAS_NULL};
-use rows::{
-    accepts, refusal, refuses, refuses_both, refuses_type, rewrites, spells, unix, user_type,
-};
 use std::alloc::Global;
 use std::test::Fail;
+use test_support::code::{FIELD_COUNT, FIELD_OID, SIZE, TRANSMIT, WAS_NULL};
+use test_support::{
+    accepts, refusal, refuses, refuses_both, refuses_type, rewrites, spells, unix, user_type,
+};
 
 /// The address Elm 1, Bonn: two fields.
 const ADDRESS: &[u8] = b"\0\0\0\x02\0\0\0\x19\0\0\0\x05Elm 1\0\0\0\x19\0\0\0\x04Bonn";
@@ -292,7 +292,7 @@ fn refuses_part(alloc: Global, place: usize, part: &[u8], code: u32) -> Result<(
     }
     let cell = joined(alloc, &parts)?;
     let found = refusal::<Composite<Parcel>>(alloc, &parcel_type(alloc)?, Some(&cell));
-    rows::same(found, code)
+    test_support::same(found, code)
 }
 
 /// Parts of a parcel by their place, and the numbers of their faults.

@@ -5,10 +5,12 @@ use pg_record::InventoryItem;
 use pg_record::types::{item_array_type, item_type};
 use postgres_types::composite::Composite;
 use postgres_types::{Fault, Field, FromSql, Kind, ToSql, Type};
-use rows::code::{FIELD_COUNT, FIELD_OID, SIZE, UTF8, WAS_NULL};
-use rows::{accepts, reads, refuses, refuses_type, rewrites, spells, user_type, writes_null};
 use std::alloc::Global;
 use std::test::Fail;
+use test_support::code::{FIELD_COUNT, FIELD_OID, SIZE, UTF8, WAS_NULL};
+use test_support::{
+    accepts, reads, refuses, refuses_type, rewrites, spells, user_type, writes_null,
+};
 
 /// A composite type of that name, of fields of these names and types.
 fn composite(alloc: Global, name: &str, names: &[&str], types: &[Type]) -> Result<Type, Fault> {

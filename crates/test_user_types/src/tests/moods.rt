@@ -2,10 +2,12 @@
 
 use pg_record::Mood;
 use postgres_types::{Fault, Kind, Type};
-use rows::code::{USER, UTF8, WAS_NULL};
-use rows::{accepts, displays, read, reads, refuses, refuses_type, spells, user_type, writes_null};
 use std::alloc::Global;
 use std::test::Fail;
+use test_support::code::{USER, UTF8, WAS_NULL};
+use test_support::{
+    accepts, displays, read, reads, refuses, refuses_type, spells, user_type, writes_null,
+};
 
 /// An enumerated type of that name, with the labels.
 fn enumerated(alloc: Global, name: &str, labels: &[&str]) -> Result<Type, Fault> {

@@ -2,9 +2,9 @@
 
 use postgres_types::Type;
 use postgres_types::odd::Gap;
-use rows::code::{SIZE, WAS_NULL};
-use rows::{reads, refuses, refuses_type, same, spells, writes, writes_null};
 use std::test::Fail;
+use test_support::code::{SIZE, WAS_NULL};
+use test_support::{reads, refuses, refuses_type, same, spells, writes, writes_null};
 
 /// An array of 1 and NULL.
 const ONE_AND_NULL: [u8; 32] = [
@@ -21,7 +21,7 @@ fn gaps_are_a_number_or_null(rt: HostRuntime) -> Result<(), Fail> {
         &[(Gap::Full(1), [0, 0, 0, 1].as_slice())],
     )?;
     writes_null(alloc, &Gap::Hole, &Type::INT4)?;
-    same(rows::read(alloc, &Type::INT4, None)?, Gap::Hole)?;
+    same(test_support::read(alloc, &Type::INT4, None)?, Gap::Hole)?;
     refuses::<Gap>(
         alloc,
         &Type::INT4,
@@ -34,7 +34,7 @@ fn gaps_are_a_number_or_null(rt: HostRuntime) -> Result<(), Fail> {
 fn a_gap_in_an_option_is_read_back_as_none(rt: HostRuntime) -> Result<(), Fail> {
     let alloc = rt.alloc();
     writes_null(alloc, &Some(Gap::Hole), &Type::INT4)?;
-    same(rows::read(alloc, &Type::INT4, None)?, None::<Gap>)
+    same(test_support::read(alloc, &Type::INT4, None)?, None::<Gap>)
 }
 
 #[test]

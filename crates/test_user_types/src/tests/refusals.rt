@@ -2,9 +2,9 @@
 
 use postgres_types::Type;
 use postgres_types::odd::Picky;
-use rows::code::{SIZE, USER, WAS_NULL};
-use rows::{reads, refuses, refuses_both, refuses_type, spells};
 use std::test::Fail;
+use test_support::code::{SIZE, USER, WAS_NULL};
+use test_support::{reads, refuses, refuses_both, refuses_type, spells};
 
 /// An array of 2 and 4.
 const TWO_AND_FOUR: [u8; 36] = [

@@ -7,10 +7,10 @@ use postgres_types::composite::{And, Composite, End, Record, ToFields};
 use postgres_types::odd::Picky;
 use postgres_types::private::BytesMut;
 use postgres_types::{Fault, Field, Kind, Type};
-use rows::code::USER;
-use rows::{refuses_both, spells, user_type};
 use std::alloc::Global;
 use std::test::Fail;
+use test_support::code::USER;
+use test_support::{refuses_both, spells, user_type};
 
 /// A number, and one that is refused in writing where it is odd.
 #[derive(Debug, PartialEq, Drop)]

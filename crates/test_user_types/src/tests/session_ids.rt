@@ -2,10 +2,10 @@
 
 use pg_record::SessionId;
 use postgres_types::{Fault, Kind, Type};
-use rows::code::WAS_NULL;
-use rows::{accepts, refuses, refuses_type, spells, user_type, writes_null};
 use std::alloc::Global;
 use std::test::Fail;
+use test_support::code::WAS_NULL;
+use test_support::{accepts, refuses, refuses_type, spells, user_type, writes_null};
 
 /// A type of its name and of that kind.
 fn named(alloc: Global, kind: Kind) -> Result<Type, Fault> {

@@ -2,9 +2,9 @@
 
 use postgres_types::odd::{Moment, Short};
 use postgres_types::{Timestamp, Type};
-use rows::code::{SIZE, USER, WAS_NULL};
-use rows::{reads_back, refuses, refuses_type, rewrites, spells, writes};
 use std::test::Fail;
+use test_support::code::{SIZE, USER, WAS_NULL};
+use test_support::{reads_back, refuses, refuses_type, rewrites, spells, writes};
 
 /// The greatest number of 8 bytes.
 const GREATEST: [u8; 8] = [0x7f, 0xff, 0xff, 0xff, 0xff, 0xff, 0xff, 0xff];

@@ -4,9 +4,9 @@ use own_types::nested_composite::Address;
 use pg_record::{InventoryItem, Mood, SessionId};
 use postgres_types::composite::{And, Composite, End};
 use postgres_types::odd::{Gap, Moment, Picky, Short};
-use rows::holds;
 use std::alloc::{AllocError, Global};
 use std::test::Fail;
+use test_support::holds;
 
 /// Each value is equal to itself, and to none of the others.
 fn differ<T: PartialEq>(values: &[T]) -> Result<(), Fail> {

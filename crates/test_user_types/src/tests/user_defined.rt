@@ -5,9 +5,9 @@ use own_types::null_value::Rating;
 use own_types::refusal::Percentage;
 use own_types::wrapper::Tagged;
 use postgres_types::{Date, Type};
-use rows::code::{SIZE, USER, WAS_NULL};
-use rows::{refuses, refuses_both, refuses_type, same, spells, writes_null};
 use std::test::Fail;
+use test_support::code::{SIZE, USER, WAS_NULL};
+use test_support::{refuses, refuses_both, refuses_type, same, spells, writes_null};
 
 /// An array of 2000-01-02 and NULL.
 const DAY_AND_NULL: [u8; 32] = [
@@ -64,7 +64,10 @@ fn ratings_are_a_number_or_null(rt: HostRuntime) -> Result<(), Fail> {
     let row = (Rating::Stars(5), [0, 5].as_slice());
     spells(rt.alloc(), &Type::INT2, &[row])?;
     writes_null(rt.alloc(), &Rating::Unrated, &Type::INT2)?;
-    same(rows::read(rt.alloc(), &Type::INT2, None)?, Rating::Unrated)
+    same(
+        test_support::read(rt.alloc(), &Type::INT2, None)?,
+        Rating::Unrated,
+    )
 }
 
 #[test]
@@ -77,7 +80,10 @@ fn other_ratings_are_refused(rt: HostRuntime) -> Result<(), Fail> {
 #[test]
 fn null_is_of_the_wrapper(rt: HostRuntime) -> Result<(), Fail> {
     writes_null(rt.alloc(), &Some(Rating::Unrated), &Type::INT2)?;
-    same(rows::read(rt.alloc(), &Type::INT2, None)?, None::<Rating>)
+    same(
+        test_support::read(rt.alloc(), &Type::INT2, None)?,
+        None::<Rating>,
+    )
 }
 
 #[test]

@@ -2,10 +2,10 @@
 
 use postgres_types::odd::{Gap, Moment, Picky, Short};
 use postgres_types::{Finite, Paired, Timestamp, Type};
-use rows::{rewrites, writes};
 use std::alloc::Global;
 use std::boxed::BoxedSlice;
 use std::test::Fail;
+use test_support::{rewrites, writes};
 
 /// infinity
 const INFINITY: [u8; 8] = [0x7f, 0xff, 0xff, 0xff, 0xff, 0xff, 0xff, 0xff];

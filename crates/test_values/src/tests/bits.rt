@@ -4,14 +4,14 @@ use pg_base::bits::laws::same_bits;
 use postgres_types::private::BytesMut;
 use postgres_types::protocol::{varbit_from_sql, varbit_to_sql};
 use postgres_types::{BitVec, Fault, IsNull, ToSql, Type};
-use rows::code::{COUNT, SIZE, WAS_NULL};
-use rows::without_memory::{answer_without_memory, yes};
-use rows::{
+use std::alloc::Global;
+use std::test::Fail;
+use test_support::code::{COUNT, SIZE, WAS_NULL};
+use test_support::without_memory::{answer_without_memory, yes};
+use test_support::{
     holds, null_takes_no_memory, read, reads, refuses, refuses_fronts, rewrites, same, spells,
     writes_by_room,
 };
-use std::alloc::Global;
-use std::test::Fail;
 
 /// Bit strings and their cells.
 const BITS: [(&[bool], &[u8]); 4] = [

@@ -2,12 +2,12 @@
 
 use postgres_types::Type;
 use postgres_types::protocol::{bytea_from_sql, bytea_to_sql, frame_to_sql};
-use rows::code::WAS_NULL;
-use rows::{
-    appends, has_cells, holds, null_takes_no_memory, read, refuses, same, writes, writes_by_room,
-};
 use std::borrow::CowSlice;
 use std::test::Fail;
+use test_support::code::WAS_NULL;
+use test_support::{
+    appends, has_cells, holds, null_takes_no_memory, read, refuses, same, writes, writes_by_room,
+};
 
 const BYTEA: [(&[u8], &[u8]); 3] = [(&[], &[]), (&[0], &[0]), (&[0, 0xff, 7], &[0, 0xff, 7])];
 

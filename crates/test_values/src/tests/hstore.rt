@@ -3,15 +3,15 @@
 use postgres_types::private::BytesMut;
 use postgres_types::protocol::{HstoreEntries, hstore_from_sql, hstore_to_sql};
 use postgres_types::{Fault, Type};
-use rows::code::{COUNT, KEY_LENGTH, SIZE, USER, UTF8, WAS_NULL};
-use rows::without_memory::{answer_without_memory, gives, yes};
-use rows::{
-    holds, null_takes_no_memory, read, refuses, refuses_fronts, rewrites, same, simple_type, writes,
-};
 use std::alloc::{AllocError, Global};
 use std::collections::HashMap;
 use std::hash::{BuildHasherDefault, DefaultHasher};
 use std::test::Fail;
+use test_support::code::{COUNT, KEY_LENGTH, SIZE, USER, UTF8, WAS_NULL};
+use test_support::without_memory::{answer_without_memory, gives, yes};
+use test_support::{
+    holds, null_takes_no_memory, read, refuses, refuses_fronts, rewrites, same, simple_type, writes,
+};
 
 type Map = HashMap<String, Option<String>>;
 

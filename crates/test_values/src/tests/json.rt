@@ -2,15 +2,15 @@
 
 use postgres_types::private::BytesMut;
 use postgres_types::{IsNull, ToSql, Type};
-use rows::code::{JSON_NUMBER, JSON_TEXT, JSON_VERSION, SIZE, USER, WAS_NULL};
-use rows::{
-    accepts, holds, null_takes_no_memory, read, reads, refusal, refuses, refuses_both,
-    refuses_fronts, same, simple_type, writes,
-};
 use serde::{Deserialize, Serialize};
 use serde_json::{Value, json};
 use std::alloc::Global;
 use std::test::Fail;
+use test_support::code::{JSON_NUMBER, JSON_TEXT, JSON_VERSION, SIZE, USER, WAS_NULL};
+use test_support::{
+    accepts, holds, null_takes_no_memory, read, reads, refusal, refuses, refuses_both,
+    refuses_fronts, same, simple_type, writes,
+};
 
 /// A JSONB cell: the version, and the text.
 fn jsonb(alloc: Global, text: &[u8]) -> Result<BytesMut, Fail> {

@@ -2,9 +2,9 @@
 
 use postgres_types::private::BytesMut;
 use postgres_types::{IsNull, ToSql, Type};
-use rows::{holds, read, same};
 use std::alloc::Global;
 use std::test::Fail;
+use test_support::{holds, read, same};
 
 /// How many bytes a cell has.
 const LEN: usize = 2_097_152;

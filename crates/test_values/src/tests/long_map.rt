@@ -2,10 +2,10 @@
 
 use postgres_types::private::BytesMut;
 use postgres_types::{IsNull, ToSql};
-use rows::{holds, read, same, simple_type};
 use std::alloc::Global;
 use std::collections::HashMap;
 use std::test::Fail;
+use test_support::{holds, read, same, simple_type};
 
 type Map = HashMap<String, Option<String>>;
 

@@ -3,10 +3,10 @@
 use pg_base::lsn::laws::{position_order, position_text_parses, same_position};
 use postgres_types::protocol::{lsn_from_sql, lsn_to_sql};
 use postgres_types::{PgLsn, Type};
-use rows::code::{SIZE, USER, WAS_NULL};
-use rows::{debugs, displays, has_cells, has_functions, holds, reads, refuses, same};
 use std::cmp::Ordering;
 use std::test::Fail;
+use test_support::code::{SIZE, USER, WAS_NULL};
+use test_support::{debugs, displays, has_cells, has_functions, holds, reads, refuses, same};
 
 /// A text, the position that it is parsed to, and the text of that.
 const POSITIONS: [(&str, u64, &str); 9] = [

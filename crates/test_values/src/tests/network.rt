@@ -6,13 +6,13 @@ use postgres_types::protocol::{
     inet_from_sql, inet_to_sql, macaddr_from_sql, macaddr_to_sql, uuid_from_sql, uuid_to_sql,
 };
 use postgres_types::{Fault, IpCidr, IpInet, MacAddress, Type};
-use rows::code::{ADDRESS_LENGTH, FAMILY, HOST_BITS, NETMASK, SIZE, WAS_NULL};
-use rows::without_memory::{answer_without_memory, yes};
-use rows::{
-    fault_code, has_cells, has_functions, holds, reads, refusal, refuses_fronts, rewrites, same,
-};
 use std::net::{IpAddr, Ipv4Addr, Ipv6Addr};
 use std::test::Fail;
+use test_support::code::{ADDRESS_LENGTH, FAMILY, HOST_BITS, NETMASK, SIZE, WAS_NULL};
+use test_support::without_memory::{answer_without_memory, yes};
+use test_support::{
+    fault_code, has_cells, has_functions, holds, reads, refusal, refuses_fronts, rewrites, same,
+};
 use uuid::Uuid;
 
 /// The cell of ::1, alone in its network.

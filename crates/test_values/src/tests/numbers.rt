@@ -6,13 +6,13 @@ use postgres_types::protocol::{
     int4_from_sql, int4_to_sql, int8_from_sql, int8_to_sql, oid_from_sql, oid_to_sql,
 };
 use postgres_types::{Fault, Type, rewrite, to_sql_checked_as};
-use rows::code::{SIZE, USER, WAS_NULL, WRONG_TYPE};
-use rows::{
+use std::alloc::Global;
+use std::test::Fail;
+use test_support::code::{SIZE, USER, WAS_NULL, WRONG_TYPE};
+use test_support::{
     accepts, fault_code, has_cells, has_functions, holds, refusal, refuses_value, rewrites, same,
     simple_type, writes, writes_by_room,
 };
-use std::alloc::Global;
-use std::test::Fail;
 
 const BOOL: [(bool, &[u8]); 2] = [(false, &[0]), (true, &[1])];
 

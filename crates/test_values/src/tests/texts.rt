@@ -5,14 +5,14 @@ use postgres_types::protocol::{
     ltxtquery_to_sql, text_from_sql, text_to_sql,
 };
 use postgres_types::{Kind, Type};
-use rows::code::{TEXT_VERSION, UTF8, WAS_NULL};
-use rows::{
-    accepts, has_cells, has_functions, holds, null_takes_no_memory, read, refuses, refuses_fronts,
-    same, simple_type, spells, takes_no_memory, user_type, writes, writes_by_room,
-};
 use std::borrow::CowStr;
 use std::boxed::BoxedStr;
 use std::test::Fail;
+use test_support::code::{TEXT_VERSION, UTF8, WAS_NULL};
+use test_support::{
+    accepts, has_cells, has_functions, holds, null_takes_no_memory, read, refuses, refuses_fronts,
+    same, simple_type, spells, takes_no_memory, user_type, writes, writes_by_room,
+};
 
 const TEXT: [(&str, &[u8]); 4] = [
     ("", b""),

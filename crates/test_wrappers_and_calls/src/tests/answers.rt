@@ -2,10 +2,10 @@
 
 use postgres_types::private::BytesMut;
 use postgres_types::{Fault, Type, frame_value, from_sql_nullable};
-use rows::code::{SIZE, USER, WAS_NULL};
-use rows::{holds, same};
 use std::alloc::{AllocError, Global};
 use std::test::Fail;
+use test_support::code::{SIZE, USER, WAS_NULL};
+use test_support::{holds, same};
 
 /// What there is to say of a column `note text`.
 fn describe_note(alloc: Global, cell: Option<&[u8]>) -> Result<&'static str, Fault> {

@@ -4,10 +4,10 @@ use super::cells::{NO_DIMENSION, NULL, ONE_AND_TWO, TRAILING_BYTE};
 use postgres_types::Fault;
 use postgres_types::private::BytesMut;
 use postgres_types::protocol::{ArrayCells, array_from_sql, array_to_sql};
-use rows::without_memory::{answer_without_memory, gives as answers, yes};
-use rows::{code, same};
 use std::alloc::Global;
 use std::test::Fail;
+use test_support::without_memory::{answer_without_memory, gives as answers, yes};
+use test_support::{code, same};
 
 const ONE: Option<&[u8]> = Some(&[0, 0, 0, 1]);
 

@@ -5,10 +5,10 @@ use super::formats::Word;
 use postgres_types::private::BytesMut;
 use postgres_types::protocol::int2_to_sql;
 use postgres_types::{Fault, Format, ToSql, Type, params_to_sql};
-use rows::code::{TRANSMIT, WRONG_TYPE};
-use rows::{binds, same, unix};
 use std::alloc::Global;
 use std::test::Fail;
+use test_support::code::{TRANSMIT, WRONG_TYPE};
+use test_support::{binds, same, unix};
 
 /// Appends what a Bind message holds of its parameters. A refusal leaves the buffer as it was.
 fn bind_params(

@@ -1,11 +1,11 @@
 //! Boxes and options.
 
 use postgres_types::{Format, ToSql, Type};
-use rows::{
+use std::test::Fail;
+use test_support::{
     accepts, code, null_takes_no_memory, refusal, refuses, refuses_type, same, simple_type, spells,
     writes_by_room,
 };
-use std::test::Fail;
 
 #[test]
 fn a_box_holds_what_is_read(rt: HostRuntime) -> Result<(), Fail> {

@@ -3,9 +3,9 @@
 use postgres_types::private::BytesMut;
 use postgres_types::protocol::{int2_to_sql, int4_to_sql};
 use postgres_types::{Fault, Type, frame_value};
-use rows::{code, same};
 use std::alloc::Global;
 use std::test::Fail;
+use test_support::{code, same};
 
 /// A row of the types int4 and text.
 type Row<'a> = (i32, Option<&'a str>);

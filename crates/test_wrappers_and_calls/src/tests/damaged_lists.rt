@@ -3,11 +3,11 @@
 use super::cells::{NULL, ONE_AND_TWO};
 use postgres_types::private::read_value;
 use postgres_types::{Fault, Type};
-use rows::code::{COUNT, SIZE};
-use rows::{reads, refuses, refuses_fronts, rewrites, same};
 use std::alloc::Global;
 use std::boxed::BoxedSlice;
 use std::test::Fail;
+use test_support::code::{COUNT, SIZE};
+use test_support::{reads, refuses, refuses_fronts, rewrites, same};
 
 #[test]
 fn fronts_of_arrays_are_refused(rt: HostRuntime) -> Result<(), Fail> {

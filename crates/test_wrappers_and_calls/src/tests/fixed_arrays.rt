@@ -3,10 +3,10 @@
 use super::cells::{EMPTY, INFINITY, NULL, ONE_AND_TWO};
 use jiff::civil;
 use postgres_types::{Date, Type};
-use rows::{code, hoard, null_takes_no_memory, reads, refusal, refuses, same};
 use std::alloc::Global;
 use std::boxed::BoxedSlice;
 use std::test::Fail;
+use test_support::{code, hoard, null_takes_no_memory, reads, refusal, refuses, same};
 
 const INTS: Type = Type::INT4_ARRAY;
 

@@ -2,10 +2,10 @@
 
 use postgres_types::private::BytesMut;
 use postgres_types::{Fault, Format, IsNull, ToSql, Type, WrongType};
-use rows::same;
 use std::alloc::Global;
 use std::boxed::BoxedSlice;
 use std::test::Fail;
+use test_support::same;
 
 /// A word of a language, which is sent as text.
 #[derive(Debug, Drop)]

@@ -2,11 +2,11 @@
 
 use postgres_types::private::{read_be_i32, read_value};
 use postgres_types::{Fault, FromSql, Type};
-use rows::code::{SIZE, WAS_NULL};
-use rows::same;
 use std::alloc::Global;
 use std::fmt::Debug;
 use std::test::Fail;
+use test_support::code::{SIZE, WAS_NULL};
+use test_support::same;
 
 /// NULL, and a trailing byte.
 const NULL_AND_MORE: [u8; 5] = [0xff, 0xff, 0xff, 0xff, 0];

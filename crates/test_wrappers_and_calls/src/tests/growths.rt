@@ -2,10 +2,10 @@
 
 use postgres_types::Type;
 use postgres_types::private::read_values;
-use rows::code::MEMORY;
-use rows::{hoard, holds, same};
 use std::alloc::Global;
 use std::test::Fail;
+use test_support::code::MEMORY;
+use test_support::{hoard, holds, same};
 
 /// How many cells the slice begins with.
 const COUNT: usize = 100;

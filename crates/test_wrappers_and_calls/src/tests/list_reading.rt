@@ -3,10 +3,10 @@
 use super::cells::{EMPTY, INFINITY, NO_DIMENSION, NULL, ONE_AND_TWO, VECTORS};
 use jiff::civil;
 use postgres_types::{Date, Fault, Kind, Type};
-use rows::{code, read, reads, refusal, rewrites, same, user_type};
 use std::alloc::Global;
 use std::boxed::BoxedSlice;
 use std::test::Fail;
+use test_support::{code, read, reads, refusal, rewrites, same, user_type};
 
 const INTS: Type = Type::INT4_ARRAY;
 

@@ -2,10 +2,10 @@
 
 use super::cells::{EMPTY, NO_DIMENSION, NULL, ONE_AND_TWO, TRAILING_BYTE};
 use postgres_types::{Fault, FromSql, Kind, Type};
-use rows::{code, read, refusal, refuses, same, user_type};
 use std::alloc::Global;
 use std::boxed::BoxedSlice;
 use std::test::Fail;
+use test_support::{code, read, refusal, refuses, same, user_type};
 
 const INTS: Type = Type::INT4_ARRAY;
 

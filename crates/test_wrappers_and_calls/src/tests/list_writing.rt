@@ -3,11 +3,11 @@
 use super::cells::{EMPTY, INFINITY, NULL, ONE_AND_TWO, VECTORS};
 use jiff::civil;
 use postgres_types::{Date, Format, Kind, ToSql, Type};
-use rows::{
-    accepts, code, refuses_type, refuses_values, same, simple_type, unix, user_type, writes,
-};
 use std::alloc::Global;
 use std::test::Fail;
+use test_support::{
+    accepts, code, refuses_type, refuses_values, same, simple_type, unix, user_type, writes,
+};
 
 /// The `INT2_VECTOR` of 5.
 const FIVE: [u8; 26] = [

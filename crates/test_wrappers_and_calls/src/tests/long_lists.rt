@@ -2,9 +2,9 @@
 
 use postgres_types::private::BytesMut;
 use postgres_types::{IsNull, ToSql, Type};
-use rows::{holds, read, same};
 use std::alloc::Global;
 use std::test::Fail;
+use test_support::{holds, read, same};
 
 /// How many elements, and the length of the cell: 20 bytes, and 8 for each.
 const LENGTHS: [(i32, usize); 2] = [(1_001, 8_028), (100_000, 800_020)];

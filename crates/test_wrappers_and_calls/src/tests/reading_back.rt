@@ -4,15 +4,15 @@ use jiff::Timestamp as Instant;
 use jiff::civil::{Date as Day, Time};
 use postgres_types::private::BytesMut;
 use postgres_types::{Date, Finite, IsNull, Timestamp, Type, UnixTime, rewrite};
-use rows::code::WAS_NULL;
-use rows::{
-    displays, holds, read, reads_back, refuses, rewrites, same, simple_type, unix, writes,
-    writes_null,
-};
 use std::alloc::Global;
 use std::boxed::BoxedSlice;
 use std::collections::HashMap;
 use std::test::Fail;
+use test_support::code::WAS_NULL;
+use test_support::{
+    displays, holds, read, reads_back, refuses, rewrites, same, simple_type, unix, writes,
+    writes_null,
+};
 
 /// An array of INT4 of one element, which is NULL.
 const ONE_NULL: [u8; 24] = [

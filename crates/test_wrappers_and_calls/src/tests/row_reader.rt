@@ -3,10 +3,10 @@
 use postgres_types::private::read_value;
 use postgres_types::protocol::int2_from_sql;
 use postgres_types::{Fault, Type};
-use rows::code::{COUNT, SIZE, WAS_NULL};
-use rows::same;
 use std::alloc::Global;
 use std::test::Fail;
+use test_support::code::{COUNT, SIZE, WAS_NULL};
+use test_support::same;
 
 /// A row of `SELECT id, name, sizes`, of the types int4, text and int4[].
 #[derive(Debug, Drop)]

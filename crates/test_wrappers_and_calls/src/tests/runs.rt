@@ -2,11 +2,11 @@
 
 use postgres_types::private::read_values;
 use postgres_types::{FromSql, Type};
-use rows::code::{SIZE, WAS_NULL};
-use rows::same;
 use std::alloc::Global;
 use std::fmt::Debug;
 use std::test::Fail;
+use test_support::code::{SIZE, WAS_NULL};
+use test_support::same;
 
 /// The cells of 1 and 2, and a trailing byte.
 const TWO: [u8; 17] = [0, 0, 0, 4, 0, 0, 0, 1, 0, 0, 0, 4, 0, 0, 0, 2, 0xff];

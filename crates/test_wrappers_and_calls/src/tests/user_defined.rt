@@ -2,10 +2,10 @@
 
 use postgres_types::private::BytesMut;
 use postgres_types::{Fault, Format, FromSql, IsNull, Paired, ToSql, Type, WrongType};
-use rows::code::WRONG_TYPE;
-use rows::{holds, read, reads, refuses_value, rewrites, same};
 use std::alloc::Global;
 use std::test::Fail;
+use test_support::code::WRONG_TYPE;
+use test_support::{holds, read, reads, refuses_value, rewrites, same};
 
 /// Whole degrees, which are sent as INT4.
 #[derive(Debug, Drop, PartialEq)]

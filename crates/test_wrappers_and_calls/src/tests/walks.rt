@@ -2,10 +2,10 @@
 
 use postgres_types::Fault;
 use postgres_types::protocol::{array_from_sql, hstore_from_sql, int4_from_sql};
-use rows::code::SIZE;
-use rows::same;
 use std::alloc::Global;
 use std::test::Fail;
+use test_support::code::SIZE;
+use test_support::same;
 
 /// The sum of an `int4[]` cell's elements, NULL left out. It takes no memory.
 fn sum_of_elements(alloc: Global, cell: &[u8]) -> Result<i64, Fault> {

@@ -1,10 +1,11 @@
 //! A user-defined Rust type in every wrapper, and bound with others.
 
+use own_types::newtype::Days;
 use postgres_types::private::read_values;
 use postgres_types::{Date, FromSql, ToSql, Type};
-use rows::{Days, binds, reads, rewrites, same, spells, writes, writes_null};
 use std::boxed::BoxedSlice;
 use std::test::Fail;
+use test_support::{binds, reads, rewrites, same, spells, writes, writes_null};
 
 /// 2000-01-08
 const WEEK: [u8; 4] = [0, 0, 0, 7];

@@ -1,8 +1,8 @@
 //! Tests of the calendar.
 
 use pg_text::calendar::Civil;
-use rows::{holds, same};
 use std::test::Fail;
+use test_support::{holds, same};
 
 /// Days from 1970-01-01 and their dates, by PostgreSQL: `date '..' - date '1970-01-01'`.
 const DAYS: [(i64, i64, u32, u32); 12] = [

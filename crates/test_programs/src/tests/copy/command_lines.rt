@@ -1,9 +1,9 @@
 //! Tests of command lines.
 
 use pg_copy::arguments::{Request, parse};
-use rows::{displays, same};
 use std::alloc::Global;
 use std::test::Fail;
+use test_support::{displays, same};
 
 /// The words of a line.
 fn words(alloc: Global, line: &str) -> Result<Vec<String>, Fail> {

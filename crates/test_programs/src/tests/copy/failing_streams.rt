@@ -6,9 +6,9 @@ use pg_copy::columns::Column;
 use pg_copy::copy_fault::CopyFault;
 use pg_copy::read::read;
 use pg_copy::write::write;
-use rows::{holds, same};
 use std::alloc::Global;
 use std::test::Fail;
+use test_support::{holds, same};
 
 /// Two rows in both formats.
 const LINES: &[u8] = b"1\ta\\tb\n-2\t\\N\n";

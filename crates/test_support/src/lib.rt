@@ -3,7 +3,6 @@
 #![tactic(auto)]
 
 pub mod code;
-mod days;
 mod formats;
 mod memory;
 mod params;
@@ -15,7 +14,6 @@ mod types;
 pub mod without_memory;
 mod writing;
 
-pub use days::{Days, NoDay};
 pub use formats::{has_cells, has_functions};
 pub use memory::hoard;
 pub use params::binds;
