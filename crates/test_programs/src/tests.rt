@@ -2,4 +2,5 @@
 
 mod copy;
 mod fake_streams;
+mod names;
 mod runs;

@@ -1,0 +1,55 @@
+//! Names of types.
+
+use named_types::{Base, Form, Name, Program};
+use std::test::Fail;
+use test_support::same;
+
+/// Words, and the base name and the form that they are.
+const WORDS: [(&str, Option<(Base, Form)>); 18] = [
+    ("int4", Some((Base::Int4, Form::Plain))),
+    ("int4?", Some((Base::Int4, Form::Optional))),
+    ("int4[]", Some((Base::Int4, Form::Array))),
+    ("int4?[]", Some((Base::Int4, Form::OptionalArray))),
+    ("timestamp_inf", Some((Base::TimestampInf, Form::Plain))),
+    ("mood[]", Some((Base::Mood, Form::Array))),
+    ("", None),
+    ("?", None),
+    ("[]", None),
+    ("int", None),
+    ("int44", None),
+    ("Int4", None),
+    (" int4", None),
+    ("int4??", None),
+    ("int4[]?", None),
+    ("int4[][]", None),
+    ("zone", None),
+    ("é", None),
+];
+
+#[test]
+fn a_word_is_a_base_name_in_a_form() -> Result<(), Fail> {
+    for (word, expected) in WORDS {
+        let found = Name::parse(word.as_bytes());
+        same(found.map(|name| (name.base, name.form)), expected)?;
+    }
+    Ok(())
+}
+
+#[test]
+fn each_base_name_is_found() -> Result<(), Fail> {
+    for base in Base::ALL {
+        same(Base::parse(base.name().as_bytes()), Some(base))?;
+    }
+    Ok(())
+}
+
+#[test]
+fn base_names_have_arrays_and_programs() -> Result<(), Fail> {
+    let bases = Base::ALL;
+    let with_arrays = bases.iter().filter(|base| base.has_arrays());
+    same(with_arrays.count(), 31)?;
+    let in_pgcell = bases.iter().filter(|base| Program::Pgcell.knows(**base));
+    same(in_pgcell.count(), 36)?;
+    let in_copy = bases.iter().filter(|base| Program::Copy.knows(**base));
+    same(in_copy.count(), 37)
+}
