@@ -12,44 +12,44 @@ macro_rules! base_names {
     ($rows:ident $args:tt) => {
         $rows! { $args
             b'a' {
-                Addr "addr" [IpAddr, INET, INET_ARRAY],
+                Addr "addr" [std::net::IpAddr, INET, INET_ARRAY],
             }
             b'b' {
-                Bit "bit" [BitVec, BIT, BIT_ARRAY],
+                Bit "bit" [postgres_types::BitVec, BIT, BIT_ARRAY],
                 Bool "bool" [bool, BOOL, BOOL_ARRAY],
                 Bpchar "bpchar" [String, BPCHAR, BPCHAR_ARRAY],
                 Bytea "bytea" [Vec<u8>, BYTEA, BYTEA_ARRAY],
             }
             b'c' {
                 Char "char" [i8, CHAR, CHAR_ARRAY],
-                Cidr "cidr" [IpCidr, CIDR, CIDR_ARRAY],
+                Cidr "cidr" [postgres_types::IpCidr, CIDR, CIDR_ARRAY],
             }
             b'd' {
-                Date "date" [civil::Date, DATE, DATE_ARRAY],
-                DateInf "date_inf" [Date<civil::Date>, DATE, DATE_ARRAY],
+                Date "date" [jiff::civil::Date, DATE, DATE_ARRAY],
+                DateInf "date_inf" [postgres_types::Date<jiff::civil::Date>, DATE, DATE_ARRAY],
             }
             b'h' {
-                Hstore "hstore" [Map, user.hstore],
+                Hstore "hstore" [std::collections::HashMap<String, Option<String>>, user.hstore],
             }
             b'i' {
-                Inet "inet" [IpInet, INET, INET_ARRAY],
+                Inet "inet" [postgres_types::IpInet, INET, INET_ARRAY],
                 Int2 "int2" [i16, INT2, INT2_ARRAY],
                 Int2Vector "int2vector" [Vec<i16>, INT2_VECTOR],
                 Int4 "int4" [i32, INT4, INT4_ARRAY],
                 Int8 "int8" [i64, INT8, INT8_ARRAY],
-                Interval "interval" [Interval, INTERVAL, INTERVAL_ARRAY],
-                Item "item" [InventoryItem, user.item, user.item_array],
+                Interval "interval" [postgres_types::Interval, INTERVAL, INTERVAL_ARRAY],
+                Item "item" [pg_record::InventoryItem, user.item, user.item_array],
             }
             b'j' {
-                Json "json" [Value, JSON, JSON_ARRAY] only Copy,
-                Jsonb "jsonb" [Value, JSONB, JSONB_ARRAY] only Copy,
+                Json "json" [serde_json::Value, JSON, JSON_ARRAY] only Copy,
+                Jsonb "jsonb" [serde_json::Value, JSONB, JSONB_ARRAY] only Copy,
             }
             b'l' {
                 Ltree "ltree" [String, user.ltree],
             }
             b'm' {
-                Macaddr "macaddr" [MacAddress, MACADDR, MACADDR_ARRAY],
-                Mood "mood" [Mood, user.mood],
+                Macaddr "macaddr" [postgres_types::MacAddress, MACADDR, MACADDR_ARRAY],
+                Mood "mood" [pg_record::Mood, user.mood],
             }
             b'n' {
                 Name "name" [String, NAME, NAME_ARRAY],
@@ -59,26 +59,26 @@ macro_rules! base_names {
                 OidVector "oidvector" [Vec<u32>, OID_VECTOR],
             }
             b'p' {
-                PgLsn "pg_lsn" [PgLsn, PG_LSN, PG_LSN_ARRAY],
+                PgLsn "pg_lsn" [postgres_types::PgLsn, PG_LSN, PG_LSN_ARRAY],
             }
             b's' {
-                Session "session" [SessionId, user.session],
+                Session "session" [pg_record::SessionId, user.session],
             }
             b't' {
                 Text "text" [String, TEXT, TEXT_ARRAY],
-                Time "time" [civil::Time, TIME, TIME_ARRAY],
-                Timestamp "timestamp" [civil::DateTime, TIMESTAMP, TIMESTAMP_ARRAY],
-                TimestampInf "timestamp_inf" [Timestamp<civil::DateTime>, TIMESTAMP, TIMESTAMP_ARRAY],
+                Time "time" [jiff::civil::Time, TIME, TIME_ARRAY],
+                Timestamp "timestamp" [jiff::civil::DateTime, TIMESTAMP, TIMESTAMP_ARRAY],
+                TimestampInf "timestamp_inf" [postgres_types::Timestamp<jiff::civil::DateTime>, TIMESTAMP, TIMESTAMP_ARRAY],
                 Timestamptz "timestamptz" [jiff::Timestamp, TIMESTAMPTZ, TIMESTAMPTZ_ARRAY],
             }
             b'u' {
-                Unix "unix" [UnixTime, TIMESTAMP, TIMESTAMP_ARRAY],
-                UnixInf "unix_inf" [Timestamp<UnixTime>, TIMESTAMP, TIMESTAMP_ARRAY],
+                Unix "unix" [postgres_types::UnixTime, TIMESTAMP, TIMESTAMP_ARRAY],
+                UnixInf "unix_inf" [postgres_types::Timestamp<postgres_types::UnixTime>, TIMESTAMP, TIMESTAMP_ARRAY],
                 Unknown "unknown" [String, UNKNOWN] only Pgcell,
-                Uuid "uuid" [Uuid, UUID, UUID_ARRAY],
+                Uuid "uuid" [uuid::Uuid, UUID, UUID_ARRAY],
             }
             b'v' {
-                Varbit "varbit" [BitVec, VARBIT, VARBIT_ARRAY],
+                Varbit "varbit" [postgres_types::BitVec, VARBIT, VARBIT_ARRAY],
                 Varchar "varchar" [String, VARCHAR, VARCHAR_ARRAY],
             }
         }

@@ -4,21 +4,12 @@ ghost use Rattle.pg_copy.specs.Outputs.{Gains};
 ghost use Rattle.pg_copy.specs.Tuples.{IsFrame};
 
 use crate::columns::Column;
-use jiff::civil;
 use named_types::{Base, base_names};
-use pg_record::{InventoryItem, Mood, SessionId};
 use pg_text::FromText;
 use pg_text::arrays::parse_array;
-use pg_text::hstore::Map;
 use postgres_types::private::BytesMut;
-use postgres_types::{
-    BitVec, Date, Fault, Interval, IpCidr, IpInet, MacAddress, PgLsn, Timestamp, ToSql, Type,
-    UnixTime, frame_value,
-};
-use serde_json::Value;
+use postgres_types::{Fault, ToSql, Type, frame_value};
 use std::alloc::Global;
-use std::net::IpAddr;
-use uuid::Uuid;
 
 /// A text, of which `None` is NULL.
 pub type Text<'a> = Option<&'a str>;

@@ -1,21 +1,12 @@
 //! The text of a cell, by the base name of its column.
 
 use crate::columns::Column;
-use jiff::civil;
 use named_types::{Base, base_names};
-use pg_record::{InventoryItem, Mood, SessionId};
 use pg_text::ToText;
 use pg_text::arrays::push_array;
-use pg_text::hstore::Map;
 use postgres_types::private::read_value;
-use postgres_types::{
-    BitVec, Date, Fault, FromSql, Interval, IpCidr, IpInet, MacAddress, PgLsn, Timestamp, Type,
-    UnixTime, check_type,
-};
-use serde_json::Value;
+use postgres_types::{Fault, FromSql, Type, check_type};
 use std::alloc::Global;
-use std::net::IpAddr;
-use uuid::Uuid;
 
 // A cell is read by the row of its column's base name.
 macro_rules! push {

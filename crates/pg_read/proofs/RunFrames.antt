@@ -6,7 +6,7 @@ use Rattle.pg_base.specs.Cells.{Cell, CellsInRow}
 use Rattle.pg_types.specs.Faults.{Refusal, Outcome, refusal_of}
 use Rattle.pg_types.specs.declared.fault.Fault.{Fault}
 use Rattle.pg_read.proofs.ArrayCellSteps.{fault_more, fault_stays}
-use Rattle.pg_read.specs.ArrayReadingLaws.{all_single}
+use Rattle.pg_read.specs.Laws.ArrayReading.{all_single}
 use Rattle.pg_read.specs.ArrayReading.{ReadsAll}
 use Rattle.pg_read.specs.Reading.{ReadsSingle}
 use Rattle.pg_read.specs.RunReading.{AnswersValues, ReadsFrames, ReadsRun, RunEnds, RunStops}

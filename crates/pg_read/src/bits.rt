@@ -4,7 +4,7 @@ ghost use Rattle.pg_base.specs.Bits.{FormBits, accepted_bits, ReadsBits, first_f
 ghost use Rattle.pg_base.proofs.BitsLaws.{bits_grammar};
 ghost use Rattle.pg_base.proofs.SamenessLaws.{equal_equivalence};
 ghost use Rattle.pg_read.specs.Reading.{NullAlone};
-ghost use Rattle.pg_read.specs.ReadingLaws.{plain_single};
+ghost use Rattle.pg_read.specs.Laws.Reading.{plain_single};
 
 use crate::from_sql::FromSql;
 use pg_base::acceptance::is_bits;

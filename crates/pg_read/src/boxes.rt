@@ -2,7 +2,7 @@
 ghost use Rattle.pg_base.proofs.SamenessLaws.{inside_equivalence};
 ghost use Rattle.pg_read.specs.BoxReading.{ReadsBox};
 ghost use Rattle.pg_read.specs.Reading.{NullAlone};
-ghost use Rattle.pg_read.specs.ReadingLaws.{box_single};
+ghost use Rattle.pg_read.specs.Laws.Reading.{box_single};
 
 use crate::from_sql::FromSql;
 use pg_base::fault::Fault;

@@ -6,7 +6,7 @@ ghost use Rattle.pg_types.specs.Content.{content, is_row};
 ghost use Rattle.pg_base.proofs.FormatLaws.{bytes_grammar};
 ghost use Rattle.pg_base.proofs.SamenessLaws.{content_equivalence};
 ghost use Rattle.pg_read.specs.Reading.{EveryCell, NullAlone};
-ghost use Rattle.pg_read.specs.ReadingLaws.{plain_single};
+ghost use Rattle.pg_read.specs.Laws.Reading.{plain_single};
 
 use crate::from_sql::FromSql;
 use pg_base::fault::Fault;

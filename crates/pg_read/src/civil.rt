@@ -16,7 +16,7 @@ ghost use Rattle.pg_types.specs.declared.types.built_in.BuiltIn.TheVariants.{Tim
 ghost use Rattle.pg_types.specs.declared.types.built_in.BuiltIn.TheVariants.{Timestamp as TimestampRow};
 ghost use Rattle.pg_types.specs.declared.types.built_in.BuiltIn.TheVariants.{Timestamptz};
 ghost use Rattle.pg_read.specs.Reading.{EveryCell};
-ghost use Rattle.pg_read.specs.ReadingLaws.{plain_single};
+ghost use Rattle.pg_read.specs.Laws.Reading.{plain_single};
 
 use crate::from_sql::FromSql;
 use jiff::civil::{Date, DateTime, Time};

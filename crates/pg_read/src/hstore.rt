@@ -6,7 +6,7 @@ ghost use Rattle.pg_base.specs.Hstore.{FormHstore, ReadsHstore, SameMap, first_f
 ghost use Rattle.pg_base.proofs.HstoreLaws.{hstore_grammar, value_equivalence};
 ghost use Rattle.pg_base.specs.Texts.{is_named};
 ghost use Rattle.pg_read.specs.Reading.{NullAlone};
-ghost use Rattle.pg_read.specs.ReadingLaws.{plain_single};
+ghost use Rattle.pg_read.specs.Laws.Reading.{plain_single};
 
 use crate::from_sql::FromSql;
 use pg_base::acceptance::is_hstore;

@@ -7,7 +7,7 @@ ghost use Rattle.pg_base.specs.Numbers.{first_fault_number};
 ghost use Rattle.pg_base.proofs.IntervalLaws.{interval_grammar};
 ghost use Rattle.pg_base.proofs.SamenessLaws.{equal_equivalence};
 ghost use Rattle.pg_read.specs.Reading.{EveryCell};
-ghost use Rattle.pg_read.specs.ReadingLaws.{plain_single};
+ghost use Rattle.pg_read.specs.Laws.Reading.{plain_single};
 
 use crate::from_sql::FromSql;
 use pg_base::fault::Fault;

@@ -8,7 +8,7 @@ ghost use Rattle.pg_base.specs.Json.{FormJson, ReadsJson, accepted_json, first_f
 ghost use Rattle.pg_base.proofs.JsonLaws.{json_grammar};
 ghost use Rattle.pg_base.proofs.SamenessLaws.{content_equivalence};
 ghost use Rattle.pg_read.specs.Reading.{NullAlone};
-ghost use Rattle.pg_read.specs.ReadingLaws.{plain_single};
+ghost use Rattle.pg_read.specs.Laws.Reading.{plain_single};
 
 use crate::from_sql::FromSql;
 use pg_base::acceptance::{is_json, is_jsonb};

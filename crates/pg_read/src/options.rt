@@ -4,7 +4,7 @@ ghost use Rattle.pg_base.specs.Options.{NoneOr};
 ghost use Rattle.pg_base.proofs.SamenessLaws.{option_equivalence};
 ghost use Rattle.pg_base.specs.Sameness.{SameOption};
 ghost use Rattle.pg_read.specs.OptionReading.{ReadsOption};
-ghost use Rattle.pg_read.specs.ReadingLaws.{option_single};
+ghost use Rattle.pg_read.specs.Laws.Reading.{option_single};
 
 use crate::from_sql::FromSql;
 use pg_base::fault::Fault;

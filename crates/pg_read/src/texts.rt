@@ -8,7 +8,7 @@ ghost use Rattle.pg_base.proofs.FormatLaws.{text_grammar};
 ghost use Rattle.pg_base.proofs.SamenessLaws.{content_equivalence};
 ghost use Rattle.pg_base.specs.Texts.{accepted_text, FormText, ReadsText, first_fault_text, has_version};
 ghost use Rattle.pg_read.specs.Reading.{EveryCell, NullAlone};
-ghost use Rattle.pg_read.specs.ReadingLaws.{plain_single};
+ghost use Rattle.pg_read.specs.Laws.Reading.{plain_single};
 
 use crate::from_sql::FromSql;
 use pg_base::acceptance::{has_version, is_text};

@@ -14,7 +14,7 @@ use Rattle.pg_base.specs.Sameness.{IsEquivalence, SameOption}
 use Rattle.pg_base.specs.Texts.{FormText, ReadsText, accepted_text, first_fault_text, has_version, wire_text}
 use Rattle.pg_read.specs.OptionReading.{ReadsOption}
 use Rattle.pg_read.specs.Reading.{GivesSingle, ReadsSingle}
-use Rattle.pg_read.specs.ReadingLaws.{option_single, plain_single, through_single}
+use Rattle.pg_read.specs.Laws.Reading.{option_single, plain_single, through_single}
 use Rattle.pg_read.specs.Views.{ReadsThrough, Through}
 use Rattle.pg_write.specs.OptionWriting.{wire_option}
 use Rattle.postgres_types.specs.CompositeFields.{BackAnd, BackEnd, ReadsAnd, ReadsEnd, SameAnd, accepts_and, and}
@@ -23,12 +23,12 @@ use Rattle.postgres_types.specs.CompositeFields.{no_fields_equivalence, no_field
 use Rattle.postgres_types.specs.Composites.{accepts_record, composite_lawful, composite_single, reads_record}
 use Rattle.postgres_types.specs.Composites.{record_cell}
 use Rattle.postgres_types.specs.Conversion.{int4_lawful, int4_single, int8_lawful, int8_single}
-use Rattle.postgres_types.specs.FormatBackLaws.{text_lawful}
-use Rattle.postgres_types.specs.OptionBackLaws.{option_lawful}
+use Rattle.postgres_types.specs.Laws.FormatBack.{text_lawful}
+use Rattle.postgres_types.specs.Laws.OptionBack.{option_lawful}
 use Rattle.postgres_types.specs.ReadingBack.{BackKept, BackOption, IsLawful}
-use Rattle.postgres_types.specs.RecordLaws.{AreLawful}
+use Rattle.postgres_types.specs.Laws.Record.{AreLawful}
 use Rattle.postgres_types.specs.Records.{Bytes, ReadsRecord, count_of, fields_of_kind, record_bytes, wire_record}
-use Rattle.postgres_types.specs.ViewBackLaws.{through_lawful}
+use Rattle.postgres_types.specs.Laws.ViewBack.{through_lawful}
 use Rattle.postgres_types.specs.declared.composite.fields.And.{And}
 use Rattle.postgres_types.specs.declared.composite.fields.End.{End}
 use Rattle.pg_record.specs.declared.inventory_item.InventoryItem.{InventoryItem}

@@ -4,7 +4,7 @@ ghost use Rattle.postgres_types.specs.Content.{content};
 ghost use Rattle.postgres_types.specs.KindRefs.{kind_ref_view};
 ghost use Rattle.postgres_types.specs.Conversion.{BackKept, EveryCell, codes, equal_equivalence, refl};
 ghost use Rattle.pg_record.specs.Moods.{ReadsMood, are_mood_labels, has_label, is_mood, is_mood_kind, label, wire_mood};
-ghost use Rattle.pg_record.specs.MoodLaws.{mood_lawful, mood_single};
+ghost use Rattle.pg_record.specs.Laws.Mood.{mood_lawful, mood_single};
 
 use postgres_types::private::BytesMut;
 use postgres_types::protocol::{text_from_sql, text_to_sql};

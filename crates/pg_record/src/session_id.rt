@@ -4,7 +4,7 @@ ghost use Rattle.pg_base.proofs.FormatLaws.{bytes_grammar};
 ghost use Rattle.postgres_types.specs.Bytea.{FormBytes, first_fault_bytes};
 ghost use Rattle.postgres_types.specs.Content.{content};
 ghost use Rattle.postgres_types.specs.Conversion.{BackKept, NullAlone, codes, content_equivalence, plain_single, refl};
-ghost use Rattle.postgres_types.specs.FormatBackLaws.{bytes_lawful};
+ghost use Rattle.postgres_types.specs.Laws.FormatBack.{bytes_lawful};
 ghost use Rattle.pg_record.specs.SessionIds.{ReadsSessionId, is_session_id, wire_session_id};
 
 use postgres_types::private::BytesMut;

@@ -3,4 +3,6 @@ pub mod CellNotes
 pub mod ElementCells
 pub mod Insertion
 mod KeyOrder
+mod ParamFrames
+mod ParamLists
 pub mod SameEntries

@@ -1,4 +1,5 @@
 -- The words of writing.
 pub mod ArrayWriting
 pub mod OptionWriting
+pub mod ParamWriting
 pub mod Writing

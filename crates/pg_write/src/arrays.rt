@@ -8,7 +8,7 @@ ghost use Rattle.pg_write.specs.ArrayWriting.{NotesCells, element_cells, frame_l
 ghost use Rattle.pg_write.specs.ArrayWriting.{lower_bound_of, wire_fixed, wire_list};
 ghost use Rattle.pg_write.specs.Writing.{Writes};
 
-use crate::to_sql::{ToSql, wrong_type};
+use crate::to_sql::{ToSql, check_type};
 use bytes::BytesMut;
 use pg_base::acceptance::element_type;
 use pg_base::fault::Fault;
@@ -47,11 +47,8 @@ impl<T: ToSql> ToSql for Vec<T> {
         ty: &PgType,
         out: &mut BytesMut,
     ) -> Result<IsNull, Fault> {
-        if Self::accepts(ty) {
-            self.to_sql(alloc, ty, out)
-        } else {
-            Err(wrong_type(ty, "Vec"))
-        }
+        check_type(Self::accepts(ty), ty, "Vec")?;
+        self.to_sql(alloc, ty, out)
     }
 
     fn encode_format(&self, _ty: &PgType) -> Format {
@@ -85,11 +82,8 @@ impl<'b, T: ToSql> ToSql for &'b [T] {
         ty: &PgType,
         out: &mut BytesMut,
     ) -> Result<IsNull, Fault> {
-        if Self::accepts(ty) {
-            self.to_sql(alloc, ty, out)
-        } else {
-            Err(wrong_type(ty, "&[T]"))
-        }
+        check_type(Self::accepts(ty), ty, "&[T]")?;
+        self.to_sql(alloc, ty, out)
     }
 
     fn encode_format(&self, _ty: &PgType) -> Format {
@@ -121,11 +115,8 @@ impl<T: ToSql, const N: usize> ToSql for [T; N] {
         ty: &PgType,
         out: &mut BytesMut,
     ) -> Result<IsNull, Fault> {
-        if Self::accepts(ty) {
-            self.to_sql(alloc, ty, out)
-        } else {
-            Err(wrong_type(ty, "[T; N]"))
-        }
+        check_type(Self::accepts(ty), ty, "[T; N]")?;
+        self.to_sql(alloc, ty, out)
     }
 
     fn encode_format(&self, _ty: &PgType) -> Format {
@@ -157,11 +148,8 @@ impl<T: ToSql> ToSql for BoxedSlice<T> {
         ty: &PgType,
         out: &mut BytesMut,
     ) -> Result<IsNull, Fault> {
-        if Self::accepts(ty) {
-            self.to_sql(alloc, ty, out)
-        } else {
-            Err(wrong_type(ty, "Box<[T]>"))
-        }
+        check_type(Self::accepts(ty), ty, "Box<[T]>")?;
+        self.to_sql(alloc, ty, out)
     }
 
     fn encode_format(&self, _ty: &PgType) -> Format {

@@ -1,7 +1,7 @@
 //! Writing a box.
 ghost use Rattle.std.specs.Prelude.{true, codes};
 
-use crate::to_sql::{ToSql, wrong_type};
+use crate::to_sql::{ToSql, check_type};
 use bytes::BytesMut;
 use pg_base::fault::Fault;
 use pg_base::format::{Format, IsNull};
@@ -34,11 +34,8 @@ impl<T: ToSql> ToSql for Box<T> {
         ty: &PgType,
         out: &mut BytesMut,
     ) -> Result<IsNull, Fault> {
-        if Self::accepts(ty) {
-            self.to_sql(alloc, ty, out)
-        } else {
-            Err(wrong_type(ty, "Box"))
-        }
+        check_type(Self::accepts(ty), ty, "Box")?;
+        self.to_sql(alloc, ty, out)
     }
 
     fn encode_format(&self, _ty: &PgType) -> Format {

@@ -5,7 +5,7 @@ ghost use Rattle.pg_types.specs.declared.types.built_in.BuiltIn.TheVariants.{Byt
 ghost use Rattle.pg_base.specs.Bytea.{wire_bytes};
 ghost use Rattle.pg_types.specs.Content.{content, is_row};
 
-use crate::to_sql::{ToSql, wrong_type};
+use crate::to_sql::{ToSql, check_type};
 use bytes::BytesMut;
 use pg_base::fault::Fault;
 use pg_base::format::{Format, IsNull};
@@ -44,11 +44,8 @@ impl<'b> ToSql for &'b [u8] {
         ty: &PgType,
         out: &mut BytesMut,
     ) -> Result<IsNull, Fault> {
-        if Self::accepts(ty) {
-            self.to_sql(alloc, ty, out)
-        } else {
-            Err(wrong_type(ty, "&[u8]"))
-        }
+        check_type(Self::accepts(ty), ty, "&[u8]")?;
+        self.to_sql(alloc, ty, out)
     }
 
     fn encode_format(&self, _ty: &PgType) -> Format {
@@ -84,11 +81,8 @@ impl ToSql for Vec<u8> {
         ty: &PgType,
         out: &mut BytesMut,
     ) -> Result<IsNull, Fault> {
-        if Self::accepts(ty) {
-            self.to_sql(alloc, ty, out)
-        } else {
-            Err(wrong_type(ty, "Vec<u8>"))
-        }
+        check_type(Self::accepts(ty), ty, "Vec<u8>")?;
+        self.to_sql(alloc, ty, out)
     }
 
     fn encode_format(&self, _ty: &PgType) -> Format {
@@ -124,11 +118,8 @@ impl<const N: usize> ToSql for [u8; N] {
         ty: &PgType,
         out: &mut BytesMut,
     ) -> Result<IsNull, Fault> {
-        if Self::accepts(ty) {
-            self.to_sql(alloc, ty, out)
-        } else {
-            Err(wrong_type(ty, "[u8; N]"))
-        }
+        check_type(Self::accepts(ty), ty, "[u8; N]")?;
+        self.to_sql(alloc, ty, out)
     }
 
     fn encode_format(&self, _ty: &PgType) -> Format {
@@ -166,11 +157,8 @@ impl<'b> ToSql for CowSlice<'b, u8> {
         ty: &PgType,
         out: &mut BytesMut,
     ) -> Result<IsNull, Fault> {
-        if Self::accepts(ty) {
-            self.to_sql(alloc, ty, out)
-        } else {
-            Err(wrong_type(ty, "Cow<[u8]>"))
-        }
+        check_type(Self::accepts(ty), ty, "Cow<[u8]>")?;
+        self.to_sql(alloc, ty, out)
     }
 
     fn encode_format(&self, _ty: &PgType) -> Format {

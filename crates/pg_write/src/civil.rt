@@ -9,7 +9,7 @@ ghost use Rattle.pg_types.specs.declared.types.built_in.BuiltIn.TheVariants.{Tim
 ghost use Rattle.pg_types.specs.declared.types.built_in.BuiltIn.TheVariants.{Timestamp as TimestampRow};
 ghost use Rattle.pg_types.specs.declared.types.built_in.BuiltIn.TheVariants.{Timestamptz};
 
-use crate::to_sql::{ToSql, wrong_type};
+use crate::to_sql::{ToSql, check_type};
 use bytes::BytesMut;
 use jiff::Timestamp;
 use jiff::civil::{Date, DateTime, Time};
@@ -89,11 +89,8 @@ impl ToSql for Date {
         ty: &PgType,
         out: &mut BytesMut,
     ) -> Result<IsNull, Fault> {
-        if Self::accepts(ty) {
-            self.to_sql(alloc, ty, out)
-        } else {
-            Err(wrong_type(ty, "jiff::civil::Date"))
-        }
+        check_type(Self::accepts(ty), ty, "jiff::civil::Date")?;
+        self.to_sql(alloc, ty, out)
     }
 
     fn encode_format(&self, _ty: &PgType) -> Format {
@@ -130,11 +127,8 @@ impl ToSql for Time {
         ty: &PgType,
         out: &mut BytesMut,
     ) -> Result<IsNull, Fault> {
-        if Self::accepts(ty) {
-            self.to_sql(alloc, ty, out)
-        } else {
-            Err(wrong_type(ty, "jiff::civil::Time"))
-        }
+        check_type(Self::accepts(ty), ty, "jiff::civil::Time")?;
+        self.to_sql(alloc, ty, out)
     }
 
     fn encode_format(&self, _ty: &PgType) -> Format {
@@ -172,11 +166,8 @@ impl ToSql for DateTime {
         ty: &PgType,
         out: &mut BytesMut,
     ) -> Result<IsNull, Fault> {
-        if Self::accepts(ty) {
-            self.to_sql(alloc, ty, out)
-        } else {
-            Err(wrong_type(ty, "jiff::civil::DateTime"))
-        }
+        check_type(Self::accepts(ty), ty, "jiff::civil::DateTime")?;
+        self.to_sql(alloc, ty, out)
     }
 
     fn encode_format(&self, _ty: &PgType) -> Format {
@@ -214,11 +205,8 @@ impl ToSql for Timestamp {
         ty: &PgType,
         out: &mut BytesMut,
     ) -> Result<IsNull, Fault> {
-        if Self::accepts(ty) {
-            self.to_sql(alloc, ty, out)
-        } else {
-            Err(wrong_type(ty, "jiff::Timestamp"))
-        }
+        check_type(Self::accepts(ty), ty, "jiff::Timestamp")?;
+        self.to_sql(alloc, ty, out)
     }
 
     fn encode_format(&self, _ty: &PgType) -> Format {

@@ -4,7 +4,7 @@ ghost use Rattle.pg_types.specs.declared.fault.Fault.TheVariants.{Memory};
 ghost use Rattle.pg_base.specs.Hstore.{in_key_order, borrowed_entry, owned_entry, wire_hstore};
 ghost use Rattle.pg_base.specs.Texts.{is_named};
 
-use crate::to_sql::{ToSql, wrong_type};
+use crate::to_sql::{ToSql, check_type};
 use bytes::BytesMut;
 use pg_base::acceptance::is_hstore;
 use pg_base::fault::Fault;
@@ -44,11 +44,8 @@ impl<S: BuildHasher + Drop> ToSql for HashMap<String, Option<String>, S> {
         ty: &PgType,
         out: &mut BytesMut,
     ) -> Result<IsNull, Fault> {
-        if Self::accepts(ty) {
-            self.to_sql(alloc, ty, out)
-        } else {
-            Err(wrong_type(ty, "HashMap"))
-        }
+        check_type(Self::accepts(ty), ty, "HashMap")?;
+        self.to_sql(alloc, ty, out)
     }
 
     fn encode_format(&self, _ty: &PgType) -> Format {

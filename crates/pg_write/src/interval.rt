@@ -4,7 +4,7 @@ ghost use Rattle.pg_types.specs.declared.types.built_in.BuiltIn.TheVariants.{Int
 ghost use Rattle.pg_types.specs.Content.{is_row};
 ghost use Rattle.pg_base.specs.Interval.{wire_interval};
 
-use crate::to_sql::{ToSql, wrong_type};
+use crate::to_sql::{ToSql, check_type};
 use bytes::BytesMut;
 use pg_base::fault::Fault;
 use pg_base::format::{Format, IsNull};
@@ -42,11 +42,8 @@ impl ToSql for Interval {
         ty: &PgType,
         out: &mut BytesMut,
     ) -> Result<IsNull, Fault> {
-        if Self::accepts(ty) {
-            self.to_sql(alloc, ty, out)
-        } else {
-            Err(wrong_type(ty, "Interval"))
-        }
+        check_type(Self::accepts(ty), ty, "Interval")?;
+        self.to_sql(alloc, ty, out)
     }
 
     fn encode_format(&self, _ty: &PgType) -> Format {

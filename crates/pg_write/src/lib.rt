@@ -17,6 +17,7 @@ mod lsn;
 mod network;
 mod numbers;
 mod options;
+pub mod params;
 mod references;
 mod special;
 mod texts;

@@ -5,7 +5,7 @@ ghost use Rattle.pg_types.specs.Content.{is_row};
 ghost use Rattle.pg_base.specs.FixedBytes.{wire_fixed_bytes};
 ghost use Rattle.pg_base.specs.Network.{wire_address, wire_cidr, wire_inet};
 
-use crate::to_sql::{ToSql, wrong_type};
+use crate::to_sql::{ToSql, check_type};
 use bytes::BytesMut;
 use pg_base::fault::Fault;
 use pg_base::format::{Format, IsNull};
@@ -44,11 +44,8 @@ impl ToSql for IpAddr {
         ty: &PgType,
         out: &mut BytesMut,
     ) -> Result<IsNull, Fault> {
-        if Self::accepts(ty) {
-            self.to_sql(alloc, ty, out)
-        } else {
-            Err(wrong_type(ty, "IpAddr"))
-        }
+        check_type(Self::accepts(ty), ty, "IpAddr")?;
+        self.to_sql(alloc, ty, out)
     }
 
     fn encode_format(&self, _ty: &PgType) -> Format {
@@ -84,11 +81,8 @@ impl ToSql for IpInet {
         ty: &PgType,
         out: &mut BytesMut,
     ) -> Result<IsNull, Fault> {
-        if Self::accepts(ty) {
-            self.to_sql(alloc, ty, out)
-        } else {
-            Err(wrong_type(ty, "IpInet"))
-        }
+        check_type(Self::accepts(ty), ty, "IpInet")?;
+        self.to_sql(alloc, ty, out)
     }
 
     fn encode_format(&self, _ty: &PgType) -> Format {
@@ -124,11 +118,8 @@ impl ToSql for IpCidr {
         ty: &PgType,
         out: &mut BytesMut,
     ) -> Result<IsNull, Fault> {
-        if Self::accepts(ty) {
-            self.to_sql(alloc, ty, out)
-        } else {
-            Err(wrong_type(ty, "IpCidr"))
-        }
+        check_type(Self::accepts(ty), ty, "IpCidr")?;
+        self.to_sql(alloc, ty, out)
     }
 
     fn encode_format(&self, _ty: &PgType) -> Format {
@@ -164,11 +155,8 @@ impl ToSql for MacAddress {
         ty: &PgType,
         out: &mut BytesMut,
     ) -> Result<IsNull, Fault> {
-        if Self::accepts(ty) {
-            self.to_sql(alloc, ty, out)
-        } else {
-            Err(wrong_type(ty, "MacAddress"))
-        }
+        check_type(Self::accepts(ty), ty, "MacAddress")?;
+        self.to_sql(alloc, ty, out)
     }
 
     fn encode_format(&self, _ty: &PgType) -> Format {

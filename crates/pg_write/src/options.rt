@@ -3,7 +3,7 @@ ghost use Rattle.std.specs.Prelude.{true, codes};
 ghost use Rattle.pg_base.specs.Options.{NoneOr};
 ghost use Rattle.pg_write.specs.OptionWriting.{wire_option, format_option};
 
-use crate::to_sql::{ToSql, wrong_type};
+use crate::to_sql::{ToSql, check_type};
 use bytes::BytesMut;
 use pg_base::fault::Fault;
 use pg_base::format::{Format, IsNull};
@@ -41,11 +41,8 @@ impl<T: ToSql> ToSql for Option<T> {
         ty: &PgType,
         out: &mut BytesMut,
     ) -> Result<IsNull, Fault> {
-        if Self::accepts(ty) {
-            self.to_sql(alloc, ty, out)
-        } else {
-            Err(wrong_type(ty, "Option"))
-        }
+        check_type(Self::accepts(ty), ty, "Option")?;
+        self.to_sql(alloc, ty, out)
     }
 
     fn encode_format(&self, ty: &PgType) -> Format {

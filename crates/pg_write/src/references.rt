@@ -1,7 +1,7 @@
 //! Writing through a reference.
 ghost use Rattle.std.specs.Prelude.{true, codes};
 
-use crate::to_sql::{ToSql, wrong_type};
+use crate::to_sql::{ToSql, check_type};
 use bytes::BytesMut;
 use pg_base::fault::Fault;
 use pg_base::format::{Format, IsNull};
@@ -36,11 +36,8 @@ impl<'b, T: ToSql> ToSql for &'b T {
         ty: &PgType,
         out: &mut BytesMut,
     ) -> Result<IsNull, Fault> {
-        if Self::accepts(ty) {
-            self.to_sql(alloc, ty, out)
-        } else {
-            Err(wrong_type(ty, "&T"))
-        }
+        check_type(Self::accepts(ty), ty, "&T")?;
+        self.to_sql(alloc, ty, out)
     }
 
     fn encode_format(&self, ty: &PgType) -> Format {

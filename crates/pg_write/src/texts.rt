@@ -7,7 +7,7 @@ ghost use Rattle.pg_types.specs.Content.{content};
 ghost use Rattle.pg_base.specs.Cells.{versioned_cell};
 ghost use Rattle.pg_base.specs.Texts.{accepted_text, has_version, wire_text};
 
-use crate::to_sql::{ToSql, wrong_type};
+use crate::to_sql::{ToSql, check_type};
 use bytes::BytesMut;
 use pg_base::acceptance::{has_version, is_text};
 use pg_base::fault::Fault;
@@ -64,11 +64,8 @@ impl<'b> ToSql for &'b str {
         ty: &PgType,
         out: &mut BytesMut,
     ) -> Result<IsNull, Fault> {
-        if Self::accepts(ty) {
-            self.to_sql(alloc, ty, out)
-        } else {
-            Err(wrong_type(ty, "&str"))
-        }
+        check_type(Self::accepts(ty), ty, "&str")?;
+        self.to_sql(alloc, ty, out)
     }
 
     fn encode_format(&self, _ty: &PgType) -> Format {
@@ -108,11 +105,8 @@ impl ToSql for String {
         ty: &PgType,
         out: &mut BytesMut,
     ) -> Result<IsNull, Fault> {
-        if Self::accepts(ty) {
-            self.to_sql(alloc, ty, out)
-        } else {
-            Err(wrong_type(ty, "String"))
-        }
+        check_type(Self::accepts(ty), ty, "String")?;
+        self.to_sql(alloc, ty, out)
     }
 
     fn encode_format(&self, _ty: &PgType) -> Format {
@@ -152,11 +146,8 @@ impl ToSql for BoxedStr {
         ty: &PgType,
         out: &mut BytesMut,
     ) -> Result<IsNull, Fault> {
-        if Self::accepts(ty) {
-            self.to_sql(alloc, ty, out)
-        } else {
-            Err(wrong_type(ty, "Box<str>"))
-        }
+        check_type(Self::accepts(ty), ty, "Box<str>")?;
+        self.to_sql(alloc, ty, out)
     }
 
     fn encode_format(&self, _ty: &PgType) -> Format {
@@ -198,11 +189,8 @@ impl<'b> ToSql for CowStr<'b> {
         ty: &PgType,
         out: &mut BytesMut,
     ) -> Result<IsNull, Fault> {
-        if Self::accepts(ty) {
-            self.to_sql(alloc, ty, out)
-        } else {
-            Err(wrong_type(ty, "Cow<str>"))
-        }
+        check_type(Self::accepts(ty), ty, "Cow<str>")?;
+        self.to_sql(alloc, ty, out)
     }
 
     fn encode_format(&self, _ty: &PgType) -> Format {

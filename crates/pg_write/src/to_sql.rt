@@ -1,5 +1,5 @@
 //! The trait of writing.
-ghost use Rattle.std.specs.Prelude.{◌≡◌, ◌≤◌, ℕ, List, Bool, IsTrue, IsSome, false, length};
+ghost use Rattle.std.specs.Prelude.{◌≡◌, ◌≤◌, ℕ, List, Bool, IfErr, IfOk, IsTrue, IsSome, false, length, true};
 ghost use Rattle.pg_types.specs.declared.format.Format.{Format};
 ghost use Rattle.pg_types.specs.declared.format.Format.TheVariants.{Binary};
 ghost use Rattle.pg_types.specs.Content.{Content, content, IsBuiltIn};
@@ -92,8 +92,20 @@ pub fn to_sql_checked_as<T: ToSql>(
         → KeepsRoomRule (T.wire (content ty.now) v.now) out.old.spare result }
     ensures never_memory { T.accepted (content ty.now) ≡ false → IsBuiltIn (content ty.now) → NeverMemory result }
 {
-    if T::accepts(ty) {
-        v.to_sql(alloc, ty, out)
+    check_type(T::accepts(ty), ty, rust)?;
+    v.to_sql(alloc, ty, out)
+}
+
+/// Answers Ok where the type is accepted, and [`WrongType`] with the name `rust`, of at most
+/// [`REASON_LEN`] bytes, where it is not: the first line of a `to_sql_checked`.
+pub fn check_type(accepted: bool, ty: &PgType, rust: &'static str) -> Result<(), Fault>
+    requires { length rust.now ≤ REASON_LEN }
+    ensures accepted { IfOk result (λ _. accepted ≡ true) }
+    ensures refuses { IfErr result (λ f. (accepted ≡ false) × IsWrongType (content ty.now) rust.now f) }
+    ensures never_memory { IsBuiltIn (content ty.now) → NeverMemory result }
+{
+    if accepted {
+        Ok(())
     } else {
         Err(wrong_type(ty, rust))
     }

@@ -2,7 +2,7 @@
 ghost use Rattle.std.specs.Prelude.{true, codes};
 ghost use Rattle.pg_base.specs.Timestamps.{accepts_timestamps, nanos_of, wire_timestamp};
 
-use crate::to_sql::{ToSql, wrong_type};
+use crate::to_sql::{ToSql, check_type};
 use bytes::BytesMut;
 use pg_base::acceptance::is_timestamp;
 use pg_base::fault::Fault;
@@ -43,11 +43,8 @@ impl ToSql for UnixTime {
         ty: &PgType,
         out: &mut BytesMut,
     ) -> Result<IsNull, Fault> {
-        if Self::accepts(ty) {
-            self.to_sql(alloc, ty, out)
-        } else {
-            Err(wrong_type(ty, "UnixTime"))
-        }
+        check_type(Self::accepts(ty), ty, "UnixTime")?;
+        self.to_sql(alloc, ty, out)
     }
 
     fn encode_format(&self, _ty: &PgType) -> Format {

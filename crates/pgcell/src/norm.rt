@@ -11,20 +11,9 @@ ghost use Rattle.pgcell.specs.Rewritten.{RewrittenAs, accepted_as};
 
 use crate::user_types::UserTypes;
 use bytes::BytesMut;
-use jiff::civil;
 use named_types::{Base, Form, Name, base_names};
-use pg_record::{InventoryItem, Mood, SessionId};
-use postgres_types::{
-    BitVec, Date, Fault, Interval, IpCidr, IpInet, IsNull, MacAddress, Paired, PgLsn, Timestamp,
-    Type, UnixTime, rewrite,
-};
+use postgres_types::{Fault, IsNull, Paired, Type, rewrite};
 use std::alloc::{AllocError, Global};
-use std::collections::HashMap;
-use std::net::IpAddr;
-use uuid::Uuid;
-
-/// What an hstore is read as.
-type Map = HashMap<String, Option<String>>;
 
 // A cell is rewritten by the row of its base name, where pgcell knows it.
 macro_rules! norm {

@@ -19,7 +19,7 @@ use Rattle.pg_base.specs.Cells.{Cell, frame}
 use Rattle.pg_base.specs.Counts.{after_number, no_trailing}
 use Rattle.pg_base.specs.Formats.{first_fault_of}
 use Rattle.pg_read.specs.FrameReading.{BeginsWithCells, ReadsFirst}
-use Rattle.pg_params.specs.ParamWriting.{AppendsFrame}
+use Rattle.pg_write.specs.ParamWriting.{AppendsFrame}
 use Rattle.pg_write.specs.ArrayWriting.{element_frame_cell, with_frame}
 use Rattle.postgres_types.specs.CompositeFields.{ReadsAnd, and, no_fields}
 use Rattle.postgres_types.specs.Records.{AppendsBytes, AppendsBytesOrPart, AtEnd, Both, Bytes, CellThen, CountThen}

@@ -10,7 +10,7 @@ use Rattle.pg_base.specs.Cells.{Cell}
 use Rattle.pg_types.specs.Faults.{Refusal, Outcome, refusal_of}
 use Rattle.pg_read.specs.Reading.{ReadsSingle}
 use Rattle.pg_write.specs.Writing.{Writes}
-use Rattle.postgres_types.specs.BackLaws.{kept}
+use Rattle.postgres_types.specs.Laws.Back.{kept}
 use Rattle.postgres_types.specs.ReadingBack.{IsLawful, WritesCell}
 use Rattle.postgres_types.specs.Rewriting.{IsCellOf, IsRewrittenAsItself}
 

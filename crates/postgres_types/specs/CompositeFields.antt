@@ -6,12 +6,12 @@ use Rattle.pg_base.specs.Appending.{Wire}
 use Rattle.pg_base.specs.Cells.{Cell}
 use Rattle.pg_base.specs.Sameness.{IsEquivalence}
 use Rattle.pg_read.specs.Reading.{GivesSingle, ReadsSingle}
-use Rattle.pg_read.specs.ReadingLaws.{through_gives_single}
+use Rattle.pg_read.specs.Laws.Reading.{through_gives_single}
 use Rattle.pg_read.specs.Views.{Through}
 use Rattle.postgres_types.specs.ReadingBack.{IsLawful}
-use Rattle.postgres_types.specs.RecordLaws.{AreLawful, SamePair, end_lawful, end_single, field_lawful, field_single}
+use Rattle.postgres_types.specs.Laws.Record.{AreLawful, SamePair, end_lawful, end_single, field_lawful, field_single}
 use Rattle.postgres_types.specs.Records.{AtEnd, Both, Bytes, FieldThen, IsDone, concat_bytes, field_bytes}
-use Rattle.postgres_types.specs.ViewBackLaws.{through_map}
+use Rattle.postgres_types.specs.Laws.ViewBack.{through_map}
 use Rattle.postgres_types.specs.declared.composite.fields.And.{And}
 use Rattle.postgres_types.specs.declared.composite.fields.End.{End}
 

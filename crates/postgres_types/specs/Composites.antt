@@ -10,7 +10,7 @@ use Rattle.pg_base.specs.Texts.{is_named}
 use Rattle.pg_read.specs.Reading.{GivesSingle, ReadsSingle}
 use Rattle.postgres_types.specs.CompositeFields.{both_true}
 use Rattle.postgres_types.specs.ReadingBack.{IsLawful}
-use Rattle.postgres_types.specs.RecordLaws.{AreLawful, record_lawful, record_single}
+use Rattle.postgres_types.specs.Laws.Record.{AreLawful, record_lawful, record_single}
 use Rattle.postgres_types.specs.Records.{Bytes, ReadsRecord, count_of, fields_of_kind, wire_record}
 
 -- a composite type's kind

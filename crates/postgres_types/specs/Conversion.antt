@@ -4,8 +4,8 @@ use Rattle.std.specs.Int.{w16, w32, w64}
 use Rattle.pg_base.proofs.FormatLaws.{int2_grammar, int4_grammar, int8_grammar}
 use Rattle.pg_base.specs.Numbers.{FormSigned, ReadsSigned, first_fault_number, wire_signed}
 use Rattle.pg_read.specs.Reading.{ReadsSingle}
-use Rattle.pg_read.specs.ReadingLaws.{plain_single}
-use Rattle.postgres_types.specs.FormatBackLaws.{signed_lawful}
+use Rattle.pg_read.specs.Laws.Reading.{plain_single}
+use Rattle.postgres_types.specs.Laws.FormatBack.{signed_lawful}
 use Rattle.postgres_types.specs.ReadingBack.{BackKept, IsLawful}
 pub use Rattle.std.specs.Prelude.{ℤ, Option, Some, None, Bool, codes, int_le, int_lt, negsuc, pos, refl}
 pub use Rattle.std.proofs.Common.{ap}
@@ -22,17 +22,17 @@ pub use Rattle.pg_base.specs.Numbers.{FormSigned, ReadsSigned, first_fault_numbe
 pub use Rattle.pg_base.specs.Sameness.{SameOption}
 pub use Rattle.pg_read.specs.OptionReading.{ReadsOption}
 pub use Rattle.pg_read.specs.Reading.{EveryCell, NullAlone, ReadsSingle}
-pub use Rattle.pg_read.specs.ReadingLaws.{constrained_single, option_single, plain_single, through_single}
+pub use Rattle.pg_read.specs.Laws.Reading.{constrained_single, option_single, plain_single, through_single}
 pub use Rattle.pg_read.specs.Views.{Constrained, ReadsConstrained, ReadsThrough, Through}
 pub use Rattle.pg_write.specs.OptionWriting.{wire_option}
 pub use Rattle.pg_write.specs.Writing.{wire_constrained}
-pub use Rattle.postgres_types.specs.FormatBackLaws.{signed_finite, signed_lawful, signed_written}
-pub use Rattle.postgres_types.specs.OptionBackLaws.{option_lawful}
-pub use Rattle.postgres_types.specs.PlainLaws.{plain_lawful, under_checks}
+pub use Rattle.postgres_types.specs.Laws.FormatBack.{signed_finite, signed_lawful, signed_written}
+pub use Rattle.postgres_types.specs.Laws.OptionBack.{option_lawful}
+pub use Rattle.postgres_types.specs.Laws.Plain.{plain_lawful, under_checks}
 pub use Rattle.postgres_types.specs.ReadingBack.{BackKept, BackOption, IsLawful}
-pub use Rattle.postgres_types.specs.ViewBackLaws.{constrained_finite, constrained_lawful, refusing_finite}
-pub use Rattle.postgres_types.specs.ViewBackLaws.{refusing_lawful}
-pub use Rattle.postgres_types.specs.ViewBackLaws.{through_finite, through_lawful}
+pub use Rattle.postgres_types.specs.Laws.ViewBack.{constrained_finite, constrained_lawful, refusing_finite}
+pub use Rattle.postgres_types.specs.Laws.ViewBack.{refusing_lawful}
+pub use Rattle.postgres_types.specs.Laws.ViewBack.{through_finite, through_lawful}
 
 -- equal numbers
 abbrev pub Equal : ℤ → ℤ → Type 0

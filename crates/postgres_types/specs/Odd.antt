@@ -7,7 +7,7 @@ use Rattle.pg_types.specs.Faults.{Refusal, user}
 use Rattle.pg_base.proofs.FormatLaws.{be-length, int4_grammar}
 use Rattle.pg_base.specs.Formats.{IsGrammar, first_fault_of}
 use Rattle.pg_base.specs.Numbers.{FormSigned}
-use Rattle.postgres_types.specs.PlainLaws.{under_checks}
+use Rattle.postgres_types.specs.Laws.Plain.{under_checks}
 use Rattle.postgres_types.specs.declared.odd.Gap.{Gap}
 use Rattle.postgres_types.specs.declared.odd.Gap.TheVariants.{Hole, Full}
 

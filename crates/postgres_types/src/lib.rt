@@ -5,13 +5,11 @@
 //! PostgreSQL's send and receive functions.
 #![tactic(auto)]
 
-mod acceptance;
 pub mod composite;
 pub mod odd;
 mod paired;
 mod rewriting;
 
-pub use acceptance::check_type;
 pub use paired::{Finite, Paired};
 pub use pg_base::bits::BitVec;
 pub use pg_base::fault::{Fault, REASON_LEN, Reason, WasNull, WrongType};
@@ -23,8 +21,8 @@ pub use pg_base::protocol;
 pub use pg_base::special::{Date, Timestamp};
 pub use pg_base::types::{Field, Kind, KindRef, Oid, PgType as Type};
 pub use pg_base::unix_time::UnixTime;
-pub use pg_params::{frame_value, params_to_sql};
+pub use pg_write::params::{frame_value, params_to_sql};
 pub use pg_read::from_sql::{FromSql, from_sql_nullable};
 pub use pg_read::private;
-pub use pg_write::to_sql::{ToSql, to_sql_checked_as, wrong_type};
+pub use pg_write::to_sql::{ToSql, check_type, to_sql_checked_as, wrong_type};
 pub use rewriting::rewrite;

@@ -12,7 +12,7 @@ ghost use Rattle.postgres_types.specs.Conversion.{through_single, user, w32, w64
 ghost use Rattle.postgres_types.specs.Conversion.{wire_signed};
 ghost use Rattle.postgres_types.specs.Odd.{first_fault_short, gap_view, is_even, short_grammar};
 
-use crate::acceptance::check_type;
+use pg_write::to_sql::check_type;
 use crate::paired::{Finite, Paired};
 use bytes::BytesMut;
 use pg_base::fault::Fault;

@@ -6,7 +6,7 @@ ghost use Rattle.pg_types.specs.Content.{content};
 ghost use Rattle.pg_types.specs.Faults.{Answers, NeverMemory};
 ghost use Rattle.pg_base.proofs.SamenessLaws.{list_equivalence};
 ghost use Rattle.pg_base.specs.Sameness.{SameList};
-ghost use Rattle.pg_read.specs.ArrayReadingLaws.{fixed_single, by_elements_single};
+ghost use Rattle.pg_read.specs.Laws.ArrayReading.{fixed_single, by_elements_single};
 ghost use Rattle.pg_read.specs.ArrayReading.{ElementsAll, ReadsArray, ReadsFixed, ReadsByElement};
 ghost use Rattle.pg_read.specs.ElementReading.{Finishes, GivesElement, Stops};
 

@@ -3,7 +3,7 @@ ghost use Rattle.std.specs.Prelude.{Some};
 ghost use Rattle.std.specs.Int.{w64};
 ghost use Rattle.pg_base.specs.Special.{FreeSpecial, ReadsSpecial, SameSpecial, accepted_timestamp, timestamp_view};
 ghost use Rattle.pg_base.proofs.SpecialLaws.{special_equivalence, inside_accepted};
-ghost use Rattle.pg_read.specs.ReadingLaws.{special_single};
+ghost use Rattle.pg_read.specs.Laws.Reading.{special_single};
 
 use crate::from_sql::FromSql;
 use pg_base::acceptance::is_timestamp;

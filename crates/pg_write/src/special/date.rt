@@ -3,7 +3,7 @@ ghost use Rattle.std.specs.Prelude.{true, codes};
 ghost use Rattle.std.specs.Int.{w32};
 ghost use Rattle.pg_base.specs.Special.{InfinityOr, accepted_date, date_view, wire_special};
 
-use crate::to_sql::{ToSql, wrong_type};
+use crate::to_sql::{ToSql, check_type};
 use bytes::BytesMut;
 use pg_base::acceptance::is_date;
 use pg_base::fault::Fault;
@@ -46,11 +46,8 @@ impl<T: ToSql> ToSql for Date<T> {
         ty: &PgType,
         out: &mut BytesMut,
     ) -> Result<IsNull, Fault> {
-        if Self::accepts(ty) {
-            self.to_sql(alloc, ty, out)
-        } else {
-            Err(wrong_type(ty, "Date"))
-        }
+        check_type(Self::accepts(ty), ty, "Date")?;
+        self.to_sql(alloc, ty, out)
     }
 
     fn encode_format(&self, _ty: &PgType) -> Format {

@@ -8,7 +8,7 @@ ghost use Rattle.postgres_types.specs.CompositeFields.{BackAnd, BackEnd, ReadsAn
 ghost use Rattle.postgres_types.specs.CompositeFields.{and_equivalence, and_lawful, and_single, bytes_and};
 ghost use Rattle.postgres_types.specs.CompositeFields.{no_fields_equivalence, no_fields_lawful, no_fields_single};
 ghost use Rattle.postgres_types.specs.CompositeFields.{no_fields};
-ghost use Rattle.postgres_types.specs.RecordLaws.{AreLawful};
+ghost use Rattle.postgres_types.specs.Laws.Record.{AreLawful};
 ghost use Rattle.postgres_types.specs.Records.{AppendsBytes, Bytes};
 
 use super::reading::{read_end, read_field};

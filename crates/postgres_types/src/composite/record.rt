@@ -3,17 +3,17 @@ ghost use Rattle.std.specs.Prelude.{◌≡◌, ◌≤◌, List, Bool, IsTrue, le
 ghost use Rattle.pg_types.specs.Content.{content, fields_content, kind_of};
 ghost use Rattle.pg_base.proofs.SamenessLaws.{inside_equivalence};
 ghost use Rattle.pg_read.specs.Reading.{NullAlone};
-ghost use Rattle.pg_read.specs.ReadingLaws.{through_single};
+ghost use Rattle.pg_read.specs.Laws.Reading.{through_single};
 ghost use Rattle.pg_read.specs.Views.{ReadsThrough, Through};
 ghost use Rattle.postgres_types.specs.Composites.{accepts_record, are_named, composite_lawful, composite_single};
 ghost use Rattle.postgres_types.specs.Composites.{composite_types, is_composite, is_record, reads_record, record_cell};
 ghost use Rattle.postgres_types.specs.Records.{AppendsBytes, fields_of_kind, record_bytes};
-ghost use Rattle.postgres_types.specs.ViewBackLaws.{through_lawful};
+ghost use Rattle.postgres_types.specs.Laws.ViewBack.{through_lawful};
 
 use super::fields::{FromFields, PairedFields, ToFields};
 use super::reading::{fields_of, read_field_count};
 use super::writing::field_count_to_sql;
-use crate::acceptance::check_type;
+use pg_write::to_sql::check_type;
 use crate::paired::Paired;
 use bytes::BytesMut;
 use pg_base::fault::Fault;

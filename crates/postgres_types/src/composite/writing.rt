@@ -8,7 +8,7 @@ use bytes::{BufMut, BytesMut};
 use pg_base::fault::Fault;
 use pg_base::protocol::MAX_LEN;
 use pg_base::types::PgType;
-use pg_params::frame_value;
+use pg_write::params::frame_value;
 use pg_write::to_sql::ToSql;
 use std::alloc::Global;
 

@@ -2,7 +2,7 @@
 ghost use Rattle.std.specs.Box.{boxed_slice_items};
 ghost use Rattle.pg_base.specs.ArrayTypes.{element_of};
 ghost use Rattle.pg_read.specs.ArrayReading.{ReadsByElement};
-ghost use Rattle.postgres_types.specs.ArrayBackLaws.{array_lawful, fixed_lawful, same_lists};
+ghost use Rattle.postgres_types.specs.Laws.ArrayBack.{array_lawful, fixed_lawful, same_lists};
 ghost use Rattle.postgres_types.specs.ReadingBack.{BackList};
 
 use crate::paired::Paired;

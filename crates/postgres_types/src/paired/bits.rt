@@ -1,6 +1,6 @@
 //! Bits are read back as themselves.
 ghost use Rattle.std.specs.Prelude.{◌≡◌, refl};
-ghost use Rattle.postgres_types.specs.FormatBackLaws.{bits_lawful};
+ghost use Rattle.postgres_types.specs.Laws.FormatBack.{bits_lawful};
 ghost use Rattle.postgres_types.specs.ReadingBack.{BackKept};
 
 use crate::paired::Paired;

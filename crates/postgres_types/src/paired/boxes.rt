@@ -1,6 +1,6 @@
 //! Reading boxes back.
 ghost use Rattle.std.specs.Int.{w32, w64};
-ghost use Rattle.postgres_types.specs.BoxBackLaws.{box_finite, box_lawful};
+ghost use Rattle.postgres_types.specs.Laws.BoxBack.{box_finite, box_lawful};
 ghost use Rattle.postgres_types.specs.ReadingBack.{BackBox};
 
 use crate::paired::{Finite, Paired};

@@ -1,6 +1,6 @@
 //! Bytes are read back as themselves.
 ghost use Rattle.std.specs.Prelude.{◌≡◌, refl};
-ghost use Rattle.postgres_types.specs.FormatBackLaws.{bytes_lawful};
+ghost use Rattle.postgres_types.specs.Laws.FormatBack.{bytes_lawful};
 ghost use Rattle.postgres_types.specs.ReadingBack.{BackKept};
 
 use crate::paired::Paired;

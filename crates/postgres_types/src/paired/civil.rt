@@ -5,9 +5,9 @@ ghost use Rattle.std.specs.Int.{w32, w64};
 ghost use Rattle.jiff.specs.Words.{civil_nanos, epoch_day};
 ghost use Rattle.pg_base.specs.Civil.{instant_nanos};
 ghost use Rattle.postgres_types.specs.TimestampBack.{KeptMicros, KeptMicrosOfDay};
-ghost use Rattle.postgres_types.specs.TimestampBackLaws.{date_finite, date_lawful, datetime_finite};
-ghost use Rattle.postgres_types.specs.TimestampBackLaws.{datetime_lawful, instant_finite, instant_lawful};
-ghost use Rattle.postgres_types.specs.TimestampBackLaws.{time_lawful};
+ghost use Rattle.postgres_types.specs.Laws.TimestampBack.{date_finite, date_lawful, datetime_finite};
+ghost use Rattle.postgres_types.specs.Laws.TimestampBack.{datetime_lawful, instant_finite, instant_lawful};
+ghost use Rattle.postgres_types.specs.Laws.TimestampBack.{time_lawful};
 ghost use Rattle.postgres_types.specs.ReadingBack.{BackKept};
 
 use crate::paired::{Finite, Paired};

@@ -1,7 +1,7 @@
 //! Maps of texts are read back as themselves.
 ghost use Rattle.std.specs.Prelude.{refl};
 ghost use Rattle.pg_base.specs.Hstore.{SameMap};
-ghost use Rattle.postgres_types.specs.HstoreBackLaws.{hstore_lawful};
+ghost use Rattle.postgres_types.specs.Laws.HstoreBack.{hstore_lawful};
 ghost use Rattle.postgres_types.specs.ReadingBack.{BackKept};
 
 use crate::paired::Paired;

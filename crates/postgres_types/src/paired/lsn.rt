@@ -2,7 +2,7 @@
 ghost use Rattle.std.specs.Prelude.{◌≡◌, refl};
 ghost use Rattle.std.specs.Int.{w64};
 ghost use Rattle.pg_base.proofs.LsnLaws.{lsn_grammar};
-ghost use Rattle.postgres_types.specs.FormatBackLaws.{unsigned_lawful};
+ghost use Rattle.postgres_types.specs.Laws.FormatBack.{unsigned_lawful};
 ghost use Rattle.postgres_types.specs.ReadingBack.{BackKept};
 
 use crate::paired::Paired;

@@ -1,6 +1,6 @@
 //! Addresses are read back as themselves.
 ghost use Rattle.std.specs.Prelude.{◌≡◌, refl};
-ghost use Rattle.postgres_types.specs.FormatBackLaws.{address_lawful, cidr_lawful, fixed_bytes_lawful, inet_lawful};
+ghost use Rattle.postgres_types.specs.Laws.FormatBack.{address_lawful, cidr_lawful, fixed_bytes_lawful, inet_lawful};
 ghost use Rattle.postgres_types.specs.ReadingBack.{BackKept};
 
 use crate::paired::Paired;

@@ -1,6 +1,6 @@
 //! Reading options back.
 ghost use Rattle.std.specs.Int.{w32, w64};
-ghost use Rattle.postgres_types.specs.OptionBackLaws.{option_finite, option_lawful};
+ghost use Rattle.postgres_types.specs.Laws.OptionBack.{option_finite, option_lawful};
 ghost use Rattle.postgres_types.specs.ReadingBack.{BackOption};
 
 use crate::paired::{Finite, Paired};

@@ -8,7 +8,7 @@ ghost use Rattle.pg_base.specs.Timestamps.{accepts_timestamps};
 ghost use Rattle.pg_base.specs.Special.{date_view, timestamp_view};
 ghost use Rattle.pg_base.proofs.SpecialLaws.{inside_accepted};
 ghost use Rattle.postgres_types.specs.ReadingBack.{BackSpecial};
-ghost use Rattle.postgres_types.specs.SpecialBackLaws.{not_both, row_accepted, special_finite, special_lawful};
+ghost use Rattle.postgres_types.specs.Laws.SpecialBack.{not_both, row_accepted, special_finite, special_lawful};
 
 use crate::paired::{Finite, Paired};
 use pg_base::special::{Date, Timestamp};

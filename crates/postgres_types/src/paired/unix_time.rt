@@ -3,7 +3,7 @@ ghost use Rattle.std.specs.Prelude.{refl};
 ghost use Rattle.std.specs.Int.{w32, w64};
 ghost use Rattle.pg_base.specs.Timestamps.{nanos_of};
 ghost use Rattle.postgres_types.specs.TimestampBack.{KeptMicros};
-ghost use Rattle.postgres_types.specs.TimestampBackLaws.{timestamp_finite, timestamp_lawful};
+ghost use Rattle.postgres_types.specs.Laws.TimestampBack.{timestamp_finite, timestamp_lawful};
 ghost use Rattle.postgres_types.specs.ReadingBack.{BackKept};
 
 use crate::paired::{Finite, Paired};

@@ -14,7 +14,7 @@ impl<'a> FromSql<'a> for NoDay {
     ghost use Rattle.postgres_types.specs.Faults.{decode};
     ghost use Rattle.postgres_types.specs.Formats.{ReadsPlain};
     ghost use Rattle.postgres_types.specs.Reading.{EveryCell};
-    ghost use Rattle.postgres_types.specs.ReadingLaws.{plain_single};
+    ghost use Rattle.postgres_types.specs.Laws.Reading.{plain_single};
     ghost use Rattle.pg_base.proofs.SamenessLaws.{equal_equivalence};
 
     ghost same = { λ v w. v ≡ w };

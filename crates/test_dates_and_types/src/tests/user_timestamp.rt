@@ -20,7 +20,7 @@ impl<'a> FromSql<'a> for Micros {
     ghost use Rattle.postgres_types.specs.Formats.{ReadsPlain};
     ghost use Rattle.postgres_types.specs.Numbers.{FormSigned, first_fault_number};
     ghost use Rattle.postgres_types.specs.Reading.{EveryCell};
-    ghost use Rattle.postgres_types.specs.ReadingLaws.{plain_single};
+    ghost use Rattle.postgres_types.specs.Laws.Reading.{plain_single};
     ghost use Rattle.pg_base.proofs.SamenessLaws.{content_equivalence};
 
     ghost same = { λ v w. v.0 ≡ w.0 };

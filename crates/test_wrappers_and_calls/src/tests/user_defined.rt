@@ -21,7 +21,7 @@ impl<'a> FromSql<'a> for Degrees {
     ghost use Rattle.postgres_types.specs.Numbers.{FormSigned, first_fault_number};
     ghost use Rattle.pg_base.proofs.SamenessLaws.{content_equivalence};
     ghost use Rattle.postgres_types.specs.Reading.{EveryCell};
-    ghost use Rattle.postgres_types.specs.ReadingLaws.{plain_single};
+    ghost use Rattle.postgres_types.specs.Laws.Reading.{plain_single};
 
     ghost same = { λ v w. v.0 ≡ w.0 };
 
@@ -99,9 +99,9 @@ impl<'a> Paired<'a> for Degrees {
     ghost use Rattle.std.specs.Prelude.{◌≡◌, refl};
     ghost use Rattle.std.specs.Int.{w32};
     ghost use Rattle.pg_base.proofs.FormatLaws.{int4_grammar};
-    ghost use Rattle.postgres_types.specs.FormatBackLaws.{signed_written};
+    ghost use Rattle.postgres_types.specs.Laws.FormatBack.{signed_written};
     ghost use Rattle.postgres_types.specs.Numbers.{FormSigned, first_fault_number, wire_signed};
-    ghost use Rattle.postgres_types.specs.PlainLaws.{plain_lawful};
+    ghost use Rattle.postgres_types.specs.Laws.Plain.{plain_lawful};
     ghost use Rattle.postgres_types.specs.ReadingBack.{BackKept};
 
     ghost back = { λ _. BackKept (λ v w. v.0 ≡ w.0) };

@@ -2,7 +2,7 @@
 use Rattle.std.specs.Int.{w32}
 use Rattle.pg_base.specs.Civil.{FormCount, first_fault_count}
 use Rattle.pg_base.specs.Civil.{first_day, last_day, IsDayOf}
-use Rattle.pg_read.specs.ReadingLaws.{value_from_outcome}
+use Rattle.pg_read.specs.Laws.Reading.{value_from_outcome}
 use Rattle.pg_read.proofs.laws.date_format.Goals as goal
 
 pub returns : goal.returns

@@ -4,7 +4,7 @@ use Rattle.pg_base.specs.Timestamps.{IsAfterBase}
 use Rattle.std.specs.Int.{w64}
 use Rattle.pg_base.specs.Civil.{FormCount, first_fault_count}
 use Rattle.pg_base.specs.Civil.{first_civil, last_civil}
-use Rattle.pg_read.specs.ReadingLaws.{value_from_outcome}
+use Rattle.pg_read.specs.Laws.Reading.{value_from_outcome}
 use Rattle.pg_read.proofs.laws.datetime_format.Goals as goal
 
 pub returns : goal.returns

@@ -3,7 +3,7 @@ use Rattle.std.specs.Prelude.{pos}
 use Rattle.std.specs.Int.{w64}
 use Rattle.pg_base.specs.Civil.{FormCount, first_fault_count}
 use Rattle.pg_base.specs.Civil.{last_micros, IsAfterMidnight}
-use Rattle.pg_read.specs.ReadingLaws.{value_from_outcome}
+use Rattle.pg_read.specs.Laws.Reading.{value_from_outcome}
 use Rattle.pg_read.proofs.laws.time_format.Goals as goal
 
 pub returns : goal.returns

@@ -1,7 +1,7 @@
 -- What the proof of `unix_time_format` answers by hand.
 use Rattle.pg_base.specs.Numbers.{first_fault_number}
 use Rattle.pg_base.specs.Timestamps.{FormTimestamp, nanos_of}
-use Rattle.pg_read.specs.ReadingLaws.{value_from_outcome}
+use Rattle.pg_read.specs.Laws.Reading.{value_from_outcome}
 use Rattle.pg_read.proofs.laws.unix_time_format.Goals as goal
 
 pub returns : goal.returns

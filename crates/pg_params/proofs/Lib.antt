@@ -1,3 +1,0 @@
--- The lemmas of this crate's proofs.
-mod ParamFrames
-mod ParamLists

@@ -1,2 +1,0 @@
--- Writing parameters.
-pub mod ParamWriting

@@ -1,0 +1,3 @@
+-- Lemmas that the sources cite; what they say is proved, so that none need be trusted.
+pub mod ArrayReading
+pub mod Reading

@@ -1,0 +1,53 @@
+-- Laws of the enumerated type "Mood".
+use Rattle.std.specs.Prelude.{◌≡◌, None, IsUtf8, refl}
+use Rattle.std.proofs.Common.{sym, ◌∙◌, ap}
+use Rattle.std.proofs.lemmas.Str.{is_utf8-from_IsUtf8}
+use lib.Utf8.{encode}
+use Rattle.postgres_types.specs.Formats.{IsGrammar}
+use Rattle.postgres_types.specs.Laws.Plain.{plain_lawful}
+use Rattle.postgres_types.specs.Reading.{ReadsSingle}
+use Rattle.postgres_types.specs.ReadingBack.{BackKept, IsLawful}
+use Rattle.postgres_types.specs.Laws.Reading.{plain_single}
+use Rattle.pg_record.specs.Moods.{FormMood, ReadsMood, first_fault_mood, label, wire_mood}
+use Rattle.pg_record.specs.declared.mood.Mood.{Mood}
+use Rattle.pg_record.specs.declared.mood.Mood.TheVariants.{Sad, Ok as MoodOk, Happy}
+
+-- each label is UTF-8
+label_utf8 : (v : Mood) → IsUtf8 (label v)
+unfolding encode
+label_utf8 Sad = (label Sad, (refl, refl))
+label_utf8 MoodOk = (label MoodOk, (refl, refl))
+label_utf8 Happy = (label Happy, (refl, refl))
+
+-- and passes both checks
+label_passes : (v : Mood) → first_fault_mood (label v) ≡ None
+label_passes Sad = rw (is_utf8-from_IsUtf8 (label Sad) (label_utf8 Sad)) refl
+label_passes MoodOk = rw (is_utf8-from_IsUtf8 (label MoodOk) (label_utf8 MoodOk)) refl
+label_passes Happy = rw (is_utf8-from_IsUtf8 (label Happy) (label_utf8 Happy)) refl
+
+-- no two values have one label
+label_single : (v w : Mood) → label v ≡ label w → v ≡ w
+label_single Sad Sad e = refl
+label_single Sad MoodOk e = cc
+label_single Sad Happy e = cc
+label_single MoodOk Sad e = cc
+label_single MoodOk MoodOk e = refl
+label_single MoodOk Happy e = cc
+label_single Happy Sad e = cc
+label_single Happy MoodOk e = cc
+label_single Happy Happy e = refl
+
+-- labels are a grammar
+pub mood_grammar : IsGrammar (λ v w. v ≡ w) FormMood first_fault_mood
+mood_grammar = record {
+  passes = λ b v h. ap first_fault_mood h ∙ label_passes v;
+  single = λ b v w h k. label_single v w (sym h ∙ k);
+}
+
+-- a cell has at most one outcome
+pub mood_single : ReadsSingle (λ v w. v ≡ w) ReadsMood
+mood_single = plain_single (λ v w. v ≡ w) FormMood first_fault_mood mood_grammar
+
+-- a mood is read back as itself
+pub mood_lawful : IsLawful (λ v w. v ≡ w) ReadsMood wire_mood (BackKept (λ v w. v ≡ w))
+mood_lawful = plain_lawful (λ v. v) FormMood first_fault_mood mood_grammar wire_mood (λ v. refl)

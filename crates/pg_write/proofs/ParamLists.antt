@@ -1,0 +1,79 @@
+-- The frames of parameters, one after another.
+use Rattle.std.proofs.Common.{◌≡◌, ◌<◌, ◌≤◌, ◌+◌, ◌++◌, ℕ, List, [], ◌∷◌, length, take, drop, get_or, zip, Some, Ok}
+use Rattle.std.proofs.Common.{Err, IsOk, refl, ap, sym, ◌∙◌, subst, arith, append_assoc}
+use Rattle.std.specs.Bool.{⊤}
+use Rattle.std.proofs.Math.Seq.{take-append_seam}
+use Rattle.std.proofs.lemmas.List.{take-append-drop, take_all}
+use Rattle.std.proofs.lemmas.Option.{slice_get_read}
+use Rattle.std.proofs.lemmas.Slice.Zip.{get_or-zip, length-zip}
+use Rattle.pg_base.specs.Appending.{Wire}
+use Rattle.pg_base.specs.Cells.{Cell, frame, frames, concat}
+use Rattle.pg_types.specs.Faults.{Outcome}
+use Rattle.pg_types.specs.declared.fault.Fault.{Fault}
+use Rattle.pg_base.proofs.Concat.{frames-append}
+use Rattle.pg_base.proofs.Concat.{concat-nil}
+use Rattle.pg_write.proofs.ElementCells.{next_cell}
+use Rattle.pg_write.specs.ArrayWriting.{element_cells, element_frame_cell, with_frame}
+use Rattle.pg_write.specs.ParamWriting.{AppendsFrameOrPart, Binds}
+
+-- one frame more
+next_frame : (cs : List Cell) (c : Cell) (bs b : List ℕ) → frames cs ≡ Some bs → frame c ≡ Some b
+    → frames (cs ++ c ∷ []) ≡ Some (bs ++ b)
+next_frame cs c bs b so_far next = frames-append cs (c ∷ []) ∙ ap (concat (frames cs)) (concat-nil (frame c))
+    ∙ rw (so_far, next) refl
+
+is_ok : {A : Type 0} (r : Outcome A) (a : A) → r ≡ Ok a → IsOk r
+is_ok (Ok x) a e = refl
+is_ok (Err x) a e = let no : ⊥ = cc in absurd no
+
+module _ {A B : Type 0} (f : A × B → Wire) (xs : List A) (ys : List B) (same : length xs ≡ length ys) where
+  length_of : length (zip xs ys) ≡ length xs
+  length_of = omega (arith, same, length-zip xs ys)
+
+  module _ (i : ℕ) (x : A) (y : B) (h : i < length xs) (is : x ≡ get_or xs i x) (other : y ≡ get_or ys i y) where
+    abbrev here : A × B
+    here = (x, y)
+
+    within : i < length (zip xs ys)
+    within = omega (arith, h, length_of)
+
+    stands : here ≡ get_or (zip xs ys) i here
+    stands =
+        let k : i < length ys = omega (arith, h, same) in
+        sym (get_or-zip xs ys i here h k ∙ ap (λ z. (z, get_or ys i y)) (sym is) ∙ ap (λ z. (x, z)) (sym other))
+
+    -- one more parameter was appended
+    pub next_param : {u : ⊤} (old mid new : List ℕ) → Binds f (take i (zip xs ys)) old mid (Ok u)
+        → AppendsFrameOrPart (f here) mid new (Ok u) → Binds f (take (i + 1) (zip xs ys)) old new (Ok u)
+    next_param old mid new so_far next =
+        let has : element_frame_cell (f here) ≡ Ok next.cell = ap element_frame_cell next.cell_is
+        ∙ ap (with_frame next.cell) next.frame_is in
+        record {
+          cells = so_far.cells ++ next.cell ∷ [];
+          bytes = so_far.bytes ++ next.bytes;
+          cells_are = next_cell f (zip xs ys) i here within stands so_far.cells next.cell so_far.cells_are has;
+          frames_are = next_frame so_far.cells next.cell so_far.bytes next.bytes so_far.frames_are next.frame_is;
+          is = next.is ∙ ap (λ s. s ++ next.bytes) so_far.is ∙ append_assoc old so_far.bytes next.bytes;
+        }
+
+    -- the parameter here is refused, and what was appended is taken back
+    pub refused_param : {u : ⊤} (fault : Fault) (old mid low new : List ℕ)
+        → Binds f (take i (zip xs ys)) old mid (Ok u) → AppendsFrameOrPart (f here) mid low (Err fault) → new
+        ≡ take (length old) low
+        → Binds f (zip xs ys) old new (Err (i, fault))
+    refused_param fault old mid low new so_far (front, why) truncation =
+        let rest = drop (length mid) low in
+        let is : low ≡ old ++ (so_far.bytes ++ rest) = sym (take-append-drop (length mid) low)
+        ∙ ap (λ s. s ++ rest) (front ∙ so_far.is) ∙ append_assoc old so_far.bytes rest in
+        let back : new ≡ old =
+        truncation ∙ ap (take (length old)) is ∙ take-append_seam old (so_far.bytes ++ rest) in (
+          back,
+          is_ok (element_cells f (take i (zip xs ys))) so_far.cells so_far.cells_are,
+          (here, slice_get_read (zip xs ys) (length (zip xs ys)) i here refl within stands, why),
+        )
+
+  -- all were appended
+  pub all_params : {u : ⊤} (i : ℕ) (old new : List ℕ) → length xs ≤ i → Binds f (take i (zip xs ys)) old new (Ok u)
+      → Binds f (zip xs ys) old new (Ok u)
+  all_params {u} i old new h done = subst (λ vs. Binds f vs old new (Ok u))
+      (take_all i (zip xs ys) (omega (arith, h, length_of))) done

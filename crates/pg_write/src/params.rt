@@ -1,0 +1,130 @@
+//! Writing parameters of any types: the frames of a Bind message.
+ghost use Rattle.std.specs.Prelude.{◌≡◌, ◌≤◌, ◌+◌, ◌++◌, drop, length, take, zip};
+ghost use Rattle.std.specs.Int.{to_be_bytes, w32};
+ghost use Rattle.pg_types.specs.Content.{content};
+ghost use Rattle.pg_write.specs.ParamWriting.{AppendsFrame, AppendsFrameOrPart, Binds, FramesFrom};
+ghost use Rattle.pg_write.specs.Writing.{Writes, checked};
+
+use bytes::{BufMut, BytesMut};
+use pg_base::fault::Fault;
+use pg_base::format::IsNull;
+use pg_base::protocol::{MAX_LEN, set_number};
+use pg_base::types::PgType;
+use crate::to_sql::ToSql;
+use std::alloc::Global;
+
+/// How many bytes the length of a cell takes.
+const LEN: usize = 4;
+
+/// Appends the frame of the value, as a field of a binary COPY or a parameter of a Bind message is
+/// laid out: the length of its cell in 4 bytes, big-endian, and the cell's bytes; for NULL the
+/// length -1.
+///
+/// A refusal is that of its checked writing, or `Transmit` where its cell passes 2,147,483,647
+/// bytes. It leaves the buffer's bytes as they were, `Memory` too.
+pub fn frame_value<T: ToSql>(
+    alloc: Global,
+    value: &T,
+    ty: &PgType,
+    out: &mut BytesMut,
+) -> Result<(), Fault>
+    ensures { AppendsFrame (checked T.accepted T.name T.wire (content ty.now) value.now)
+        out.old.items out.new.items result }
+{
+    let start = out.len();
+    match value_to_sql(alloc, value, ty, out) {
+        Ok(()) => Ok(()),
+        Err(fault) => {
+            out.truncate(start);
+            Err(fault)
+        }
+    }
+}
+
+/// Appends the frame of the value. A refusal leaves what was appended so far.
+#[inline(always)]
+fn value_to_sql<T: ToSql>(
+    alloc: Global,
+    value: &T,
+    ty: &PgType,
+    out: &mut BytesMut,
+) -> Result<(), Fault>
+    ensures { AppendsFrameOrPart (checked T.accepted T.name T.wire (content ty.now) value.now)
+        out.old.items out.new.items result }
+{
+    let start = out.len();
+    // The frame of NULL, whose length is put right once a cell stands after it.
+    out.put_i32(-1)?;
+    // A match moves the fault of a refusal alone, where `?` would move each answer.
+    let is_null = match value.to_sql_checked(alloc, ty, out) {
+        Ok(is_null) => is_null,
+        Err(fault) => return Err(fault),
+    };
+    if let IsNull::Yes = is_null {
+        return Ok(());
+    }
+    frame_from(start, out)
+}
+
+/// Appends the frames of the parameters in their order, each for the type that stands at its place:
+/// the length of its cell in 4 bytes, big-endian, and the cell's bytes; for NULL the length -1.
+///
+/// The lists are of one length. A refusal names the place, counted from 0, of the first parameter
+/// that is refused: with the fault of its checked writing, or `Transmit` where its cell passes
+/// 2,147,483,647 bytes. It leaves the buffer's bytes as they were, `Memory` too.
+pub fn params_to_sql(
+    alloc: Global,
+    params: &[Box<dyn ToSql>],
+    types: &[PgType],
+    out: &mut BytesMut,
+) -> Result<(), (usize, Fault)>
+    requires { length params.now ≡ length types.now }
+    ensures { Binds (λ p. checked (ToSql-box p.0).ToSql.accepted (ToSql-box p.0).ToSql.name
+        (ToSql-box p.0).ToSql.wire (content p.1) p.0.value)
+        (zip params.now types.now) out.old.items out.new.items result }
+{
+    let start = out.len();
+    for place in 0..params.len() {
+        if let Err(fault) = param_to_sql(alloc, &params[place], &types[place], out) {
+            out.truncate(start);
+            return Err((place, fault));
+        }
+    }
+    Ok(())
+}
+
+/// Appends the frame of the parameter. A refusal leaves what was appended so far.
+#[inline(always)]
+fn param_to_sql(
+    alloc: Global,
+    param: &Box<dyn ToSql>,
+    ty: &PgType,
+    out: &mut BytesMut,
+) -> Result<(), Fault>
+    ensures { AppendsFrameOrPart (checked (ToSql-box param.now).ToSql.accepted (ToSql-box param.now).ToSql.name
+        (ToSql-box param.now).ToSql.wire (content ty.now) param.now.value)
+        out.old.items out.new.items result }
+{
+    let start = out.len();
+    // The frame of NULL, whose length is put right once a cell stands after it.
+    out.put_i32(-1)?;
+    match param.to_sql_checked(alloc, ty, out) {
+        Ok(IsNull::Yes) => Ok(()),
+        Ok(IsNull::No) => frame_from(start, out),
+        Err(fault) => Err(fault),
+    }
+}
+
+/// Makes what stands from `start` on a frame: its first 4 bytes become the number of the others.
+#[inline(always)]
+fn frame_from(start: usize, out: &mut BytesMut) -> Result<(), Fault>
+    requires { start + LEN ≤ length out.old.items }
+    ensures { FramesFrom start out.old.items out.new.items result }
+{
+    let len = out.len() - start - LEN;
+    if len > MAX_LEN {
+        return Err(Fault::Transmit);
+    }
+    set_number(start, len as u32, out);
+    Ok(())
+}
