@@ -1,9 +1,9 @@
 //! Answers each line of standard input by a line on standard output. With `--names` it prints the
-//! names of types instead, a line of them for each base name.
+//! names of types instead, a line of them for each base name; other arguments are ignored.
 //!
 //! The exit status is 0 where every line was answered, or the names were printed, and 1 where the
-//! input could not be read, the output could not be written, memory was refused, or there is another
-//! argument. Nothing else is printed.
+//! input could not be read, the output could not be written, or memory was refused. Nothing else is
+//! printed.
 #![tactic(auto)]
 
 mod answer;
@@ -23,8 +23,8 @@ fn main(rt: HostRuntime) -> ExitCode {
         return ExitCode::FAILURE;
     };
     let is_done = match arguments.nth(1) {
-        None => run(rt.alloc(), &mut rt.stdin(), &mut rt.stdout()).is_ok(),
-        Some(argument) => argument.as_str() == "--names" && print_names(&mut rt.stdout()).is_ok(),
+        Some(argument) if argument.as_str() == "--names" => print_names(&mut rt.stdout()).is_ok(),
+        _ => run(rt.alloc(), &mut rt.stdin(), &mut rt.stdout()).is_ok(),
     };
     if is_done {
         ExitCode::SUCCESS
