@@ -1,7 +1,7 @@
 //! A composite type of eight fields, of which one is a composite and one an array of composites.
 ghost use Rattle.std.specs.Prelude.{[], ◌∷◌};
 ghost use Rattle.postgres_types.specs.CompositeFields.{and, end};
-ghost use Rattle.postgres_types.specs.Conversion.{codes, refl};
+ghost use Rattle.postgres_types.specs.Conversion.{ap, codes, refl};
 
 use pg_record::InventoryItem;
 use postgres_types::composite::{And, End, Record, ToFields};
@@ -37,6 +37,19 @@ impl Record for Purchase {
         (and v.tags (and v.gift (and v.items end))))))) };
 
     ghost short = { refl };
+
+    ghost names_width = { refl };
+
+    ghost injective = { λ v w. ap (λ r. record {
+      id = r.0;
+      customer = r.1.0;
+      paid = r.1.1.0;
+      placed = r.1.1.1.0;
+      discount = r.1.1.1.1.0;
+      tags = r.1.1.1.1.1.0;
+      gift = r.1.1.1.1.1.1.0;
+      items = r.1.1.1.1.1.1.1.0;
+    }) };
 
     fn name() -> &'static str {
         "purchase"

@@ -1,7 +1,7 @@
 //! A composite type with a composite and an array of composites, each of them a struct.
 ghost use Rattle.std.specs.Prelude.{[], ◌∷◌};
 ghost use Rattle.postgres_types.specs.CompositeFields.{and, end};
-ghost use Rattle.postgres_types.specs.Conversion.{codes, refl};
+ghost use Rattle.postgres_types.specs.Conversion.{ap, codes, refl};
 
 use postgres_types::composite::{And, Composite, End, Record, ToFields};
 use postgres_types::private::BytesMut;
@@ -25,6 +25,10 @@ impl Record for Address {
     ghost inside = { λ v. and v.street (and v.city end) };
 
     ghost short = { refl };
+
+    ghost names_width = { refl };
+
+    ghost injective = { λ v w. ap (λ r. record { street = r.0; city = r.1.0 }) };
 
     fn name() -> &'static str {
         "address"
@@ -61,6 +65,10 @@ impl Record for Parcel {
     ghost inside = { λ v. and v.label (and v.bill_to (and v.ship_to end)) };
 
     ghost short = { refl };
+
+    ghost names_width = { refl };
+
+    ghost injective = { λ v w. ap (λ r. record { label = r.0; bill_to = r.1.0; ship_to = r.1.1.0 }) };
 
     fn name() -> &'static str {
         "parcel"

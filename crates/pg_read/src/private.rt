@@ -75,8 +75,8 @@ fn holds_bytes(bytes: &[u8])
 /// The first cell that is refused gives its fault, and the slice stands after that cell. Where no
 /// cell is refused, but the one after them is truncated before there are `n`, it answers `Size`,
 /// and the slice stands where [`read_value`] leaves it at a truncated cell. Where memory runs out
-/// it stands after the cell whose value could not be read or kept. Otherwise it stands after the
-/// last cell.
+/// it stands after a cell, and each cell before that one gives a value. Otherwise it stands after
+/// the last cell.
 ///
 /// Frames determine their cells, and before other bytes they do where the number of cells is
 /// known; from the frames of `n` cells that each give a value these values are read.

@@ -3,6 +3,7 @@
 #![tactic(auto)]
 
 mod inventory_item;
+pub mod laws;
 mod mood;
 mod session_id;
 pub mod types;

@@ -5,12 +5,12 @@ ghost use Rattle.pg_types.specs.Content.{content};
 ghost use Rattle.pg_write.specs.ParamWriting.{AppendsFrame, AppendsFrameOrPart, Binds, FramesFrom};
 ghost use Rattle.pg_write.specs.Writing.{Writes, checked};
 
+use crate::to_sql::ToSql;
 use bytes::{BufMut, BytesMut};
 use pg_base::fault::Fault;
 use pg_base::format::IsNull;
 use pg_base::protocol::{MAX_LEN, set_number};
 use pg_base::types::PgType;
-use crate::to_sql::ToSql;
 use std::alloc::Global;
 
 /// How many bytes the length of a cell takes.

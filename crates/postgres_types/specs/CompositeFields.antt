@@ -1,5 +1,6 @@
 -- The fields of a composite type in a row, one before others, by their types.
-use Rattle.std.specs.Prelude.{◌≡◌, ◌&&◌, ℕ, List, [], Ok, Bool, true, false, IsTrue, refl}
+use Rattle.std.specs.Prelude.{◌≡◌, ◌&&◌, ℕ, List, [], Ok, Bool, true, false, IsTrue, refl, suc}
+use Rattle.std.proofs.Common.{ap}
 use Rattle.pg_types.specs.Content.{Content, FieldsContent, NoFields, FieldAnd, oid_of}
 use Rattle.pg_types.specs.Faults.{Outcome}
 use Rattle.pg_base.specs.Appending.{Wire}
@@ -10,7 +11,7 @@ use Rattle.pg_read.specs.Laws.Reading.{through_gives_single}
 use Rattle.pg_read.specs.Views.{Through}
 use Rattle.postgres_types.specs.ReadingBack.{IsLawful}
 use Rattle.postgres_types.specs.Laws.Record.{AreLawful, SamePair, end_lawful, end_single, field_lawful, field_single}
-use Rattle.postgres_types.specs.Records.{AtEnd, Both, Bytes, FieldThen, IsDone, concat_bytes, field_bytes}
+use Rattle.postgres_types.specs.Records.{AtEnd, Both, Bytes, FieldThen, IsDone, concat_bytes, count_of, field_bytes}
 use Rattle.postgres_types.specs.Laws.ViewBack.{through_map}
 use Rattle.postgres_types.specs.declared.composite.fields.And.{And}
 use Rattle.postgres_types.specs.declared.composite.fields.End.{End}
@@ -119,6 +120,18 @@ and_types read written reads writes one others (FieldAnd name ty fs) = rw (one t
 pub both_true : (t u : Bool) → IsTrue (t && u) → IsTrue t × IsTrue u
 both_true true u h = (refl, h)
 both_true false u h = let no : ⊥ = cc in absurd no
+
+-- fields that are accepted are as many as are written
+pub no_fields_width : (fs : FieldsContent) → IsTrue (no_fields fs) → count_of fs ≡ 0
+no_fields_width NoFields ok = refl
+no_fields_width (FieldAnd name ty fs) ok = let no : ⊥ = cc in absurd no
+
+pub and_width : (written : Content → Bool) (writes : FieldsContent → Bool) (width : ℕ)
+    → ((fs : FieldsContent) → IsTrue (writes fs) → count_of fs ≡ width)
+    → (fs : FieldsContent) → IsTrue (accepts_and written writes fs) → count_of fs ≡ suc width
+and_width written writes width counted NoFields ok = let no : ⊥ = cc in absurd no
+and_width written writes width counted (FieldAnd name ty fs) ok =
+    ap suc (counted fs (both_true (written ty) (writes fs) ok).1)
 
 module _ {A B : Type 0} (same : A → A → Type 0) (accepts : Content → Bool) (reads : Content → Cell → Outcome A → Type 0)
     (alike : B → B → Type 0) (takes : FieldsContent → Bool) (others : FieldsContent → List ℕ → Outcome B → Type 0) where

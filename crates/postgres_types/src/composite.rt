@@ -9,6 +9,7 @@
 //! [`read_field`], serve a conversion that is written by hand.
 
 mod fields;
+pub mod laws;
 mod reading;
 mod record;
 mod writing;

@@ -12,7 +12,8 @@ ghost use Rattle.postgres_types.specs.Conversion.{through_single, user, w32, w64
 ghost use Rattle.postgres_types.specs.Conversion.{wire_signed};
 ghost use Rattle.postgres_types.specs.Odd.{first_fault_short, gap_view, is_even, short_grammar};
 
-use pg_write::to_sql::check_type;
+pub mod laws;
+
 use crate::paired::{Finite, Paired};
 use bytes::BytesMut;
 use pg_base::fault::Fault;
@@ -20,7 +21,7 @@ use pg_base::format::{Format, IsNull};
 use pg_base::protocol::{int4_from_sql, int4_to_sql, int8_from_sql, int8_to_sql};
 use pg_base::types::PgType;
 use pg_read::from_sql::FromSql;
-use pg_write::to_sql::ToSql;
+use pg_write::to_sql::{ToSql, check_type};
 use std::alloc::Global;
 
 /// A TIMESTAMP of 4 bytes, which no server sends: an integer, big-endian, in two's complement. Any other length is

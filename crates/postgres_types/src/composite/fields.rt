@@ -1,5 +1,5 @@
 //! The fields of a composite type in a row.
-ghost use Rattle.std.specs.Prelude.{◌≡◌, ℕ, List, Bool, IsTrue, [], Ok};
+ghost use Rattle.std.specs.Prelude.{◌≡◌, ℕ, List, Bool, IsTrue, [], Ok, suc};
 ghost use Rattle.pg_types.specs.Content.{FieldsContent, fields_content};
 ghost use Rattle.pg_types.specs.Faults.{Answers, Outcome};
 ghost use Rattle.pg_base.specs.Sameness.{IsEquivalence};
@@ -7,9 +7,9 @@ ghost use Rattle.pg_read.specs.Reading.{GivesSingle};
 ghost use Rattle.postgres_types.specs.CompositeFields.{BackAnd, BackEnd, ReadsAnd, ReadsEnd, SameAnd, accepts_and};
 ghost use Rattle.postgres_types.specs.CompositeFields.{and_equivalence, and_lawful, and_single, bytes_and};
 ghost use Rattle.postgres_types.specs.CompositeFields.{no_fields_equivalence, no_fields_lawful, no_fields_single};
-ghost use Rattle.postgres_types.specs.CompositeFields.{no_fields};
+ghost use Rattle.postgres_types.specs.CompositeFields.{and_width, no_fields, no_fields_width};
 ghost use Rattle.postgres_types.specs.Laws.Record.{AreLawful};
-ghost use Rattle.postgres_types.specs.Records.{AppendsBytes, Bytes};
+ghost use Rattle.postgres_types.specs.Records.{AppendsBytes, Bytes, count_of};
 
 use super::reading::{read_end, read_field};
 use super::writing::field_to_sql;
@@ -67,6 +67,9 @@ pub trait ToFields: Drop {
     /// What the values are written as.
     ghost bytes: { FieldsContent → Self → Bytes };
 
+    /// How many fields there are.
+    ghost width: { ℕ };
+
     /// Appends the fields, one after another. The types must be accepted. A refusal is that of the
     /// first field that is refused, and leaves the buffer's bytes as they were, `Memory` too.
     fn to_fields(&self, alloc: Global, fields: &[Field], out: &mut BytesMut) -> Result<(), Fault>
@@ -76,6 +79,9 @@ pub trait ToFields: Drop {
     /// Whether so many fields, of these types, are written. Their names don't matter.
     fn accepts(fields: &[Field]) -> bool
         ensures { result ≡ accepted (fields_content fields.now) };
+
+    /// Law: so many fields are accepted, and no other number of them.
+    ghost width_of_accepted: { (fields : FieldsContent) → IsTrue (accepted fields) → count_of fields ≡ width };
 }
 
 /// The values of fields that are read back as they are written.
@@ -118,6 +124,10 @@ impl ToFields for End {
     ghost accepted = { no_fields };
 
     ghost bytes = { λ _ _. Ok [] };
+
+    ghost width = { 0 };
+
+    ghost width_of_accepted = { no_fields_width };
 
     fn to_fields(
         &self,
@@ -176,6 +186,10 @@ impl<A: ToSql, B: ToFields> ToFields for And<A, B> {
     ghost accepted = { accepts_and A.accepted B.accepted };
 
     ghost bytes = { bytes_and A.wire B.bytes };
+
+    ghost width = { suc B.width };
+
+    ghost width_of_accepted = { and_width A.accepted B.accepted B.width B.width_of_accepted };
 
     fn to_fields(&self, alloc: Global, fields: &[Field], out: &mut BytesMut) -> Result<(), Fault> {
         let Some((field, fields)) = fields.split_first() else {

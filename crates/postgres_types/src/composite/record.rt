@@ -13,14 +13,13 @@ ghost use Rattle.postgres_types.specs.Laws.ViewBack.{through_lawful};
 use super::fields::{FromFields, PairedFields, ToFields};
 use super::reading::{fields_of, read_field_count};
 use super::writing::field_count_to_sql;
-use pg_write::to_sql::check_type;
 use crate::paired::Paired;
 use bytes::BytesMut;
 use pg_base::fault::Fault;
 use pg_base::format::{Format, IsNull};
 use pg_base::types::{Field, KindRef, PgType};
 use pg_read::from_sql::FromSql;
-use pg_write::to_sql::ToSql;
+use pg_write::to_sql::{ToSql, check_type};
 use std::alloc::Global;
 use std::fmt;
 
@@ -63,6 +62,12 @@ pub trait Record: Sized + fmt::Debug + Drop {
 
     /// Law: the name is short enough for a `WrongType`.
     ghost short: { IsTrue (nat_le (length type_name) 64) };
+
+    /// Law: there are as many names as fields.
+    ghost names_width: { length names ≡ Self.Fields.width };
+
+    /// Law: structs whose fields in a row are the same are the same.
+    ghost injective: { (v w : Self) → inside v ≡ inside w → v ≡ w };
 }
 
 /// The value of a composite type that is a struct.

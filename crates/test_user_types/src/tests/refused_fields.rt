@@ -1,7 +1,7 @@
 //! A record with a field that is refused leaves the buffer as it was.
 ghost use Rattle.std.specs.Prelude.{◌∷◌, []};
 ghost use Rattle.postgres_types.specs.CompositeFields.{and, end};
-ghost use Rattle.postgres_types.specs.Conversion.{codes, refl};
+ghost use Rattle.postgres_types.specs.Conversion.{ap, codes, refl};
 
 use postgres_types::composite::{And, Composite, End, Record, ToFields};
 use postgres_types::odd::Picky;
@@ -46,6 +46,10 @@ impl Record for Pair {
     }
 
     ghost short = { refl };
+
+    ghost names_width = { refl };
+
+    ghost injective = { λ v w. ap (λ r. record { first = r.0; second = r.1.0 }) };
 }
 
 fn pair_type(alloc: Global) -> Result<Type, Fault> {

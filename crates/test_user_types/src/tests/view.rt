@@ -1,7 +1,7 @@
 //! The same composite type as a view of its fields, with nothing written by hand about cells.
 ghost use Rattle.std.specs.Prelude.{◌∷◌, []};
 ghost use Rattle.postgres_types.specs.CompositeFields.{and, end};
-ghost use Rattle.postgres_types.specs.Conversion.{codes, refl};
+ghost use Rattle.postgres_types.specs.Conversion.{ap, codes, refl};
 
 use postgres_types::composite::{And, End, Record, ToFields};
 use postgres_types::private::BytesMut;
@@ -47,4 +47,8 @@ impl Record for Item {
     }
 
     ghost short = { refl };
+
+    ghost names_width = { refl };
+
+    ghost injective = { λ v w. ap (λ r. record { name = r.0; supplier_id = r.1.0; price = r.1.1.0 }) };
 }

@@ -1,0 +1,32 @@
+//! What equality means, each as a call whose contract says it.
+ghost use Rattle.std.specs.Prelude.{◌≡◌, ◌↔◌, IsTrue};
+
+use super::{Gap, Moment, Picky, Short};
+
+/// Whether two values are equal: the same number.
+pub fn same_short(a: &Short, b: &Short) -> bool
+    ensures { IsTrue result ↔ (a.now ≡ b.now) }
+{
+    *a == *b
+}
+
+/// Whether two values are equal: both `Hole`, or the same number.
+pub fn same_gap(a: &Gap, b: &Gap) -> bool
+    ensures { IsTrue result ↔ (a.now ≡ b.now) }
+{
+    *a == *b
+}
+
+/// Whether two values are equal: the same number.
+pub fn same_moment(a: &Moment, b: &Moment) -> bool
+    ensures { IsTrue result ↔ (a.now ≡ b.now) }
+{
+    *a == *b
+}
+
+/// Whether two values are equal: the same number.
+pub fn same_picky(a: &Picky, b: &Picky) -> bool
+    ensures { IsTrue result ↔ (a.now ≡ b.now) }
+{
+    *a == *b
+}
