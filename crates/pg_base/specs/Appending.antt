@@ -15,6 +15,14 @@ abbrev pub wire_of : Option (List ℕ) → Wire
 wire_of None = Err transmit
 wire_of (Some b) = Ok (Some b)
 
+-- how many bytes a buffer holds and takes with no allocation
+abbrev pub capacity : Filled → ℕ
+capacity f = length f.items + f.spare
+
+-- it did not become less: what was appended used no more room than it takes, and what was refused none
+abbrev pub KeepsCapacity : Filled → Filled → Type 0
+KeepsCapacity old new = capacity old ≤ capacity new
+
 -- these bytes were appended, and used no more room than they take
 abbrev pub Extends : Option (List ℕ) → Filled → Filled → Type 0
 Extends None old new = ⊥

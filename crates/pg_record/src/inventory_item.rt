@@ -3,6 +3,7 @@ ghost use Rattle.std.specs.Prelude.{◌≡◌, [], ◌∷◌, IsTrue, Some, code
 ghost use Rattle.pg_types.specs.Content.{content, field_type, fields_content, is_row, kind_of};
 ghost use Rattle.pg_types.specs.Faults.{Answers};
 ghost use Rattle.pg_types.specs.declared.types.built_in.BuiltIn.TheVariants.{Int4, Int8};
+ghost use Rattle.pg_base.specs.Appending.{KeepsCapacity};
 ghost use Rattle.pg_base.specs.Texts.{accepted_text};
 ghost use Rattle.pg_read.specs.Reading.{NullAlone};
 ghost use Rattle.pg_record.specs.InventoryItems.{SameItem, accepts_item, back_item, item_bytes, item_equivalence};
@@ -109,9 +110,10 @@ fn append_fields(
     requires name { IsTrue (accepted_text (content (field_type name.now))) }
     requires supplier_id { IsTrue (is_row Int4 (content (field_type supplier_id.now))) }
     requires price { IsTrue (is_row Int8 (content (field_type price.now))) }
-    ensures { AppendsBytesOrPart
+    ensures bytes { AppendsBytesOrPart
         (item_bytes (fields_content (name.now ∷ supplier_id.now ∷ price.now ∷ [])) item.now)
         out.old.items out.new.items result }
+    ensures capacity { KeepsCapacity out.old out.new }
 {
     field_count_to_sql(alloc, 3, out)?;
     field_to_sql(alloc, &item.name, name.type_(), out)?;
@@ -129,7 +131,8 @@ fn item_to_sql(
     out: &mut BytesMut,
 ) -> Result<(), Fault>
     requires { IsTrue (accepts_row (fields_content fields.now)) }
-    ensures { AppendsBytes (item_bytes (fields_content fields.now) item.now) out.old.items out.new.items result }
+    ensures bytes { AppendsBytes (item_bytes (fields_content fields.now) item.now) out.old.items out.new.items result }
+    ensures capacity { KeepsCapacity out.old out.new }
 {
     let [name, supplier_id, price] = fields else {
         unreachable!()

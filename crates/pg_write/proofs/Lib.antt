@@ -5,4 +5,5 @@ pub mod Insertion
 mod KeyOrder
 mod ParamFrames
 mod ParamLists
+mod ParamRoom
 pub mod SameEntries

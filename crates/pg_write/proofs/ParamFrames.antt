@@ -1,5 +1,5 @@
 -- The frame of a parameter, after what the buffer held.
-use Rattle.std.proofs.Common.{◌≡◌, ◌<◌, ◌≤◌, ◌+◌, ◌++◌, ℕ, pos, List, length, take, drop, Some, None, Bool, true}
+use Rattle.std.proofs.Common.{◌≡◌, ◌<◌, ◌≤◌, ◌+◌, ◌++◌, ℕ, pos, List, length, take, drop, Option, Some, None, IfNone, Bool, true}
 use Rattle.std.proofs.Common.{false, cond, Result, Ok, Err, IfSome, refl, ap, sym, ◌∙◌, subst, arith}
 use Rattle.std.proofs.Common.{append_assoc, length-append}
 use Rattle.std.specs.Bool.{⊤}
@@ -10,7 +10,7 @@ use Rattle.std.proofs.lemmas.List.{drop_at}
 use Rattle.pg_base.specs.Appending.{Wire}
 use Rattle.pg_base.specs.Cells.{be, frame, fits_prefix, max_length}
 use Rattle.pg_base.specs.Counts.{number_width}
-use Rattle.pg_types.specs.Faults.{refusal_of, transmit}
+use Rattle.pg_types.specs.Faults.{Refusal, refusal_of, transmit}
 use Rattle.pg_types.specs.declared.fault.Fault.{Fault}
 use Rattle.pg_types.specs.declared.format.IsNull.TheVariants.{No}
 use Rattle.pg_write.specs.ArrayWriting.{element_frame_cell, with_frame}
@@ -77,3 +77,9 @@ frame_after_cell w old head mid written new n (Err f) at four m cell gives =
       subst
           (λ x. IfSome (refusal_of x) (λ r. element_frame_cell w ≡ Err r)) (sym gives.1) refused,
     )
+
+-- where there was no room for a cell after four bytes, there was none before for its frame
+pub had_less_room : (o : Option Refusal) (len old mid : ℕ) → IfNone o (mid < len) → old ≤ mid + number_width
+    → IfNone o (old < number_width + len)
+had_less_room None len old mid h k = omega (arith, h, k)
+had_less_room (Some r) len old mid h k = h

@@ -1,20 +1,22 @@
 -- The frames of parameters, one after another.
 use Rattle.std.proofs.Common.{◌≡◌, ◌<◌, ◌≤◌, ◌+◌, ◌++◌, ℕ, List, [], ◌∷◌, length, take, drop, get_or, zip, Some, Ok}
-use Rattle.std.proofs.Common.{Err, IsOk, refl, ap, sym, ◌∙◌, subst, arith, append_assoc}
+use Rattle.std.proofs.Common.{Err, IfNone, IsOk, Option, refl, ap, sym, ◌∙◌, subst, arith, append_assoc, length-append}
+use Rattle.bytes.specs.Filled.{Filled}
 use Rattle.std.specs.Bool.{⊤}
 use Rattle.std.proofs.Math.Seq.{take-append_seam}
 use Rattle.std.proofs.lemmas.List.{take-append-drop, take_all}
 use Rattle.std.proofs.lemmas.Option.{slice_get_read}
 use Rattle.std.proofs.lemmas.Slice.Zip.{get_or-zip, length-zip}
-use Rattle.pg_base.specs.Appending.{Wire}
+use Rattle.pg_base.specs.Appending.{KeepsCapacity, Wire}
 use Rattle.pg_base.specs.Cells.{Cell, frame, frames, concat}
-use Rattle.pg_types.specs.Faults.{Outcome}
+use Rattle.pg_types.specs.Faults.{Outcome, Refusal}
 use Rattle.pg_types.specs.declared.fault.Fault.{Fault}
 use Rattle.pg_base.proofs.Concat.{frames-append}
 use Rattle.pg_base.proofs.Concat.{concat-nil}
 use Rattle.pg_write.proofs.ElementCells.{next_cell}
 use Rattle.pg_write.specs.ArrayWriting.{element_cells, element_frame_cell, with_frame}
-use Rattle.pg_write.specs.ParamWriting.{AppendsFrameOrPart, Binds}
+use Rattle.pg_write.proofs.ParamRoom.{each_at, frames_before, frames_take, if_none_then, same_frames_len}
+use Rattle.pg_write.specs.ParamWriting.{AppendsFrameOrPart, Binds, EachIs, frame_len, frames_len}
 
 -- one frame more
 next_frame : (cs : List Cell) (c : Cell) (bs b : List ℕ) → frames cs ≡ Some bs → frame c ≡ Some b
@@ -55,6 +57,21 @@ module _ {A B : Type 0} (f : A × B → Wire) (xs : List A) (ys : List B) (same 
           frames_are = next_frame so_far.cells next.cell so_far.bytes next.bytes so_far.frames_are next.frame_is;
           is = next.is ∙ ap (λ s. s ++ next.bytes) so_far.is ∙ append_assoc old so_far.bytes next.bytes;
         }
+
+    -- there was no room for the frame of the parameter here, so that there was none for all
+    pub no_room : {u : ⊤} (g : A × B → Wire) (P : A × B → Type 0) → ((v : A × B) → P v → f v ≡ g v)
+        → EachIs P (zip xs ys) → (start now : Filled) → KeepsCapacity start now
+        → Binds f (take i (zip xs ys)) start.items now.items (Ok u) → (o : Option Refusal)
+        → (P here → IfNone o (now.spare < frame_len (g here))) → IfNone o (start.spare < frames_len g (zip xs ys))
+    no_room g P same all start now kept so_far o short =
+        let this = each_at P (zip xs ys) i here within stands all in
+        let total = same_frames_len f g P same (zip xs ys) all in
+        let bytes = frames_take f (take i (zip xs ys)) so_far.cells so_far.bytes so_far.cells_are so_far.frames_are in
+        let enough = frames_before f (zip xs ys) i here within stands in
+        let own : frame_len (f here) ≡ frame_len (g here) = ap frame_len (same here this) in
+        let items : length now.items ≡ length start.items + length so_far.bytes =
+        ap length so_far.is ∙ length-append start.items so_far.bytes in
+        if_none_then o (λ h. omega (arith, h, kept, total, bytes, enough, own, items)) (short this)
 
     -- the parameter here is refused, and what was appended is taken back
     pub refused_param : {u : ⊤} (fault : Fault) (old mid low new : List ℕ)

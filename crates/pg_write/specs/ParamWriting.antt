@@ -1,6 +1,6 @@
 -- Writing parameters of any types.
 use Rattle.std.specs.Prelude.{◌≡◌, ℕ, ◌+◌, ◌++◌, List, length, take, drop, Some, None, Result, Ok, Err, IfSome}
-use Rattle.std.specs.Prelude.{IsOk, slice_get, ⊤}
+use Rattle.std.specs.Prelude.{[], ◌∷◌, ◌<◌, IfNone, IsOk, slice_get, ⊤}
 use Rattle.pg_base.specs.Appending.{Wire}
 use Rattle.pg_base.specs.Cells.{Cell, frame, frames}
 use Rattle.pg_base.specs.Counts.{number_width}
@@ -8,6 +8,7 @@ use Rattle.pg_types.specs.Faults.{refusal_of}
 use Rattle.pg_types.specs.declared.fault.Fault.{Fault}
 use Rattle.pg_types.specs.declared.fault.Fault.TheVariants.{Transmit}
 use Rattle.pg_write.specs.ArrayWriting.{element_cells, element_frame_cell}
+use Rattle.pg_write.specs.Writing.{appended_len}
 
 -- a frame of a cell that was written so follows the old bytes
 pub record FrameFollows (w : Wire) (old new : List ℕ) : Type 0 where
@@ -33,6 +34,24 @@ abbrev pub AppendsFrameOrPart : Wire → List ℕ → List ℕ → Result ⊤ Fa
 AppendsFrameOrPart w old new (Ok done) = AppendsFrame w old new (Ok done)
 AppendsFrameOrPart w old new (Err f) = (take (length old) new ≡ old)
     × IfSome (refusal_of f) (λ r. element_frame_cell w ≡ Err r)
+
+-- how many bytes the frame of a written form takes
+abbrev pub frame_len : Wire → ℕ
+frame_len w = number_width + appended_len w
+
+-- and those of the written forms of values
+abbrev pub frames_len : {A : Type 0} → (A → Wire) → List A → ℕ
+frames_len wire [] = 0
+frames_len wire (v ∷ vs) = frame_len (wire v) + frames_len wire vs
+
+-- memory ran out only where there was less room than so many bytes
+abbrev pub HadNoRoom : ℕ → ℕ → Fault → Type 0
+HadNoRoom len room f = IfNone (refusal_of f) (room < len)
+
+-- it holds of each of the values
+abbrev pub EachIs : {A : Type 0} → (A → Type 0) → List A → Type 0
+EachIs P [] = Unit {0}
+EachIs P (v ∷ vs) = P v × EachIs P vs
 
 -- what stands after the place n and the bytes of a length got its length at n; or it has no frame
 abbrev pub FramesFrom : ℕ → List ℕ → List ℕ → Result ⊤ Fault → Type 0

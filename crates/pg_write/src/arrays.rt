@@ -6,6 +6,7 @@ ghost use Rattle.pg_types.specs.Content.{content};
 ghost use Rattle.pg_base.specs.ArrayTypes.{accepted_list};
 ghost use Rattle.pg_write.specs.ArrayWriting.{NotesCells, element_cells, frame_len};
 ghost use Rattle.pg_write.specs.ArrayWriting.{lower_bound_of, wire_fixed, wire_list};
+ghost use Rattle.pg_base.specs.Appending.{KeepsCapacity};
 ghost use Rattle.pg_write.specs.Writing.{Writes};
 
 use crate::to_sql::{ToSql, check_type};
@@ -175,7 +176,8 @@ fn list_to_sql<T: ToSql>(
     out: &mut BytesMut,
 ) -> Result<IsNull, Fault>
     requires { IsTrue (accepted_list T.accepted (content ty.now)) }
-    ensures { Writes (wire_list T.wire (content ty.now) values.now) out.old.items out.new.items result }
+    ensures writes { Writes (wire_list T.wire (content ty.now) values.now) out.old.items out.new.items result }
+    ensures capacity { KeepsCapacity out.old out.new }
 {
     let Some(element) = element_type(ty) else {
         unreachable!()

@@ -1,8 +1,11 @@
 //! Writing parameters of any types: the frames of a Bind message.
-ghost use Rattle.std.specs.Prelude.{◌≡◌, ◌≤◌, ◌+◌, ◌++◌, drop, length, take, zip};
+ghost use Rattle.std.specs.Prelude.{◌≡◌, ◌≤◌, ◌+◌, ◌++◌, IfErr, IfOk, IsSome, IsTrue, drop, length, take, zip};
 ghost use Rattle.std.specs.Int.{to_be_bytes, w32};
+ghost use Rattle.pg_base.specs.Appending.{KeepsCapacity};
 ghost use Rattle.pg_types.specs.Content.{content};
+ghost use Rattle.pg_types.specs.Faults.{NeverMemory, refusal_of};
 ghost use Rattle.pg_write.specs.ParamWriting.{AppendsFrame, AppendsFrameOrPart, Binds, FramesFrom};
+ghost use Rattle.pg_write.specs.ParamWriting.{EachIs, HadNoRoom, frame_len, frames_len};
 ghost use Rattle.pg_write.specs.Writing.{Writes, checked};
 
 use crate::to_sql::ToSql;
@@ -22,14 +25,20 @@ const LEN: usize = 4;
 ///
 /// A refusal is that of its checked writing, or `Transmit` where its cell passes 2,147,483,647
 /// bytes. It leaves the buffer's bytes as they were, `Memory` too.
+#[tactic(auto, using(crate::proofs::ParamRoom::follows_takes, crate::proofs::ParamRoom::with_room))]
 pub fn frame_value<T: ToSql>(
     alloc: Global,
     value: &T,
     ty: &PgType,
     out: &mut BytesMut,
 ) -> Result<(), Fault>
-    ensures { AppendsFrame (checked T.accepted T.name T.wire (content ty.now) value.now)
+    ensures frame { AppendsFrame (checked T.accepted T.name T.wire (content ty.now) value.now)
         out.old.items out.new.items result }
+    ensures room { T.by_room value.now → IsTrue (T.accepted (content ty.now))
+        → frame_len (T.wire (content ty.now) value.now) ≤ out.old.spare → NeverMemory result }
+    ensures spare { IfOk result (λ _. out.old.spare ≤ out.new.spare
+        + frame_len (checked T.accepted T.name T.wire (content ty.now) value.now)) }
+    ensures capacity { KeepsCapacity out.old out.new }
 {
     let start = out.len();
     match value_to_sql(alloc, value, ty, out) {
@@ -49,8 +58,11 @@ fn value_to_sql<T: ToSql>(
     ty: &PgType,
     out: &mut BytesMut,
 ) -> Result<(), Fault>
-    ensures { AppendsFrameOrPart (checked T.accepted T.name T.wire (content ty.now) value.now)
+    ensures frame { AppendsFrameOrPart (checked T.accepted T.name T.wire (content ty.now) value.now)
         out.old.items out.new.items result }
+    ensures room { T.by_room value.now → IsTrue (T.accepted (content ty.now))
+        → IfErr result (HadNoRoom (frame_len (T.wire (content ty.now) value.now)) out.old.spare) }
+    ensures capacity { KeepsCapacity out.old out.new }
 {
     let start = out.len();
     // The frame of NULL, whose length is put right once a cell stands after it.
@@ -79,9 +91,14 @@ pub fn params_to_sql(
     out: &mut BytesMut,
 ) -> Result<(), (usize, Fault)>
     requires { length params.now ≡ length types.now }
-    ensures { Binds (λ p. checked (ToSql-box p.0).ToSql.accepted (ToSql-box p.0).ToSql.name
+    ensures frames { Binds (λ p. checked (ToSql-box p.0).ToSql.accepted (ToSql-box p.0).ToSql.name
         (ToSql-box p.0).ToSql.wire (content p.1) p.0.value)
         (zip params.now types.now) out.old.items out.new.items result }
+    ensures room { EachIs (λ p. (ToSql-box p.0).ToSql.by_room p.0.value
+        × IsTrue ((ToSql-box p.0).ToSql.accepted (content p.1))) (zip params.now types.now)
+        → frames_len (λ p. (ToSql-box p.0).ToSql.wire (content p.1) p.0.value) (zip params.now types.now)
+        ≤ out.old.spare → IfErr result (λ e. IsSome (refusal_of e.1)) }
+    ensures capacity { KeepsCapacity out.old out.new }
 {
     let start = out.len();
     for place in 0..params.len() {
@@ -101,9 +118,14 @@ fn param_to_sql(
     ty: &PgType,
     out: &mut BytesMut,
 ) -> Result<(), Fault>
-    ensures { AppendsFrameOrPart (checked (ToSql-box param.now).ToSql.accepted (ToSql-box param.now).ToSql.name
+    ensures frame { AppendsFrameOrPart (checked (ToSql-box param.now).ToSql.accepted (ToSql-box param.now).ToSql.name
         (ToSql-box param.now).ToSql.wire (content ty.now) param.now.value)
         out.old.items out.new.items result }
+    ensures room { (ToSql-box param.now).ToSql.by_room param.now.value
+        → IsTrue ((ToSql-box param.now).ToSql.accepted (content ty.now))
+        → IfErr result (HadNoRoom (frame_len ((ToSql-box param.now).ToSql.wire (content ty.now) param.now.value))
+        out.old.spare) }
+    ensures capacity { KeepsCapacity out.old out.new }
 {
     let start = out.len();
     // The frame of NULL, whose length is put right once a cell stands after it.
@@ -119,7 +141,8 @@ fn param_to_sql(
 #[inline(always)]
 fn frame_from(start: usize, out: &mut BytesMut) -> Result<(), Fault>
     requires { start + LEN ≤ length out.old.items }
-    ensures { FramesFrom start out.old.items out.new.items result }
+    ensures frame { FramesFrom start out.old.items out.new.items result }
+    ensures capacity { KeepsCapacity out.old out.new }
 {
     let len = out.len() - start - LEN;
     if len > MAX_LEN {

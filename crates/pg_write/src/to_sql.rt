@@ -4,7 +4,7 @@ ghost use Rattle.pg_types.specs.declared.format.Format.{Format};
 ghost use Rattle.pg_types.specs.declared.format.Format.TheVariants.{Binary};
 ghost use Rattle.pg_types.specs.Content.{Content, content, IsBuiltIn};
 ghost use Rattle.pg_types.specs.Faults.{NeverMemory, refusal_of};
-ghost use Rattle.pg_base.specs.Appending.{Wire};
+ghost use Rattle.pg_base.specs.Appending.{KeepsCapacity, Wire};
 ghost use Rattle.pg_write.specs.Writing.{Writes, KeepsRoomRule, checked, IsWrongType};
 
 use bytes::BytesMut;
@@ -48,7 +48,8 @@ pub trait ToSql: fmt::Debug + Drop {
         requires { IsTrue (accepted (content ty.now)) }
         ensures writes { Writes (wire (content ty.now) self.now) out.old.items out.new.items result }
         ensures room { by_room self.now
-            → KeepsRoomRule (wire (content ty.now) self.now) out.old.spare result };
+            → KeepsRoomRule (wire (content ty.now) self.now) out.old.spare result }
+        ensures capacity { KeepsCapacity out.old out.new };
 
     /// Whether values are written for that type.
     fn accepts(ty: &PgType) -> bool
@@ -67,6 +68,7 @@ pub trait ToSql: fmt::Debug + Drop {
             out.old.items out.new.items result }
         ensures room { by_room self.now → IsTrue (accepted (content ty.now))
             → KeepsRoomRule (wire (content ty.now) self.now) out.old.spare result }
+        ensures capacity { KeepsCapacity out.old out.new }
         ensures never_memory { IsTrue refuses_memory_free → accepted (content ty.now) ≡ false
             → IsBuiltIn (content ty.now) → NeverMemory result };
 
@@ -90,6 +92,7 @@ pub fn to_sql_checked_as<T: ToSql>(
         out.old.items out.new.items result }
     ensures room { T.by_room v.now → IsTrue (T.accepted (content ty.now))
         → KeepsRoomRule (T.wire (content ty.now) v.now) out.old.spare result }
+    ensures capacity { KeepsCapacity out.old out.new }
     ensures never_memory { T.accepted (content ty.now) ≡ false → IsBuiltIn (content ty.now) → NeverMemory result }
 {
     check_type(T::accepts(ty), ty, rust)?;

@@ -5,6 +5,7 @@ ghost use Rattle.postgres_types.specs.Rewriting.{IsCellOf, IsRewrittenAsItself, 
 ghost use Rattle.pg_types.specs.Content.{content, IsBuiltIn};
 ghost use Rattle.pg_types.specs.Faults.{NeverMemory, wrong_type};
 ghost use Rattle.pg_write.specs.Writing.{Writes};
+ghost use Rattle.pg_base.specs.Appending.{KeepsCapacity};
 ghost use Rattle.pg_base.specs.Cells.{cell_of};
 
 use crate::paired::Paired;
@@ -41,6 +42,7 @@ pub fn rewrite<'a, T: Paired<'a>>(
     ensures again { IsTrue (T.FromSql.accepted (content ty.now))
         → WritesCell (IsRewrittenAsItself (T.reads (content ty.now))
         (T.wire (content ty.now))) out.old.items out.new.items result }
+    ensures capacity { KeepsCapacity out.old out.new }
 {
     if !<T as FromSql<'a>>::accepts(ty) {
         return Err(wrong_type(ty, "rewrite"));

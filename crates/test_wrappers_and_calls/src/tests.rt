@@ -16,6 +16,7 @@ mod list_refusals;
 mod list_writing;
 mod long_lists;
 mod reading_back;
+mod room;
 mod row_reader;
 mod runs;
 mod user_defined;

@@ -2,6 +2,7 @@
 ghost use Rattle.std.specs.Prelude.{◌≡◌, ℕ, List, Bool, IsTrue, [], Ok, suc};
 ghost use Rattle.pg_types.specs.Content.{FieldsContent, fields_content};
 ghost use Rattle.pg_types.specs.Faults.{Answers, Outcome};
+ghost use Rattle.pg_base.specs.Appending.{KeepsCapacity};
 ghost use Rattle.pg_base.specs.Sameness.{IsEquivalence};
 ghost use Rattle.pg_read.specs.Reading.{GivesSingle};
 ghost use Rattle.postgres_types.specs.CompositeFields.{BackAnd, BackEnd, ReadsAnd, ReadsEnd, SameAnd, accepts_and};
@@ -74,7 +75,8 @@ pub trait ToFields: Drop {
     /// first field that is refused, and leaves the buffer's bytes as they were, `Memory` too.
     fn to_fields(&self, alloc: Global, fields: &[Field], out: &mut BytesMut) -> Result<(), Fault>
         requires { IsTrue (accepted (fields_content fields.now)) }
-        ensures { AppendsBytes (bytes (fields_content fields.now) self.now) out.old.items out.new.items result };
+        ensures bytes { AppendsBytes (bytes (fields_content fields.now) self.now) out.old.items out.new.items result }
+        ensures capacity { KeepsCapacity out.old out.new };
 
     /// Whether so many fields, of these types, are written. Their names don't matter.
     fn accepts(fields: &[Field]) -> bool

@@ -7,6 +7,7 @@ ghost use Rattle.pg_read.specs.Laws.Reading.{through_single};
 ghost use Rattle.pg_read.specs.Views.{ReadsThrough, Through};
 ghost use Rattle.postgres_types.specs.Composites.{accepts_record, are_named, composite_lawful, composite_single};
 ghost use Rattle.postgres_types.specs.Composites.{composite_types, is_composite, is_record, reads_record, record_cell};
+ghost use Rattle.pg_base.specs.Appending.{KeepsCapacity};
 ghost use Rattle.postgres_types.specs.Records.{AppendsBytes, fields_of_kind, record_bytes};
 ghost use Rattle.postgres_types.specs.Laws.ViewBack.{through_lawful};
 
@@ -57,8 +58,9 @@ pub trait Record: Sized + fmt::Debug + Drop {
     /// Appends its fields, as [`ToFields::to_fields`] does, of references to them in a row.
     fn row_to_sql(&self, alloc: Global, fields: &[Field], out: &mut BytesMut) -> Result<(), Fault>
         requires { IsTrue (Self.Fields.accepted (fields_content fields.now)) }
-        ensures { AppendsBytes (Self.Fields.bytes (fields_content fields.now) (inside self.now))
-            out.old.items out.new.items result };
+        ensures bytes { AppendsBytes (Self.Fields.bytes (fields_content fields.now) (inside self.now))
+            out.old.items out.new.items result }
+        ensures capacity { KeepsCapacity out.old out.new };
 
     /// Law: the name is short enough for a `WrongType`.
     ghost short: { IsTrue (nat_le (length type_name) 64) };
@@ -158,9 +160,10 @@ fn record_to_sql<T: Record>(
     out: &mut BytesMut,
 ) -> Result<(), Fault>
     requires { IsTrue (T.Fields.accepted (fields_content fields.now)) }
-    ensures { AppendsBytes (record_bytes (length fields.now)
+    ensures bytes { AppendsBytes (record_bytes (length fields.now)
         (T.Fields.bytes (fields_content fields.now) (T.inside value.now)))
         out.old.items out.new.items result }
+    ensures capacity { KeepsCapacity out.old out.new }
 {
     let start = out.len();
     field_count_to_sql(alloc, fields.len(), out)?;

@@ -1,6 +1,7 @@
 //! Writing a record.
 ghost use Rattle.std.specs.Prelude.{◌≡◌, IsTrue};
 ghost use Rattle.pg_types.specs.Content.{content, oid_of};
+ghost use Rattle.pg_base.specs.Appending.{KeepsCapacity};
 ghost use Rattle.pg_base.specs.Counts.{count_bytes};
 ghost use Rattle.postgres_types.specs.Records.{AppendsBytes, field_bytes, or_transmit};
 
@@ -15,7 +16,8 @@ use std::alloc::Global;
 /// Appends the number of a record's fields, in 4 bytes; `Transmit` where it passes 2,147,483,647.
 /// A refusal leaves the buffer's bytes as they were, `Memory` too.
 pub fn field_count_to_sql(_alloc: Global, count: usize, out: &mut BytesMut) -> Result<(), Fault>
-    ensures { AppendsBytes (or_transmit (count_bytes count)) out.old.items out.new.items result }
+    ensures bytes { AppendsBytes (or_transmit (count_bytes count)) out.old.items out.new.items result }
+    ensures capacity { KeepsCapacity out.old out.new }
 {
     if count > MAX_LEN {
         return Err(Fault::Transmit);
@@ -36,8 +38,9 @@ pub fn field_to_sql<T: ToSql>(
     out: &mut BytesMut,
 ) -> Result<(), Fault>
     requires { IsTrue (T.accepted (content ty.now)) }
-    ensures { AppendsBytes (field_bytes (oid_of (content ty.now)) (T.wire (content ty.now) value.now))
+    ensures bytes { AppendsBytes (field_bytes (oid_of (content ty.now)) (T.wire (content ty.now) value.now))
         out.old.items out.new.items result }
+    ensures capacity { KeepsCapacity out.old out.new }
 {
     let start = out.len();
     out.put_u32(ty.oid())?;

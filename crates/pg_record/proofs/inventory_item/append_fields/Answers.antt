@@ -10,42 +10,42 @@ use Rattle.pg_record.proofs.inventory_item.append_fields.Goals as goal
 abbrev field_count : Bytes
 field_count = or_transmit (count_bytes 3)
 
-pub returns-in_err-field_count_to_sql : goal.returns-in_err-field_count_to_sql
-returns-in_err-field_count_to_sql c =
+pub returns-in_err-field_count_to_sql-clause-bytes : goal.returns-in_err-field_count_to_sql-clause-bytes
+returns-in_err-field_count_to_sql-clause-bytes c =
     let p = err_from_is_err_and c.from_residual.result c.from_residual.ensures.1 in
     rw (p.1, p.2) (first_refused_part field_count _ c.args.out.now.items c.field_count_to_sql.new.out.items
-    c.in_err-field_count_to_sql.field-0.0 c.in_err-field_count_to_sql.ensures)
+    c.in_err-field_count_to_sql.field-0.0 c.in_err-field_count_to_sql.ensures.bytes)
 
-pub returns-in_err-field_to_sql : goal.returns-in_err-field_to_sql
-returns-in_err-field_to_sql c =
+pub returns-in_err-field_to_sql-clause-bytes : goal.returns-in_err-field_to_sql-clause-bytes
+returns-in_err-field_to_sql-clause-bytes c =
     let r = c.from_residual-in_err-field_to_sql in
     let p = err_from_is_err_and r.result r.ensures.1 in
     let fault = c.in_err-field_to_sql.field-0.0 in
     rw (p.1, p.2) (then_part field_count _ c.args.out.now.items c.field_count_to_sql.new.out.items
-    c.field_to_sql.new.out.items (Err fault) c.in_ok-field_count_to_sql.ensures
+    c.field_to_sql.new.out.items (Err fault) c.in_ok-field_count_to_sql.ensures.bytes
     (first_refused_part _ _ c.field_count_to_sql.new.out.items c.field_to_sql.new.out.items fault
-    (rw c.type_.ensures at c.in_err-field_to_sql.ensures)))
+    (rw c.type_.ensures at c.in_err-field_to_sql.ensures.bytes)))
 
-pub returns-in_err-field_to_sql-2 : goal.returns-in_err-field_to_sql-2
-returns-in_err-field_to_sql-2 c =
+pub returns-in_err-field_to_sql-2-clause-bytes : goal.returns-in_err-field_to_sql-2-clause-bytes
+returns-in_err-field_to_sql-2-clause-bytes c =
     let r = c.from_residual-in_err-field_to_sql-2 in
     let p = err_from_is_err_and r.result r.ensures.1 in
     let fault = c.in_err-field_to_sql-2.field-0.0 in
     rw (p.1, p.2) (then_part field_count _ c.args.out.now.items c.field_count_to_sql.new.out.items
-    c.field_to_sql-2.new.out.items (Err fault) c.in_ok-field_count_to_sql.ensures
+    c.field_to_sql-2.new.out.items (Err fault) c.in_ok-field_count_to_sql.ensures.bytes
     (then_part _ _ c.field_count_to_sql.new.out.items c.field_to_sql.new.out.items
-    c.field_to_sql-2.new.out.items (Err fault) (rw c.type_.ensures at c.in_ok-field_to_sql.ensures)
+    c.field_to_sql-2.new.out.items (Err fault) (rw c.type_.ensures at c.in_ok-field_to_sql.ensures.bytes)
     (first_refused_part _ _ c.field_to_sql.new.out.items c.field_to_sql-2.new.out.items fault
-    (rw c.type_-2.ensures at c.in_err-field_to_sql-2.ensures))))
+    (rw c.type_-2.ensures at c.in_err-field_to_sql-2.ensures.bytes))))
 
-pub returns : goal.returns
-returns c =
+pub returns-clause-bytes : goal.returns-clause-bytes
+returns-clause-bytes c =
     let new = c.field_to_sql-3.new.out.items in
     let result = c.field_to_sql-3.result in
     then_part field_count _ c.args.out.now.items c.field_count_to_sql.new.out.items new result
-    c.in_ok-field_count_to_sql.ensures
+    c.in_ok-field_count_to_sql.ensures.bytes
     (then_part _ _ c.field_count_to_sql.new.out.items c.field_to_sql.new.out.items new result
-    (rw c.type_.ensures at c.in_ok-field_to_sql.ensures)
+    (rw c.type_.ensures at c.in_ok-field_to_sql.ensures.bytes)
     (then_part _ _ c.field_to_sql.new.out.items c.field_to_sql-2.new.out.items new result
-    (rw c.type_-2.ensures at c.in_ok-field_to_sql-2.ensures)
-    (last_appended _ c.field_to_sql-2.new.out.items new result (rw c.type_-3.ensures at c.field_to_sql-3.ensures))))
+    (rw c.type_-2.ensures at c.in_ok-field_to_sql-2.ensures.bytes)
+    (last_appended _ c.field_to_sql-2.new.out.items new result (rw c.type_-3.ensures at c.field_to_sql-3.ensures.bytes))))

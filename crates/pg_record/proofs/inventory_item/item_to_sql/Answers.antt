@@ -37,23 +37,23 @@ append_fields-outcome-requires-clause-price c =
     third_accepted c.name-item.result c.supplier_id-item.result c.price-item.result
     (subst (λ fs. IsTrue (accepts_row (fields_content fs))) these c.requires)
 
-pub returns-then-is_err : goal.returns-then-is_err
-returns-then-is_err c =
+pub returns-then-is_err-clause-bytes : goal.returns-then-is_err-clause-bytes
+returns-then-is_err-clause-bytes c =
     let these = accepted_three c.args.fields.now c.name-item.result c.supplier_id-item.result c.price-item.result c.requires
     c.name-item.is c.supplier_id-item.is c.price-item.is in
     let old = c.args.out.now.items in
     subst (λ fs. AppendsBytes (item_bytes (fields_content fs) c.args.item.now) old c.truncate.new.self.items
     c.append_fields-outcome.result) (sym these)
-    (part_taken_back _ old c.append_fields-outcome.new.out.items _ c.append_fields-outcome.result c.append_fields-outcome.ensures
+    (part_taken_back _ old c.append_fields-outcome.new.out.items _ c.append_fields-outcome.result c.append_fields-outcome.ensures.bytes
     (sym c.is_err.ensures.value ∙ c.if-is_err.true)
     (c.truncate.ensures.items ∙ ap (λ n. take n c.append_fields-outcome.new.out.items) c.len-start.ensures.value))
 
-pub returns-else-is_err : goal.returns-else-is_err
-returns-else-is_err c =
+pub returns-else-is_err-clause-bytes : goal.returns-else-is_err-clause-bytes
+returns-else-is_err-clause-bytes c =
     let these = accepted_three c.args.fields.now c.name-item.result c.supplier_id-item.result c.price-item.result c.requires
     c.name-item.is c.supplier_id-item.is c.price-item.is in
     let outcome = c.append_fields-outcome in
     subst (λ fs. AppendsBytes (item_bytes (fields_content fs) c.args.item.now) c.args.out.now.items outcome.new.out.items
     outcome.result) (sym these)
-    (not_part _ c.args.out.now.items outcome.new.out.items outcome.result outcome.ensures
+    (not_part _ c.args.out.now.items outcome.new.out.items outcome.result outcome.ensures.bytes
     (sym c.is_err.ensures.value ∙ c.if-is_err.false))

@@ -13,8 +13,8 @@ use Rattle.pg_write.specs.ArrayWriting.{element_cells, lower_bound_of}
 use Rattle.pg_write.proofs.ElementCells.{had_bytes, had_none, list_refused, list_written, same_array}
 use Rattle.pg_write.proofs.arrays.list_to_sql.Goals as goal
 
-pub returns-in_err-elements_to_sql : goal.returns-in_err-elements_to_sql
-returns-in_err-elements_to_sql g c =
+pub returns-in_err-elements_to_sql-clause-writes : goal.returns-in_err-elements_to_sql-clause-writes
+returns-in_err-elements_to_sql-clause-writes g c =
     let ty = content c.args.ty.now in
     let values = c.args.values.now in
     let element = content (cow_value c.in-Some.element) in
@@ -29,8 +29,8 @@ returns-in_err-elements_to_sql g c =
       list_refused g.T.ToSql.wire ty element values is c.if-values-gt-MAX_LEN.false (refusal_of fault) told,
     )
 
-pub returns-in_err-array_to_sql : goal.returns-in_err-array_to_sql
-returns-in_err-array_to_sql g c =
+pub returns-in_err-array_to_sql-clause-writes : goal.returns-in_err-array_to_sql-clause-writes
+returns-in_err-array_to_sql-clause-writes g c =
     let ty = content c.args.ty.now in
     let values = c.args.values.now in
     let element = content (cow_value c.in-Some.element) in
@@ -54,8 +54,8 @@ returns-in_err-array_to_sql g c =
       subst (λ w. IfSome (refusal_of fault) (λ r. w ≡ Err r)) (sym written) refused.1,
     )
 
-pub returns : goal.returns
-returns g c =
+pub returns-clause-writes : goal.returns-clause-writes
+returns-clause-writes g c =
     let ty = content c.args.ty.now in
     let values = c.args.values.now in
     let element = content (cow_value c.in-Some.element) in

@@ -5,8 +5,8 @@ use Rattle.pg_base.specs.Cells.{max_length}
 use Rattle.pg_base.specs.Counts.{number_width}
 use Rattle.pg_write.proofs.params.frame_from.Goals as goal
 
-pub returns-then-len-gt-MAX_LEN : goal.returns-then-len-gt-MAX_LEN
-returns-then-len-gt-MAX_LEN c =
+pub returns-then-len-gt-MAX_LEN-clause-frame : goal.returns-then-len-gt-MAX_LEN-clause-frame
+returns-then-len-gt-MAX_LEN-clause-frame c =
     let cell = drop (c.args.start + number_width) c.args.out.now.items in
     let many : max_length < length cell =
     omega (
@@ -18,8 +18,8 @@ returns-then-len-gt-MAX_LEN c =
     ) in
     (refl, refl, long_frame cell many)
 
-pub returns : goal.returns
-returns c =
+pub returns-clause-frame : goal.returns-clause-frame
+returns-clause-frame c =
     let cell = drop (c.args.start + number_width) c.args.out.now.items in
     let len = c.len.result - c.args.start - number_width in
     let same : len ≡ length cell = omega
