@@ -23,12 +23,13 @@ loop-place-init g c = (
 pub loop-place-preserved : goal.loop-place-preserved
 loop-place-preserved g c =
     let element_frame_cell = rw c.in_default.is at c.param_to_sql.ensures.frame in (
-    next_param (λ p. let m = (goal.ToSql-dyn g (p.0.vtable, p.0.value)).ToSql in
-    checked m.accepted m.name m.wire (content p.1) p.0.value)
-    c.args.params.now c.args.types.now c.requires c.loop-place.place _ _ c.loop-place-test.true
-    c.index-params-place.is c.index-types-place.is c.args.out.now.items c.loop-place.out.items
-    c.param_to_sql.new.out.items c.loop-place.invariant.0 element_frame_cell,
-    omega (arith, c.loop-place.invariant.1, c.param_to_sql.ensures.capacity))
+      next_param (λ p. let m = (goal.ToSql-dyn g (p.0.vtable, p.0.value)).ToSql in
+          checked m.accepted m.name m.wire (content p.1) p.0.value)
+          c.args.params.now c.args.types.now c.requires c.loop-place.place _ _ c.loop-place-test.true
+          c.index-params-place.is c.index-types-place.is c.args.out.now.items c.loop-place.out.items
+          c.param_to_sql.new.out.items c.loop-place.invariant.0 element_frame_cell,
+      omega (arith, c.loop-place.invariant.1, c.param_to_sql.ensures.capacity),
+    )
 
 pub returns-in-Err-clause-frames : goal.returns-in-Err-clause-frames
 returns-in-Err-clause-frames g c =
