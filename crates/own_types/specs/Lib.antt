@@ -1,3 +1,2 @@
 -- The words of the examples.
-pub mod Percentages
 pub mod Ratings

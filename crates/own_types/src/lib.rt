@@ -2,8 +2,9 @@
 #![tactic(auto)]
 
 pub mod composite;
+pub mod domain;
+pub mod enumerated;
 pub mod nested_composite;
 pub mod newtype;
 pub mod null_value;
-pub mod refusal;
 pub mod wrapper;

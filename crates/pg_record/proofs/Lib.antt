@@ -1,3 +1,2 @@
 -- The lemmas of this crate's proofs.
 mod ItemFields
-pub mod Labels

@@ -1,14 +1,12 @@
 //! The enumerated type `Mood`.
-ghost use Rattle.std.specs.Prelude.{◌≡◌, map, string_bytes, true};
-ghost use Rattle.postgres_types.specs.Content.{content};
-ghost use Rattle.postgres_types.specs.KindRefs.{kind_ref_view};
+ghost use Rattle.std.specs.Prelude.{◌≡◌, true};
 ghost use Rattle.postgres_types.specs.Conversion.{BackKept, EveryCell, codes, equal_equivalence, refl};
-ghost use Rattle.pg_record.specs.Moods.{ReadsMood, are_mood_labels, has_label, is_mood, is_mood_kind, label, wire_mood};
+ghost use Rattle.pg_record.specs.Moods.{ReadsMood, is_mood, labels, place, wire_mood};
 ghost use Rattle.pg_record.specs.Laws.Mood.{mood_lawful, mood_single};
 
+use postgres_types::enums::{Enum, EnumType};
 use postgres_types::private::BytesMut;
-use postgres_types::protocol::{text_from_sql, text_to_sql};
-use postgres_types::{Fault, Format, FromSql, IsNull, KindRef, Paired, ToSql, Type, check_type};
+use postgres_types::{Fault, Format, FromSql, IsNull, Paired, ToSql, Type, check_type};
 use std::alloc::Global;
 
 /// A value of the enumerated type that `CREATE TYPE "Mood" AS ENUM ('Sad', 'Ok', 'Happy')` makes.
@@ -22,52 +20,36 @@ pub enum Mood {
     Happy,
 }
 
-impl Mood {
-    /// The value's label.
-    fn label(self) -> &'static str
-        ensures { result.now ≡ label self }
-    {
-        match self {
-            Mood::Sad => "Sad",
-            Mood::Ok => "Ok",
-            Mood::Happy => "Happy",
+impl EnumType for Mood {
+    ghost type_name = { codes "Mood" };
+
+    ghost labels = { labels };
+
+    ghost place = { place };
+
+    ghost short = { refl };
+
+    ghost proper = { refl };
+
+    fn name() -> &'static str {
+        "Mood"
+    }
+
+    fn labels() -> &'static [&'static str] {
+        &["Sad", "Ok", "Happy"]
+    }
+
+    fn place(self) -> usize {
+        self as usize
+    }
+
+    fn at(index: usize) -> Mood {
+        match index {
+            0 => Mood::Sad,
+            1 => Mood::Ok,
+            _ => Mood::Happy,
         }
     }
-}
-
-/// Whether moods are read from cells of that type and written to them: it is named `Mood`, whatever
-/// its schema, and is an enumerated type with the labels of [`Mood`].
-fn is_mood(ty: &Type) -> bool
-    ensures { result ≡ is_mood (content ty.now) }
-{
-    ty.name() == "Mood" && is_mood_kind(&ty.kind())
-}
-
-/// Whether the kind is that of an enumerated type with the labels of [`Mood`].
-fn is_mood_kind(kind: &KindRef<'_>) -> bool
-    ensures { result ≡ is_mood_kind (kind_ref_view kind.now) }
-{
-    match kind {
-        KindRef::Enum(labels) => are_mood_labels(labels),
-        _ => false,
-    }
-}
-
-/// Whether the labels are those of [`Mood`], in any order, each once.
-fn are_mood_labels(labels: &[String]) -> bool
-    ensures { result ≡ are_mood_labels (map string_bytes labels.now) }
-{
-    labels.len() == 3
-        && has_label(labels, "Sad")
-        && has_label(labels, "Ok")
-        && has_label(labels, "Happy")
-}
-
-/// Whether the label is among the labels.
-fn has_label(labels: &[String], label: &str) -> bool
-    ensures { result ≡ has_label (map string_bytes labels.now) label.now }
-{
-    labels.iter().any(|other| other.as_str() == label)
 }
 
 /// A type named `Mood`, whatever its schema, of kind Enum with the labels `Sad`, `Ok` and `Happy` in any
@@ -86,13 +68,8 @@ impl<'a> FromSql<'a> for Mood {
 
     ghost single = { λ _ _. mood_single };
 
-    fn from_sql(_alloc: Global, _ty: &Type, raw: &'a [u8]) -> Result<Mood, Fault> {
-        match text_from_sql(raw)? {
-            "Sad" => Ok(Mood::Sad),
-            "Ok" => Ok(Mood::Ok),
-            "Happy" => Ok(Mood::Happy),
-            _ => Err(Fault::user("invalid variant")),
-        }
+    fn from_sql(alloc: Global, ty: &Type, raw: &'a [u8]) -> Result<Mood, Fault> {
+        Ok(Enum::<Mood>::from_sql(alloc, ty, raw)?.0)
     }
 
     fn from_sql_null(_alloc: Global, _ty: &Type) -> Result<Mood, Fault> {
@@ -100,7 +77,7 @@ impl<'a> FromSql<'a> for Mood {
     }
 
     fn accepts(ty: &Type) -> bool {
-        is_mood(ty)
+        <Enum<Mood> as FromSql>::accepts(ty)
     }
 }
 
@@ -116,13 +93,12 @@ impl ToSql for Mood {
 
     ghost refuses_memory_free = { true };
 
-    fn to_sql(&self, alloc: Global, _ty: &Type, out: &mut BytesMut) -> Result<IsNull, Fault> {
-        text_to_sql(alloc, self.label(), out)?;
-        Ok(IsNull::No)
+    fn to_sql(&self, alloc: Global, ty: &Type, out: &mut BytesMut) -> Result<IsNull, Fault> {
+        Enum(*self).to_sql(alloc, ty, out)
     }
 
     fn accepts(ty: &Type) -> bool {
-        is_mood(ty)
+        <Enum<Mood> as ToSql>::accepts(ty)
     }
 
     fn to_sql_checked(

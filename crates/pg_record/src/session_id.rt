@@ -7,8 +7,9 @@ ghost use Rattle.postgres_types.specs.Conversion.{BackKept, NullAlone, codes, co
 ghost use Rattle.postgres_types.specs.Laws.FormatBack.{bytes_lawful};
 ghost use Rattle.pg_record.specs.SessionIds.{ReadsSessionId, is_session_id, wire_session_id};
 
+use postgres_types::newtype::{is_domain, underlying_type};
 use postgres_types::private::BytesMut;
-use postgres_types::{Fault, Format, FromSql, IsNull, KindRef, Paired, ToSql, Type, check_type};
+use postgres_types::{Fault, Format, FromSql, IsNull, Paired, ToSql, Type, check_type};
 use std::alloc::Global;
 
 /// A value of a domain that `CREATE DOMAIN "SessionId" AS BYTEA` makes. A constraint of the domain is the
@@ -17,16 +18,11 @@ use std::alloc::Global;
 pub struct SessionId(pub Vec<u8>);
 
 /// Whether session ids are read from cells of that type and written to them: it is named `SessionId`,
-/// whatever its schema, and is a domain whose member type is BYTEA.
+/// whatever its schema, and is a domain over BYTEA.
 fn is_session_id(ty: &Type) -> bool
     ensures { result ≡ is_session_id (content ty.now) }
 {
-    match ty.kind() {
-        KindRef::Domain(member) => {
-            ty.name() == "SessionId" && <Vec<u8> as FromSql>::accepts(&member)
-        }
-        _ => false,
-    }
+    is_domain("SessionId", ty) && <Vec<u8> as FromSql>::accepts(&underlying_type(ty))
 }
 
 /// A type named `SessionId`, whatever its schema, of kind Domain over BYTEA: the cell of the member type

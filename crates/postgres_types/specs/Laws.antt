@@ -2,6 +2,8 @@
 pub mod ArrayBack
 pub mod Back
 pub mod BoxBack
+pub mod Domain
+pub mod Enum
 pub mod FormatBack
 pub mod HstoreBack
 pub mod OptionBack

@@ -2,6 +2,8 @@
 pub mod CompositeFields
 pub mod Composites
 pub mod Conversion
+pub mod Domains
+pub mod Enums
 pub mod Laws
 pub mod Odd
 pub mod ReadingBack

@@ -6,6 +6,8 @@
 #![tactic(auto)]
 
 pub mod composite;
+pub mod enums;
+pub mod newtype;
 pub mod odd;
 mod paired;
 mod rewriting;

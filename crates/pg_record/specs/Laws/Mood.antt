@@ -1,8 +1,6 @@
 -- Laws of the enumerated type "Mood".
-use Rattle.std.specs.Prelude.{◌≡◌, None, IsUtf8, refl}
+use Rattle.std.specs.Prelude.{◌≡◌, None, refl}
 use Rattle.std.proofs.Common.{sym, ◌∙◌, ap}
-use Rattle.std.proofs.lemmas.Str.{is_utf8-from_IsUtf8}
-use lib.Utf8.{encode}
 use Rattle.postgres_types.specs.Formats.{IsGrammar}
 use Rattle.postgres_types.specs.Laws.Plain.{plain_lawful}
 use Rattle.postgres_types.specs.Reading.{ReadsSingle}
@@ -12,18 +10,11 @@ use Rattle.pg_record.specs.Moods.{FormMood, ReadsMood, first_fault_mood, label, 
 use Rattle.pg_record.specs.declared.mood.Mood.{Mood}
 use Rattle.pg_record.specs.declared.mood.Mood.TheVariants.{Sad, Ok as MoodOk, Happy}
 
--- each label is UTF-8
-label_utf8 : (v : Mood) → IsUtf8 (label v)
-unfolding encode
-label_utf8 Sad = (label Sad, (refl, refl))
-label_utf8 MoodOk = (label MoodOk, (refl, refl))
-label_utf8 Happy = (label Happy, (refl, refl))
-
--- and passes both checks
+-- each label passes both checks
 label_passes : (v : Mood) → first_fault_mood (label v) ≡ None
-label_passes Sad = rw (is_utf8-from_IsUtf8 (label Sad) (label_utf8 Sad)) refl
-label_passes MoodOk = rw (is_utf8-from_IsUtf8 (label MoodOk) (label_utf8 MoodOk)) refl
-label_passes Happy = rw (is_utf8-from_IsUtf8 (label Happy) (label_utf8 Happy)) refl
+label_passes Sad = refl
+label_passes MoodOk = refl
+label_passes Happy = refl
 
 -- no two values have one label
 label_single : (v w : Mood) → label v ≡ label w → v ≡ w

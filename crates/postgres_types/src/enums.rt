@@ -1,0 +1,200 @@
+//! Enumerated types, whose cells are labels.
+ghost use Rattle.std.specs.Prelude.{◌≡◌, ◌<◌, IfNone, IfSome, IsTrue, List, Some, false, length, map, nat_le};
+ghost use Rattle.std.specs.Prelude.{slice_get, string_bytes, true, ℕ};
+ghost use Rattle.pg_types.specs.Content.{content};
+ghost use Rattle.pg_types.specs.KindRefs.{kind_ref_view};
+ghost use Rattle.pg_read.specs.Reading.{EveryCell};
+ghost use Rattle.pg_read.specs.Laws.Reading.{through_single};
+ghost use Rattle.pg_read.specs.Views.{ReadsThrough, Through};
+ghost use Rattle.pg_base.proofs.SamenessLaws.{content_equivalence};
+ghost use Rattle.postgres_types.specs.Enums.{ReadsLabel, are_labels, has_label, has_labels, is_enum, is_enum_kind};
+ghost use Rattle.postgres_types.specs.Enums.{wire_label};
+ghost use Rattle.postgres_types.specs.Laws.Enum.{label_lawful, label_single};
+ghost use Rattle.postgres_types.specs.Laws.ViewBack.{through_lawful};
+ghost use Rattle.postgres_types.specs.ReadingBack.{BackKept};
+
+use crate::paired::Paired;
+use bytes::BytesMut;
+use pg_base::fault::Fault;
+use pg_base::format::{Format, IsNull};
+use pg_base::protocol::{text_from_sql, text_to_sql};
+use pg_base::types::{KindRef, PgType};
+use pg_read::from_sql::FromSql;
+use pg_write::to_sql::{ToSql, check_type};
+use std::alloc::Global;
+use std::fmt;
+
+/// An enumeration whose members are the labels of an enumerated type.
+///
+/// [`Enum`] around it is read and written. The enumeration says what the type and its labels are
+/// called, and which of its members is at which place among them; that it is read, written and
+/// read back as it should be follows from that.
+pub trait EnumType: Copy + fmt::Debug {
+    /// The name of the enumerated type, without its schema.
+    ghost type_name: { List ℕ };
+
+    /// The labels.
+    ghost labels: { List (List ℕ) };
+
+    /// The place of a member's label among the labels.
+    ghost place: { Self → ℕ };
+
+    /// The name of the enumerated type, without its schema, byte for byte: at most 64 bytes. SQL makes a
+    /// name that is not quoted one of lower case.
+    fn name() -> &'static str
+        ensures { result.now ≡ type_name };
+
+    /// The labels, in the order of the places.
+    fn labels() -> &'static [&'static str]
+        ensures { map (λ label. label.now) result.now ≡ labels };
+
+    /// The place of the member's label among the labels, from 0.
+    fn place(self) -> usize
+        ensures { (result ≡ place self) × (result < length labels) };
+
+    /// The member whose label is at that place.
+    fn at(index: usize) -> Self
+        requires { index < length labels }
+        ensures { place result ≡ index };
+
+    /// Law: the name is short enough for a `WrongType`.
+    ghost short: { IsTrue (nat_le (length type_name) 64) };
+
+    /// Law: each label has at most 63 bytes, and none comes twice.
+    ghost proper: { IsTrue (are_labels labels) };
+}
+
+/// The value of an enumerated type that is a member of an enumeration.
+///
+/// It accepts an enumerated type of the enumeration's name, whatever its schema, whose labels are
+/// the enumeration's in any order. Its cell is the label's text, as `enum_recv` and `enum_send` lay
+/// it out. Reading takes no memory. NULL is `WasNull`; in a `WrongType` its name is the type's.
+///
+/// In reading, bytes that are not UTF-8 are `Utf8`, and a text that is no label is the fault `User`
+/// with the text `invalid variant`.
+#[derive(Debug, Clone, Copy, PartialEq, Eq)]
+pub struct Enum<T>(pub T);
+
+/// Whether the label is among the labels.
+fn has_label(labels: &[String], label: &str) -> bool
+    ensures { result ≡ has_label (map string_bytes labels.now) label.now }
+{
+    labels.iter().any(|other| other.as_str() == label)
+}
+
+/// Whether all of the others are among the labels.
+fn has_labels(labels: &[String], others: &[&str]) -> bool
+    ensures { result ≡ has_labels (map string_bytes labels.now) (map (λ label. label.now) others.now) }
+{
+    others.iter().all(|other| has_label(labels, other))
+}
+
+/// Whether the kind is that of an enumerated type with these labels, in any order.
+fn is_enum_kind(labels: &[&str], kind: &KindRef<'_>) -> bool
+    ensures { result ≡ is_enum_kind (map (λ label. label.now) labels.now) (kind_ref_view kind.now) }
+{
+    match kind {
+        KindRef::Enum(others) => others.len() == labels.len() && has_labels(others, labels),
+        _ => false,
+    }
+}
+
+/// Whether the type has that name, whatever its schema, and is an enumerated type with these
+/// labels, in any order.
+pub fn is_enum(name: &str, labels: &[&str], ty: &PgType) -> bool
+    ensures { result ≡ is_enum name.now (map (λ label. label.now) labels.now) (content ty.now) }
+{
+    ty.name() == name && is_enum_kind(labels, &ty.kind())
+}
+
+/// The place of the label that the bytes are, or `None` where they are none.
+fn place_of(labels: &[&str], bytes: &[u8]) -> Option<usize>
+    ensures found { IfSome result (λ place. (place < length labels.now)
+        × (slice_get (map (λ label. label.now) labels.now) place ≡ Some bytes.now)) }
+    ensures none { IfNone result (has_label (map (λ label. label.now) labels.now) bytes.now ≡ false) }
+{
+    for place in 0..labels.len() {
+        if labels[place].as_bytes() == bytes {
+            return Some(place);
+        }
+    }
+    None
+}
+
+impl<'a, T: EnumType> FromSql<'a> for Enum<T> {
+    ghost same = { λ v w. T.place v.0 ≡ T.place w.0 };
+
+    ghost accepted = { is_enum T.type_name T.labels };
+
+    ghost reads = { λ _. ReadsThrough (λ v. T.place v.0) (ReadsLabel T.labels) };
+
+    ghost memory_free = { EveryCell };
+
+    ghost equivalence = { content_equivalence (λ v. T.place v.0) };
+
+    ghost single = { λ _ _. through_single (λ v. T.place v.0) (λ i j. i ≡ j) (ReadsLabel T.labels)
+        (label_single T.labels T.proper) };
+
+    fn from_sql(_alloc: Global, _ty: &PgType, raw: &'a [u8]) -> Result<Enum<T>, Fault> {
+        if let Some(place) = place_of(T::labels(), raw) {
+            return Ok(Enum(T::at(place)));
+        }
+        text_from_sql(raw)?;
+        Err(Fault::user("invalid variant"))
+    }
+
+    fn from_sql_null(_alloc: Global, _ty: &PgType) -> Result<Enum<T>, Fault> {
+        Err(Fault::WasNull)
+    }
+
+    fn accepts(ty: &PgType) -> bool {
+        is_enum(T::name(), T::labels(), ty)
+    }
+}
+
+impl<T: EnumType> ToSql for Enum<T> {
+    ghost accepted = { is_enum T.type_name T.labels };
+
+    ghost name = { T.type_name };
+
+    ghost wire = { λ _ v. wire_label T.labels (T.place v.0) };
+
+    ghost by_room = { λ _. Unit {0} };
+
+    ghost refuses_memory_free = { true };
+
+    fn to_sql(&self, alloc: Global, _ty: &PgType, out: &mut BytesMut) -> Result<IsNull, Fault> {
+        text_to_sql(alloc, T::labels()[self.0.place()], out)?;
+        Ok(IsNull::No)
+    }
+
+    fn accepts(ty: &PgType) -> bool {
+        is_enum(T::name(), T::labels(), ty)
+    }
+
+    fn to_sql_checked(
+        &self,
+        alloc: Global,
+        ty: &PgType,
+        out: &mut BytesMut,
+    ) -> Result<IsNull, Fault> {
+        check_type(<Self as ToSql>::accepts(ty), ty, T::name())?;
+        self.to_sql(alloc, ty, out)
+    }
+
+    fn encode_format(&self, _ty: &PgType) -> Format {
+        Format::Binary
+    }
+}
+
+/// Members are read back as themselves.
+impl<'a, T: EnumType> Paired<'a> for Enum<T> {
+    ghost use Rattle.std.specs.Prelude.{refl};
+
+    ghost back = { λ _ v. Through (λ w. T.place w.0) (BackKept (λ i j. i ≡ j) (T.place v.0)) };
+
+    ghost types = { λ _. refl };
+
+    ghost lawful = { λ _ _. through_lawful (λ v. T.place v.0) (ReadsLabel T.labels) (λ i j. i ≡ j)
+        (wire_label T.labels) (BackKept (λ i j. i ≡ j)) (label_lawful T.labels T.proper) };
+}
