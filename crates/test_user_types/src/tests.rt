@@ -2,7 +2,9 @@
 
 mod calls;
 mod composites;
+mod domains;
 mod inventory_items;
+mod levels;
 mod moods;
 mod nulls;
 mod percentages;

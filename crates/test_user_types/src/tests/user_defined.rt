@@ -1,9 +1,10 @@
 //! The types of docs/OWN-TYPES.md.
 
+use own_types::domain::Percentage;
 use own_types::newtype::Days;
 use own_types::null_value::Rating;
-use own_types::refusal::Percentage;
 use own_types::wrapper::Tagged;
+use postgres_types::newtype::Transparent;
 use postgres_types::{Date, Type};
 use std::test::Fail;
 use test_support::code::{SIZE, USER, WAS_NULL};
@@ -100,6 +101,11 @@ fn null_is_of_the_element(rt: HostRuntime) -> Result<(), Fail> {
     spells(rt.alloc(), &Type::INT2_ARRAY, &[row])
 }
 
+/// A percentage as an INT2.
+fn percentage(number: i16) -> Transparent<Percentage> {
+    Transparent(Percentage(number))
+}
+
 /// Cells that are no percentage, and the numbers of their faults.
 const NO_PERCENTAGES: [(Option<&[u8]>, u32); 4] = [
     (None, WAS_NULL),
@@ -110,16 +116,16 @@ const NO_PERCENTAGES: [(Option<&[u8]>, u32); 4] = [
 
 #[test]
 fn percentages_are_refused(rt: HostRuntime) -> Result<(), Fail> {
-    refuses::<Percentage>(rt.alloc(), &Type::INT2, &NO_PERCENTAGES)?;
+    refuses::<Transparent<Percentage>>(rt.alloc(), &Type::INT2, &NO_PERCENTAGES)?;
     for number in [-1, 101] {
-        refuses_both(rt.alloc(), &Percentage(number), &Type::INT2, USER)?;
+        refuses_both(rt.alloc(), &percentage(number), &Type::INT2, USER)?;
     }
-    refuses_type(rt.alloc(), &Percentage(0), &Type::INT4, "Percentage")
+    refuses_type(rt.alloc(), &percentage(0), &Type::INT4, "percentage")
 }
 
 #[test]
 fn lists_hold_percentages(rt: HostRuntime) -> Result<(), Fail> {
-    let both = vec![in rt.alloc(); Percentage(0), Percentage(100)]?;
+    let both = vec![in rt.alloc(); percentage(0), percentage(100)]?;
     spells(
         rt.alloc(),
         &Type::INT2_ARRAY,
@@ -129,15 +135,15 @@ fn lists_hold_percentages(rt: HostRuntime) -> Result<(), Fail> {
 
 #[test]
 fn percentages_are_refused_in_lists(rt: HostRuntime) -> Result<(), Fail> {
-    let more = vec![in rt.alloc(); Percentage(100), Percentage(101)]?;
+    let more = vec![in rt.alloc(); percentage(100), percentage(101)]?;
     refuses_both(rt.alloc(), &more, &Type::INT2_ARRAY, USER)?;
     let faults = [(Some(ALL_AND_MORE.as_slice()), USER)];
-    refuses::<Vec<Percentage>>(rt.alloc(), &Type::INT2_ARRAY, &faults)
+    refuses::<Vec<Transparent<Percentage>>>(rt.alloc(), &Type::INT2_ARRAY, &faults)
 }
 
 #[test]
 fn tags_are_their_contents(rt: HostRuntime) -> Result<(), Fail> {
-    let row = (Tagged(Percentage(100)), [0, 100].as_slice());
+    let row = (Tagged(percentage(100)), [0, 100].as_slice());
     spells(rt.alloc(), &Type::INT2, &[row])?;
     writes_null(rt.alloc(), &Tagged(Rating::Unrated), &Type::INT2)
 }
@@ -145,9 +151,9 @@ fn tags_are_their_contents(rt: HostRuntime) -> Result<(), Fail> {
 #[test]
 fn tags_are_refused_as_their_contents(rt: HostRuntime) -> Result<(), Fail> {
     let faults = [(None, WAS_NULL), (Some([0, 101].as_slice()), USER)];
-    refuses::<Tagged<Percentage>>(rt.alloc(), &Type::INT2, &faults)?;
-    refuses_both(rt.alloc(), &Tagged(Percentage(101)), &Type::INT2, USER)?;
-    refuses_type(rt.alloc(), &Tagged(Percentage(100)), &Type::DATE, "Tagged")
+    refuses::<Tagged<Transparent<Percentage>>>(rt.alloc(), &Type::INT2, &faults)?;
+    refuses_both(rt.alloc(), &Tagged(percentage(101)), &Type::INT2, USER)?;
+    refuses_type(rt.alloc(), &Tagged(percentage(100)), &Type::DATE, "Tagged")
 }
 
 #[test]
