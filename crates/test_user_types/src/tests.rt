@@ -15,4 +15,5 @@ mod timestamps;
 mod unequal_values;
 mod user_defined;
 mod view;
+mod workers;
 mod wrappers;

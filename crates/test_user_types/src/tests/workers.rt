@@ -1,0 +1,124 @@
+//! A composite type of an enumerated type, a domain and an array of a domain.
+ghost use Rattle.std.specs.Prelude.{[], ◌∷◌};
+ghost use Rattle.postgres_types.specs.CompositeFields.{and, end};
+ghost use Rattle.postgres_types.specs.Conversion.{ap, codes, refl};
+
+use own_types::domain::{Email, Percentage};
+use own_types::enumerated::Level;
+use postgres_types::composite::{And, Composite, End, Record, ToFields};
+use postgres_types::enums::Enum;
+use postgres_types::newtype::Domain;
+use postgres_types::private::BytesMut;
+use postgres_types::{Fault, Field, Kind, Type, from_row, row};
+use std::alloc::Global;
+use std::test::Fail;
+use test_support::code::{FIELD_OID, USER, WAS_NULL};
+use test_support::{refuses, spells, user_type};
+
+/// `CREATE TYPE worker AS (level level, score percentage, mails email[])`.
+#[derive(Debug, PartialEq, Drop)]
+struct Worker {
+    level: Enum<Level>,
+    score: Option<Domain<Percentage>>,
+    mails: Vec<Option<Domain<Email>>>,
+}
+
+impl Record for Worker {
+    type Fields = And<
+        Enum<Level>,
+        And<Option<Domain<Percentage>>, And<Vec<Option<Domain<Email>>>, End>>,
+    >;
+
+    ghost type_name = { codes "worker" };
+
+    ghost names = { codes "level" ∷ codes "score" ∷ codes "mails" ∷ [] };
+
+    ghost inside = { λ v. and v.level (and v.score (and v.mails end)) };
+
+    ghost short = { refl };
+
+    ghost names_width = { refl };
+
+    ghost injective = { λ v w. ap (λ r. record { level = r.0; score = r.1.0; mails = r.1.1.0 }) };
+
+    fn name() -> &'static str {
+        "worker"
+    }
+
+    fn field_names() -> &'static [&'static str] {
+        &["level", "score", "mails"]
+    }
+
+    fn from_row(row: Self::Fields) -> Worker {
+        from_row!(row => Worker { level, score, mails })
+    }
+
+    fn row_to_sql(&self, alloc: Global, fields: &[Field], out: &mut BytesMut) -> Result<(), Fault> {
+        row!(self => level, score, mails).to_fields(alloc, fields, out)
+    }
+}
+
+/// A domain of that name and OID.
+fn domain(alloc: Global, name: &str, oid: u32, underlying: Type) -> Result<Type, Fault> {
+    user_type(alloc, name, oid, Kind::Domain(underlying), "public")
+}
+
+/// A field of that name and type.
+fn field(alloc: Global, name: &str, ty: Type) -> Result<Field, Fault> {
+    Ok(Field::new(String::from_str(alloc, name)?, ty))
+}
+
+/// The type `worker`, with the OIDs of the server whose cells stand below: of `level` 0x4010, of
+/// `percentage` 0x4008, of `email` 0x400b and of its arrays 0x400a.
+fn worker(alloc: Global) -> Result<Type, Fault> {
+    let email = domain(alloc, "email", 0x400b, Type::TEXT)?;
+    let emails = user_type(alloc, "_email", 0x400a, Kind::Array(email), "public")?;
+    let fields = vec![in alloc;
+        field(alloc, "level", super::levels::level(alloc)?)?,
+        field(
+            alloc,
+            "score",
+            domain(alloc, "percentage", 0x4008, Type::INT2)?
+        )?,
+        field(alloc, "mails", emails)?,
+    ]?;
+    user_type(alloc, "worker", 0x4014, Kind::Composite(fields), "public")
+}
+
+/// What `record_send` makes of `ROW('staff', 100, ARRAY['a@b'::email, NULL])::worker`.
+const STAFF: [u8; 66] = [
+    0, 0, 0, 3, 0, 0, 0x40, 0x10, 0, 0, 0, 5, 0x73, 0x74, 0x61, 0x66, 0x66, 0, 0, 0x40, 0x08, 0, 0,
+    0, 2, 0, 100, 0, 0, 0x40, 0x0a, 0, 0, 0, 0x1f, 0, 0, 0, 1, 0, 0, 0, 1, 0, 0, 0x40, 0x0b, 0, 0,
+    0, 2, 0, 0, 0, 1, 0, 0, 0, 3, 0x61, 0x40, 0x62, 0xff, 0xff, 0xff, 0xff,
+];
+
+#[test]
+fn fields_are_labels_and_domains(rt: HostRuntime) -> Result<(), Fail> {
+    let alloc = rt.alloc();
+    let email = Domain(Email(String::from_str(alloc, "a@b")?));
+    let staff = Worker {
+        level: Enum(Level::Staff),
+        score: Some(Domain(Percentage(100))),
+        mails: vec![in alloc; Some(email), None]?,
+    };
+    let row = (Composite(staff), STAFF.as_slice());
+    spells(alloc, &worker(alloc)?, &[row])
+}
+
+#[test]
+fn faults_of_fields_are_those_of_the_record(rt: HostRuntime) -> Result<(), Fail> {
+    let alloc = rt.alloc();
+    let mut unknown = STAFF;
+    unknown[12] = 0x53;
+    let mut more = STAFF;
+    more[26] = 101;
+    let mut other = STAFF;
+    other[20] = 0x15;
+    let faults = [
+        (None, WAS_NULL),
+        (Some(unknown.as_slice()), USER),
+        (Some(more.as_slice()), USER),
+        (Some(other.as_slice()), FIELD_OID),
+    ];
+    refuses::<Composite<Worker>>(alloc, &worker(alloc)?, &faults)
+}
