@@ -3,6 +3,7 @@ use Rattle.std.proofs.Common.{◌≡◌, ◌<◌, ◌≤◌, ◌+◌, ◌++◌, 
 use Rattle.std.proofs.Common.{Err, IfNone, IsOk, Option, refl, ap, sym, ◌∙◌, subst, arith, append_assoc, length-append}
 use Rattle.bytes.specs.Filled.{Filled}
 use Rattle.std.specs.Bool.{⊤}
+use Rattle.std.specs.List.{AllByRecursion}
 use Rattle.std.proofs.Math.Seq.{take-append_seam}
 use Rattle.std.proofs.lemmas.List.{take-append-drop, take_all}
 use Rattle.std.proofs.lemmas.Option.{slice_get_read}
@@ -16,7 +17,7 @@ use Rattle.pg_base.proofs.Concat.{concat-nil}
 use Rattle.pg_write.proofs.ElementCells.{next_cell}
 use Rattle.pg_write.specs.ArrayWriting.{element_cells, element_frame_cell, with_frame}
 use Rattle.pg_write.proofs.ParamRoom.{each_at, frames_before, frames_take, if_none_then, same_frames_len}
-use Rattle.pg_write.specs.ParamWriting.{AppendsFrameOrPart, Binds, EachIs, frame_len, frames_len}
+use Rattle.pg_write.specs.ParamWriting.{AppendsFrameOrPart, Binds, frame_len, frames_len}
 
 -- one frame more
 next_frame : (cs : List Cell) (c : Cell) (bs b : List ℕ) → frames cs ≡ Some bs → frame c ≡ Some b
@@ -60,7 +61,7 @@ module _ {A B : Type 0} (f : A × B → Wire) (xs : List A) (ys : List B) (same 
 
     -- there was no room for the frame of the parameter here, so that there was none for all
     pub no_room : {u : ⊤} (g : A × B → Wire) (P : A × B → Type 0) → ((v : A × B) → P v → f v ≡ g v)
-        → EachIs P (zip xs ys) → (start now : Filled) → KeepsCapacity start now
+        → AllByRecursion P (zip xs ys) → (start now : Filled) → KeepsCapacity start now
         → Binds f (take i (zip xs ys)) start.items now.items (Ok u) → (o : Option Refusal)
         → (P here → IfNone o (now.spare < frame_len (g here))) → IfNone o (start.spare < frames_len g (zip xs ys))
     no_room g P same all start now kept so_far o short =

@@ -3,13 +3,13 @@ use Rattle.std.proofs.Common.{◌≡◌, ◌<◌, ◌≤◌, ◌+◌, ◌++◌, 
 use Rattle.std.proofs.Common.{Bool, true, false, cond, IfNone, IsSome, Ok, Err, refl, ap, sym, ◌∙◌, subst, pos, negsuc, arith}
 use Rattle.std.proofs.Common.{length-append}
 use Rattle.std.specs.Int.{w32}
+use Rattle.std.specs.List.{AllByRecursion}
 use Rattle.bytes.specs.Filled.{Filled}
 use Rattle.pg_base.specs.Appending.{KeepsCapacity, Wire}
 use Rattle.pg_base.specs.Cells.{Cell, be, concat, fits_prefix, frame, frames}
-use Rattle.pg_base.specs.Counts.{number_width}
 use Rattle.pg_types.specs.Faults.{Outcome, Refusal}
 use Rattle.pg_write.specs.ArrayWriting.{cons_cell, element_cells, element_frame_cell, with_frame}
-use Rattle.pg_write.specs.ParamWriting.{EachIs, FrameFollows, frame_len, frames_len}
+use Rattle.pg_write.specs.ParamWriting.{FrameFollows, frame_len, frames_len}
 
 -- what follows where it is none
 pub if_none_then : {A B : Type 0} (o : Option Refusal) → (A → B) → IfNone o A → IfNone o B
@@ -23,14 +23,14 @@ with_room (Some r) len room h k = refl
 
 module _ {A : Type 0} where
   -- what holds of each holds of one
-  pub each_at : (P : A → Type 0) (vs : List A) (i : ℕ) (v : A) → i < length vs → v ≡ get_or vs i v → EachIs P vs → P v
+  pub each_at : (P : A → Type 0) (vs : List A) (i : ℕ) (v : A) → i < length vs → v ≡ get_or vs i v → AllByRecursion P vs → P v
   each_at P [] i v h e all = let no : ⊥ = omega (arith, h) in absurd no
   each_at P (x ∷ xs) zero v h e all = subst P (sym e) all.0
   each_at P (x ∷ xs) (suc i) v h e all = each_at P xs i v (omega (arith, h)) e all.1
 
   -- written forms that are the same take the same room
   pub same_frames_len : (f g : A → Wire) (P : A → Type 0) → ((v : A) → P v → f v ≡ g v) → (vs : List A)
-      → EachIs P vs → frames_len f vs ≡ frames_len g vs
+      → AllByRecursion P vs → frames_len f vs ≡ frames_len g vs
   same_frames_len f g P same [] all = refl
   same_frames_len f g P same (v ∷ vs) all = rw (same v all.0, same_frames_len f g P same vs all.1) refl
 

@@ -48,11 +48,6 @@ frames_len wire (v ∷ vs) = frame_len (wire v) + frames_len wire vs
 abbrev pub HadNoRoom : ℕ → ℕ → Fault → Type 0
 HadNoRoom len room f = IfNone (refusal_of f) (room < len)
 
--- it holds of each of the values
-abbrev pub EachIs : {A : Type 0} → (A → Type 0) → List A → Type 0
-EachIs P [] = Unit {0}
-EachIs P (v ∷ vs) = P v × EachIs P vs
-
 -- what stands after the place n and the bytes of a length got its length at n; or it has no frame
 abbrev pub FramesFrom : ℕ → List ℕ → List ℕ → Result ⊤ Fault → Type 0
 FramesFrom n old new (Ok done) = (b : List ℕ) × (frame (Some (drop (n + number_width) old)) ≡ Some b)

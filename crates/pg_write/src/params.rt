@@ -1,11 +1,12 @@
 //! Writing parameters of any types: the frames of a Bind message.
 ghost use Rattle.std.specs.Prelude.{◌≡◌, ◌≤◌, ◌+◌, ◌++◌, IfErr, IfOk, IsSome, IsTrue, drop, length, take, zip};
 ghost use Rattle.std.specs.Int.{to_be_bytes, w32};
+ghost use Rattle.std.specs.List.{AllByRecursion};
 ghost use Rattle.pg_base.specs.Appending.{KeepsCapacity};
 ghost use Rattle.pg_types.specs.Content.{content};
 ghost use Rattle.pg_types.specs.Faults.{NeverMemory, refusal_of};
 ghost use Rattle.pg_write.specs.ParamWriting.{AppendsFrame, AppendsFrameOrPart, Binds, FramesFrom};
-ghost use Rattle.pg_write.specs.ParamWriting.{EachIs, HadNoRoom, frame_len, frames_len};
+ghost use Rattle.pg_write.specs.ParamWriting.{HadNoRoom, frame_len, frames_len};
 ghost use Rattle.pg_write.specs.Writing.{Writes, checked};
 
 use crate::to_sql::ToSql;
@@ -25,6 +26,10 @@ const LEN: usize = 4;
 ///
 /// A refusal is that of its checked writing, or `Transmit` where its cell passes 2,147,483,647
 /// bytes. It leaves the buffer's bytes as they were, `Memory` too.
+///
+/// The buffer's capacity never shrinks, and `Ok` takes no more of its room than the frame has bytes.
+/// Where the buffer has room for the frame, a value that is written by room (`by_room`) is never
+/// refused with `Memory`.
 #[tactic(auto, using(crate::proofs::ParamRoom::follows_takes, crate::proofs::ParamRoom::with_room))]
 pub fn frame_value<T: ToSql>(
     alloc: Global,
@@ -84,6 +89,9 @@ fn value_to_sql<T: ToSql>(
 /// The lists are of one length. A refusal names the place, counted from 0, of the first parameter
 /// that is refused: with the fault of its checked writing, or `Transmit` where its cell passes
 /// 2,147,483,647 bytes. It leaves the buffer's bytes as they were, `Memory` too.
+///
+/// The buffer's capacity never shrinks. Where the buffer has room for all the frames, values that are
+/// written by room (`by_room`) are never refused with `Memory`.
 pub fn params_to_sql(
     alloc: Global,
     params: &[Box<dyn ToSql>],
@@ -94,7 +102,7 @@ pub fn params_to_sql(
     ensures frames { Binds (λ p. checked (ToSql-box p.0).ToSql.accepted (ToSql-box p.0).ToSql.name
         (ToSql-box p.0).ToSql.wire (content p.1) p.0.value)
         (zip params.now types.now) out.old.items out.new.items result }
-    ensures room { EachIs (λ p. (ToSql-box p.0).ToSql.by_room p.0.value
+    ensures room { AllByRecursion (λ p. (ToSql-box p.0).ToSql.by_room p.0.value
         × IsTrue ((ToSql-box p.0).ToSql.accepted (content p.1))) (zip params.now types.now)
         → frames_len (λ p. (ToSql-box p.0).ToSql.wire (content p.1) p.0.value) (zip params.now types.now)
         ≤ out.old.spare → IfErr result (λ e. IsSome (refusal_of e.1)) }

@@ -41,7 +41,7 @@ pub trait ToSql: fmt::Debug + Drop {
 
     /// Appends the bytes of the value's cell, without its length, and answers [`IsNull::No`]; where
     /// the value is NULL it appends nothing and answers [`IsNull::Yes`]. The type must be accepted.
-    /// An error leaves the buffer's bytes as they were.
+    /// An error leaves the buffer's bytes as they were, and the buffer's capacity never shrinks.
     fn to_sql(&self, alloc: Global, ty: &PgType, out: &mut BytesMut) -> Result<IsNull, Fault>
     where
         Self: Sized,
