@@ -1,6 +1,6 @@
 //! Domains: one with a constraint, and one whose constraint is the server's to check.
 ghost use Rattle.std.specs.Prelude.{◌&&◌};
-ghost use Rattle.postgres_types.specs.Conversion.{ap, codes, int_le, pos, refl, user};
+ghost use Rattle.postgres_types.specs.Conversion.{codes, int_le, pos, refl, user};
 
 use postgres_types::Fault;
 use postgres_types::newtype::{FromNewtype, Newtype};
@@ -44,7 +44,7 @@ impl Newtype for Percentage {
 }
 
 impl<'a> FromNewtype<'a> for Percentage {
-    ghost respects = { λ v w h. ap Percentage.meets h };
+    ghost respects = { λ v w h. rw h refl };
 }
 
 /// `CREATE DOMAIN email AS text CHECK (VALUE LIKE '%@%')`.

@@ -1,6 +1,6 @@
 //! Domains by `Newtype`: `percentage` over INT2, `email` over TEXT, a domain over a domain and one over an
 //! enumerated type.
-ghost use Rattle.postgres_types.specs.Conversion.{ap, codes, int_le, pos, refl, user};
+ghost use Rattle.postgres_types.specs.Conversion.{codes, int_le, pos, refl, user};
 
 use own_types::domain::{Email, Percentage};
 use own_types::enumerated::Level;
@@ -53,7 +53,7 @@ impl Newtype for Passed {
 }
 
 impl<'a> FromNewtype<'a> for Passed {
-    ghost respects = { λ v w h. ap (int_le (pos 50)) h };
+    ghost respects = { λ v w h. rw h refl };
 }
 
 /// `CREATE DOMAIN rank AS level`.

@@ -70,7 +70,7 @@ fn field(alloc: Global, name: &str, ty: Type) -> Result<Field, Fault> {
 
 /// The type `worker`, with the OIDs of the server whose cells stand below: of `level` 0x4010, of
 /// `percentage` 0x4008, of `email` 0x400b and of its arrays 0x400a.
-fn worker(alloc: Global) -> Result<Type, Fault> {
+fn worker_type(alloc: Global) -> Result<Type, Fault> {
     let email = domain(alloc, "email", 0x400b, Type::TEXT)?;
     let emails = user_type(alloc, "_email", 0x400a, Kind::Array(email), "public")?;
     let fields = vec![in alloc;
@@ -102,7 +102,7 @@ fn fields_are_labels_and_domains(rt: HostRuntime) -> Result<(), Fail> {
         mails: vec![in alloc; Some(email), None]?,
     };
     let row = (Composite(staff), STAFF.as_slice());
-    spells(alloc, &worker(alloc)?, &[row])
+    spells(alloc, &worker_type(alloc)?, &[row])
 }
 
 #[test]
@@ -120,5 +120,5 @@ fn faults_of_fields_are_those_of_the_record(rt: HostRuntime) -> Result<(), Fail>
         (Some(more.as_slice()), USER),
         (Some(other.as_slice()), FIELD_OID),
     ];
-    refuses::<Composite<Worker>>(alloc, &worker(alloc)?, &faults)
+    refuses::<Composite<Worker>>(alloc, &worker_type(alloc)?, &faults)
 }
