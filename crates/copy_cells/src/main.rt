@@ -69,7 +69,7 @@ fn help(rt: &HostRuntime) -> Result<()> {
 fn names(alloc: Global, has_arrays: bool) -> Result<String> {
     let mut names = String::new(alloc);
     let mut width: usize = 0;
-    for base in Base::ALL {
+    for &base in Base::ALL {
         if !Program::Copy.knows(base) || base.has_arrays() != has_arrays {
             continue;
         }

@@ -68,7 +68,8 @@ macro_rules! base_names {
                 Text "text" [String, TEXT, TEXT_ARRAY],
                 Time "time" [jiff::civil::Time, TIME, TIME_ARRAY],
                 Timestamp "timestamp" [jiff::civil::DateTime, TIMESTAMP, TIMESTAMP_ARRAY],
-                TimestampInf "timestamp_inf" [postgres_types::Timestamp<jiff::civil::DateTime>, TIMESTAMP, TIMESTAMP_ARRAY],
+                TimestampInf "timestamp_inf"
+                    [postgres_types::Timestamp<jiff::civil::DateTime>, TIMESTAMP, TIMESTAMP_ARRAY],
                 Timestamptz "timestamptz" [jiff::Timestamp, TIMESTAMPTZ, TIMESTAMPTZ_ARRAY],
             }
             b'u' {
@@ -213,7 +214,7 @@ impl Program {
 
 impl Base {
     /// All of them, in alphabetical order.
-    pub const ALL: [Base; 38] = base_names!(all());
+    pub const ALL: &'static [Base] = &base_names!(all());
 
     /// Whether it has arrays.
     pub fn has_arrays(self) -> bool

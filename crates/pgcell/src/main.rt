@@ -35,7 +35,7 @@ fn main(rt: HostRuntime) -> ExitCode {
 
 /// Prints the names of each base name that pgcell knows.
 fn print_names<W: Write>(output: &mut W) -> io::Result<()> {
-    for base in Base::ALL {
+    for &base in Base::ALL {
         if !Program::Pgcell.knows(base) {
             continue;
         }

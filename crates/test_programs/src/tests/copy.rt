@@ -1,15 +1,22 @@
 //! Tests of COPY in both directions, by streams in memory.
 
+mod bits;
+mod bytea;
 mod calendar;
 mod command_lines;
 mod dates;
 mod failing_streams;
+mod hstore;
+mod intervals;
+mod json;
 mod lines;
+mod lsn;
+mod network;
 mod numbers;
-mod small_values;
 mod texts;
 mod tuples;
 mod user_types;
+mod uuids;
 
 use super::fake_streams::{Disturbed, Narrow, Pieces, ROOM};
 use pg_copy::arguments::{Request, parse};
@@ -157,24 +164,4 @@ fn have_no_values(alloc: Global, rows: &[(&str, &[u8])]) -> Result<(), Fail> {
         outcome.is(HEADER, "line 1, column 1: no value of its type")?;
     }
     Ok(())
-}
-
-#[test]
-fn numbers_have_the_servers_texts(rt: HostRuntime) -> Result<(), Fail> {
-    spell(rt.alloc(), numbers::NUMBERS)
-}
-
-#[test]
-fn texts_have_the_servers_texts(rt: HostRuntime) -> Result<(), Fail> {
-    spell(rt.alloc(), texts::TEXTS)
-}
-
-#[test]
-fn small_values_have_the_servers_texts(rt: HostRuntime) -> Result<(), Fail> {
-    spell(rt.alloc(), small_values::SMALL_VALUES)
-}
-
-#[test]
-fn dates_have_the_servers_texts(rt: HostRuntime) -> Result<(), Fail> {
-    spell(rt.alloc(), dates::DATES)
 }

@@ -1,9 +1,10 @@
 //! Cells and texts from PostgreSQL 15.18, as `COPY .. TO STDOUT` in both formats gave them.
 
-use super::Row;
+use super::{Row, have_no_values, spell};
+use std::test::Fail;
 
-/// Dates, times of day, timestamps and intervals.
-pub const DATES: &[Row] = &[
+/// Dates, times of day and timestamps.
+const DATES: &[Row] = &[
     ("date", Some(b"\x00\x00\x00\x00"), b"2000-01-01"),
     ("date", Some(b"\xff\xff\xd53"), b"1970-01-01"),
     ("date", Some(b"\x00\x00\x00;"), b"2000-02-29"),
@@ -183,118 +184,34 @@ pub const DATES: &[Row] = &[
         Some(b"\x7f\xff\xff[\xb3\xb2\x9f\xff"),
         b"294276-12-31 23:59:59.999999",
     ),
-    (
-        "interval",
-        Some(b"\x00\x00\x00\x00\x00\x00\x00\x00\x00\x00\x00\x00\x00\x00\x00\x00"),
-        b"00:00:00",
-    ),
-    (
-        "interval",
-        Some(b"\x00\x00\x00\x03l\x97\xca\x88\xff\xff\xff\xfd\x00\x00\x00\x0e"),
-        b"1 year 2 mons -3 days +04:05:06.789",
-    ),
-    (
-        "interval",
-        Some(b"\x00\x00\x00\x00\x00\x00\x00\x00\x00\x00\x00\x00\x7f\xff\xff\xff"),
-        b"178956970 years 7 mons",
-    ),
-    (
-        "interval",
-        Some(b"\x00\x00\x00\x00\x00\x00\x00\x00\x00\x00\x00\x00\x80\x00\x00\x00"),
-        b"-178956970 years -8 mons",
-    ),
-    (
-        "interval",
-        Some(b"\x00\x00\x00\x00\x00\x00\x00\x00\xff\xff\xff\xff\x00\x00\x00\x01"),
-        b"1 mon -1 days",
-    ),
-    (
-        "interval",
-        Some(b"\x00\x00\x00\x00\x00\x16\xe3`\x00\x00\x00\x01\xff\xff\xff\xff"),
-        b"-1 mons +1 day 00:00:01.5",
-    ),
-    (
-        "interval",
-        Some(b"\x00\x00\x00\x00\xd6\x93\xa4\x00\xff\xff\xff\xff\x00\x00\x00\x00"),
-        b"-1 days +01:00:00",
-    ),
-    (
-        "interval",
-        Some(b"\x80\x00\x00\x00\x00\x00\x00\x01\x00\x00\x00\x00\x00\x00\x00\x00"),
-        b"-2562047788:00:54.775807",
-    ),
-    (
-        "interval",
-        Some(b"\x7f\xff\xff\xff\xff\xff\xff\xff\x00\x00\x00\x00\x00\x00\x00\x00"),
-        b"2562047788:00:54.775807",
-    ),
-    (
-        "interval",
-        Some(b"\xff\xff\xff\xff\xff\xf8^\xe0\x00\x00\x00\x01\x00\x00\x00\x00"),
-        b"1 day -00:00:00.5",
-    ),
-    (
-        "interval",
-        Some(b"\x00\x00\x00\x00\x00\x00\x00\x00\x00\x00\x00\x00\xff\xff\xff\xf6"),
-        b"-10 mons",
-    ),
-    (
-        "interval",
-        Some(b"\x00\x00\x00\x00\x00\x00\x00\x00\x00\x00\x00\x00\xff\xff\xff\xff"),
-        b"-1 mons",
-    ),
-    (
-        "interval",
-        Some(b"\x00\x00\x00\x00\x00\x00\x00\x00\x00\x00\x00\x00\x00\x00\x00\x0c"),
-        b"1 year",
-    ),
-    (
-        "interval",
-        Some(b"\x00\x00\x00\x00\x00\x00\x00\x00\x00\x00\x00\x00\xff\xff\xff\xf4"),
-        b"-1 years",
-    ),
-    (
-        "interval",
-        Some(b"\x00\x00\x00\x00\x00\x00\x00\x00\x80\x00\x00\x00\x00\x00\x00\x00"),
-        b"-2147483648 days",
-    ),
-    (
-        "interval",
-        Some(b"\x00\x00\x00\x00\x00\x00\x00\x00\x7f\xff\xff\xff\x00\x00\x00\x00"),
-        b"2147483647 days",
-    ),
-    (
-        "interval",
-        Some(b"\x00\x00\x00\x00\x00\x00\x00\x01\x00\x00\x00\x00\x00\x00\x00\x00"),
-        b"00:00:00.000001",
-    ),
-    (
-        "interval",
-        Some(b"\xff\xff\xff\xff\xff\xff\xff\xff\x00\x00\x00\x00\x00\x00\x00\x00"),
-        b"-00:00:00.000001",
-    ),
-    (
-        "interval",
-        Some(b"\x00\x00\x00\x00\x00\x00\x00\x00\x00\x00\x00\x01\x00\x00\x00\x00"),
-        b"1 day",
-    ),
-    (
-        "interval",
-        Some(b"\xff\xff\xff\xff\xff\xf0\xbd\xc0\x00\x00\x00\x02\x00\x00\x00\x00"),
-        b"2 days -00:00:01",
-    ),
-    (
-        "interval",
-        Some(b"\x00\x00\x00\x00\x00\x0fB@\xff\xff\xff\xff\x00\x00\x00\x0c"),
-        b"1 year -1 days +00:00:01",
-    ),
-    (
-        "interval[]",
-        Some(
-            b"\x00\x00\x00\x01\x00\x00\x00\x00\x00\x00\x04\xa2\x00\x00\x00\x02\x00\x00\x00\x01\
-              \x00\x00\x00\x10\x00\x00\x00\x00\x00\x00\x00\x00\x00\x00\x00\x00\x00\x00\x00\x00\
-              \x00\x00\x00\x10\x00\x00\x00\x00\x00\x00\x00\x00\x00\x00\x00\x01\x00\x00\x00\x00",
-        ),
-        b"{00:00:00,\"1 day\"}",
-    ),
 ];
+
+/// Texts that are none.
+const NO_VALUES: &[(&str, &[u8])] = &[
+    ("date", b"2000-02-30"),
+    ("date", b"0000-01-01"),
+    ("date", b"2000-01-01 AD"),
+    ("date", b"10000-01-01"),
+    ("date", b"infinity"),
+    ("date_inf", b"inf"),
+    ("time", b"24:00:00"),
+    ("time", b"12:00"),
+    ("time", b"12:00:00."),
+    ("time", b"12:00:00.1234567"),
+    ("timestamp", b"2000-01-01"),
+    ("timestamp", b"2000-01-01 00:00:60"),
+    ("timestamptz", b"2000-01-01 00:00:00"),
+    ("timestamptz", b"2000-01-01 00:00:00+01"),
+    ("unix", b"400000-01-01 00:00:00"),
+    ("unix", b"2000-01-01 00:00:00 BC x"),
+];
+
+#[test]
+fn dates_have_the_servers_texts(rt: HostRuntime) -> Result<(), Fail> {
+    spell(rt.alloc(), DATES)
+}
+
+#[test]
+fn other_texts_are_no_dates(rt: HostRuntime) -> Result<(), Fail> {
+    have_no_values(rt.alloc(), NO_VALUES)
+}

@@ -104,47 +104,8 @@ fn other_escapes_are_refused(rt: HostRuntime) -> Result<(), Fail> {
     Ok(())
 }
 
-/// Texts that are no values of these types.
-const NO_VALUES: &[(&str, &[u8])] = &[
-    ("bool", b"yes"),
-    ("char", b"ab"),
-    ("char", b"\\\\400"),
-    ("int2", b"32768"),
-    ("int4", b"1 "),
-    ("oid", b"-1"),
-    ("bytea", b"abc"),
-    ("bytea", b"\\\\xabc"),
-    ("bytea", b"\\\\xgg"),
-    ("bit", b"12"),
-    ("uuid", b"a0eebc99"),
-    ("pg_lsn", b"0"),
-    ("macaddr", b"08:00:2b:01:02"),
-    ("macaddr", b"08:00:2b:01:02:0g"),
-    ("inet", b"1.2.3"),
-    ("inet", b"1.2.3.4/x"),
-    ("addr", b"1.2.3.4/8"),
-    ("date", b"2000-02-30"),
-    ("date", b"0000-01-01"),
-    ("date", b"2000-01-01 AD"),
-    ("date", b"10000-01-01"),
-    ("date", b"infinity"),
-    ("date_inf", b"inf"),
-    ("time", b"24:00:00"),
-    ("time", b"12:00"),
-    ("time", b"12:00:00."),
-    ("time", b"12:00:00.1234567"),
-    ("timestamp", b"2000-01-01"),
-    ("timestamp", b"2000-01-01 00:00:60"),
-    ("timestamptz", b"2000-01-01 00:00:00"),
-    ("timestamptz", b"2000-01-01 00:00:00+01"),
-    ("unix", b"400000-01-01 00:00:00"),
-    ("unix", b"2000-01-01 00:00:00 BC x"),
-    ("interval", b""),
-    ("interval", b"1 week"),
-    ("interval", b"1 year 1 mon 1 day 00:00:00 1 year"),
-    ("interval", b"200000000 years"),
-    ("interval", b"00:60:00"),
-    ("json", b"{"),
+/// Texts that are no arrays of these types.
+const NO_ARRAYS: &[(&str, &[u8])] = &[
     ("int4[]", b""),
     ("int4[]", b"{1"),
     ("int4[]", b"{1,}"),
@@ -155,16 +116,11 @@ const NO_VALUES: &[(&str, &[u8])] = &[
     ("text[]", b"{\"a}"),
     ("text[]", b"{\"a\"b}"),
     ("text[]", b"{a b}"),
-    ("int2vector", b"1  2"),
-    ("hstore", b"a=>1"),
-    ("hstore", b"\"a\""),
-    ("hstore", b"\"a\"=>\"1\","),
-    ("hstore", b"\"a\"=>\"1"),
 ];
 
 #[test]
-fn texts_that_are_no_values_are_refused(rt: HostRuntime) -> Result<(), Fail> {
-    have_no_values(rt.alloc(), NO_VALUES)
+fn texts_that_are_no_arrays_are_refused(rt: HostRuntime) -> Result<(), Fail> {
+    have_no_values(rt.alloc(), NO_ARRAYS)
 }
 
 /// Texts that a conversion refuses, with its fault.

@@ -1,9 +1,10 @@
 //! Cells and texts from PostgreSQL 15.18, as `COPY .. TO STDOUT` in both formats gave them.
 
-use super::Row;
+use super::{Row, have_no_values, spell};
+use std::test::Fail;
 
 /// Numbers and booleans.
-pub const NUMBERS: &[Row] = &[
+const NUMBERS: &[Row] = &[
     ("bool", Some(b"\x01"), b"t"),
     ("bool", Some(b"\x00"), b"f"),
     ("bool", None, b"\\N"),
@@ -121,3 +122,24 @@ pub const NUMBERS: &[Row] = &[
         b"1 4294967295",
     ),
 ];
+
+/// Texts that are none.
+const NO_VALUES: &[(&str, &[u8])] = &[
+    ("bool", b"yes"),
+    ("char", b"ab"),
+    ("char", b"\\\\400"),
+    ("int2", b"32768"),
+    ("int4", b"1 "),
+    ("oid", b"-1"),
+    ("int2vector", b"1  2"),
+];
+
+#[test]
+fn numbers_have_the_servers_texts(rt: HostRuntime) -> Result<(), Fail> {
+    spell(rt.alloc(), NUMBERS)
+}
+
+#[test]
+fn other_texts_are_no_numbers(rt: HostRuntime) -> Result<(), Fail> {
+    have_no_values(rt.alloc(), NO_VALUES)
+}

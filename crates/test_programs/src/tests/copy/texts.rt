@@ -1,9 +1,10 @@
 //! Cells and texts from PostgreSQL 15.18, as `COPY .. TO STDOUT` in both formats gave them.
 
-use super::Row;
+use super::{Row, spell};
+use std::test::Fail;
 
-/// Texts, bytes, maps and documents.
-pub const TEXTS: &[Row] = &[
+/// Texts.
+const TEXTS: &[Row] = &[
     ("text", Some(b""), b""),
     ("text", Some(b"a"), b"a"),
     ("text", Some(b"a b"), b"a b"),
@@ -46,50 +47,9 @@ pub const TEXTS: &[Row] = &[
         ),
         b"{\"\\t\",\"\\n\",\"\\v\",\"\\f\",\"\\r\",\\b,\" \",\"x \"}",
     ),
-    ("bytea", Some(b""), b"\\\\x"),
-    ("bytea", Some(b"\x00\xff\\"), b"\\\\x00ff5c"),
-    ("bytea", Some(b"ab"), b"\\\\x6162"),
-    (
-        "bytea[]",
-        Some(
-            b"\x00\x00\x00\x01\x00\x00\x00\x01\x00\x00\x00\x11\x00\x00\x00\x03\x00\x00\x00\x01\
-              \x00\x00\x00\x00\x00\x00\x00\x02\x00\xff\xff\xff\xff\xff",
-        ),
-        b"{\"\\\\\\\\x\",\"\\\\\\\\x00ff\",NULL}",
-    ),
-    ("hstore", Some(b"\x00\x00\x00\x00"), b""),
-    (
-        "hstore",
-        Some(b"\x00\x00\x00\x01\x00\x00\x00\x01a\x00\x00\x00\x011"),
-        b"\"a\"=>\"1\"",
-    ),
-    (
-        "hstore",
-        Some(
-            b"\x00\x00\x00\x03\x00\x00\x00\x01a\xff\xff\xff\xff\x00\x00\x00\x01c\x00\x00\x00\x00\
-              \x00\x00\x00\x02bb\x00\x00\x00\x012",
-        ),
-        b"\"a\"=>NULL, \"c\"=>\"\", \"bb\"=>\"2\"",
-    ),
-    (
-        "hstore",
-        Some(b"\x00\x00\x00\x01\x00\x00\x00\x03q\"\\\x00\x00\x00\x04 ,=>"),
-        b"\"q\\\\\"\\\\\\\\\"=>\" ,=>\"",
-    ),
-    (
-        "json",
-        Some(b"{\"a\":[1,\"x\",null,true]}"),
-        b"{\"a\":[1,\"x\",null,true]}",
-    ),
-    ("json", Some(b"[]"), b"[]"),
-    ("json", Some(b"\"\xc3\xa9\""), b"\"\xc3\xa9\""),
-    ("json", Some(b"-5"), b"-5"),
-    (
-        "json[]",
-        Some(
-            b"\x00\x00\x00\x01\x00\x00\x00\x01\x00\x00\x00r\x00\x00\x00\x02\x00\x00\x00\x01\
-              \x00\x00\x00\x07{\"a\":1}\xff\xff\xff\xff",
-        ),
-        b"{\"{\\\\\"a\\\\\":1}\",NULL}",
-    ),
 ];
+
+#[test]
+fn texts_have_the_servers_texts(rt: HostRuntime) -> Result<(), Fail> {
+    spell(rt.alloc(), TEXTS)
+}

@@ -1,45 +1,10 @@
 //! Cells and texts from PostgreSQL 15.18, as `COPY .. TO STDOUT` in both formats gave them.
 
-use super::Row;
+use super::{Row, have_no_values, spell};
+use std::test::Fail;
 
-/// Bits, identifiers and addresses.
-pub const SMALL_VALUES: &[Row] = &[
-    ("bit", Some(b"\x00\x00\x00\x01\x80"), b"1"),
-    ("bit", Some(b"\x00\x00\x00\x09\xaa\x80"), b"101010101"),
-    ("varbit", Some(b"\x00\x00\x00\x00"), b""),
-    ("varbit", Some(b"\x00\x00\x00\x01\x00"), b"0"),
-    ("varbit", Some(b"\x00\x00\x00\x08\xff"), b"11111111"),
-    ("varbit", Some(b"\x00\x00\x00\x09\x00\x80"), b"000000001"),
-    (
-        "varbit[]",
-        Some(
-            b"\x00\x00\x00\x01\x00\x00\x00\x01\x00\x00\x06\x1a\x00\x00\x00\x03\x00\x00\x00\x01\
-              \x00\x00\x00\x04\x00\x00\x00\x00\x00\x00\x00\x05\x00\x00\x00\x01\x80\xff\xff\xff\xff",
-        ),
-        b"{\"\",1,NULL}",
-    ),
-    (
-        "uuid",
-        Some(b"\xa0\xee\xbc\x99\x9c\x0bN\xf8\xbbmk\xb9\xbd8\x0a\x11"),
-        b"a0eebc99-9c0b-4ef8-bb6d-6bb9bd380a11",
-    ),
-    (
-        "uuid",
-        Some(b"\x00\x00\x00\x00\x00\x00\x00\x00\x00\x00\x00\x00\x00\x00\x00\x00"),
-        b"00000000-0000-0000-0000-000000000000",
-    ),
-    ("pg_lsn", Some(b"\x00\x00\x00\x00\x00\x00\x00\x00"), b"0/0"),
-    (
-        "pg_lsn",
-        Some(b"\x00\x00\x00\x16\xb3t\xd8H"),
-        b"16/B374D848",
-    ),
-    (
-        "pg_lsn",
-        Some(b"\xff\xff\xff\xff\xff\xff\xff\xff"),
-        b"FFFFFFFF/FFFFFFFF",
-    ),
-    ("pg_lsn", Some(b"\x00\x00\x00\x00\x00\x00\x00\x0a"), b"0/A"),
+/// Addresses, networks and MAC addresses.
+const ADDRESSES: &[Row] = &[
     (
         "macaddr",
         Some(b"\x08\x00+\x01\x02\x03"),
@@ -232,3 +197,22 @@ pub const SMALL_VALUES: &[Row] = &[
         b"::ffff:1.2.3.4/128",
     ),
 ];
+
+/// Texts that are none.
+const NO_VALUES: &[(&str, &[u8])] = &[
+    ("macaddr", b"08:00:2b:01:02"),
+    ("macaddr", b"08:00:2b:01:02:0g"),
+    ("inet", b"1.2.3"),
+    ("inet", b"1.2.3.4/x"),
+    ("addr", b"1.2.3.4/8"),
+];
+
+#[test]
+fn addresses_have_the_servers_texts(rt: HostRuntime) -> Result<(), Fail> {
+    spell(rt.alloc(), ADDRESSES)
+}
+
+#[test]
+fn other_texts_are_no_addresses(rt: HostRuntime) -> Result<(), Fail> {
+    have_no_values(rt.alloc(), NO_VALUES)
+}

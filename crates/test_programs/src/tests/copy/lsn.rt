@@ -1,0 +1,33 @@
+//! Cells and texts from PostgreSQL 15.18, as `COPY .. TO STDOUT` in both formats gave them.
+
+use super::{Row, have_no_values, spell};
+use std::test::Fail;
+
+/// Log positions.
+const POSITIONS: &[Row] = &[
+    ("pg_lsn", Some(b"\x00\x00\x00\x00\x00\x00\x00\x00"), b"0/0"),
+    (
+        "pg_lsn",
+        Some(b"\x00\x00\x00\x16\xb3t\xd8H"),
+        b"16/B374D848",
+    ),
+    (
+        "pg_lsn",
+        Some(b"\xff\xff\xff\xff\xff\xff\xff\xff"),
+        b"FFFFFFFF/FFFFFFFF",
+    ),
+    ("pg_lsn", Some(b"\x00\x00\x00\x00\x00\x00\x00\x0a"), b"0/A"),
+];
+
+/// Texts that are none.
+const NO_VALUES: &[(&str, &[u8])] = &[("pg_lsn", b"0")];
+
+#[test]
+fn positions_have_the_servers_texts(rt: HostRuntime) -> Result<(), Fail> {
+    spell(rt.alloc(), POSITIONS)
+}
+
+#[test]
+fn other_texts_are_no_positions(rt: HostRuntime) -> Result<(), Fail> {
+    have_no_values(rt.alloc(), NO_VALUES)
+}

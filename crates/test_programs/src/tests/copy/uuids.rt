@@ -1,0 +1,31 @@
+//! Cells and texts from PostgreSQL 15.18, as `COPY .. TO STDOUT` in both formats gave them.
+
+use super::{Row, have_no_values, spell};
+use std::test::Fail;
+
+/// UUIDs.
+const UUIDS: &[Row] = &[
+    (
+        "uuid",
+        Some(b"\xa0\xee\xbc\x99\x9c\x0bN\xf8\xbbmk\xb9\xbd8\x0a\x11"),
+        b"a0eebc99-9c0b-4ef8-bb6d-6bb9bd380a11",
+    ),
+    (
+        "uuid",
+        Some(b"\x00\x00\x00\x00\x00\x00\x00\x00\x00\x00\x00\x00\x00\x00\x00\x00"),
+        b"00000000-0000-0000-0000-000000000000",
+    ),
+];
+
+/// Texts that are none.
+const NO_VALUES: &[(&str, &[u8])] = &[("uuid", b"a0eebc99")];
+
+#[test]
+fn uuids_have_the_servers_texts(rt: HostRuntime) -> Result<(), Fail> {
+    spell(rt.alloc(), UUIDS)
+}
+
+#[test]
+fn other_texts_are_no_uuids(rt: HostRuntime) -> Result<(), Fail> {
+    have_no_values(rt.alloc(), NO_VALUES)
+}
