@@ -16,10 +16,10 @@ fn enumerated(alloc: Global, name: &str, labels: &[&str]) -> Result<Type, Fault>
     for label in labels {
         texts.push(String::from_str(alloc, label)?)?;
     }
-    user_type(alloc, name, 0x4010, Kind::Enum(texts), "public")
+    user_type(alloc, name, 0x4001, Kind::Enum(texts), "public")
 }
 
-/// The type `level`, whose OID is 0x4010.
+/// The type `level`, whose OID is 0x4001.
 pub fn level(alloc: Global) -> Result<Type, Fault> {
     enumerated(alloc, "level", &["junior", "senior", "staff"])
 }
@@ -78,7 +78,7 @@ fn other_cells_are_refused(rt: HostRuntime) -> Result<(), Fail> {
 
 /// An array of `staff` and NULL.
 const STAFF_AND_NULL: [u8; 33] = [
-    0, 0, 0, 1, 0, 0, 0, 1, 0, 0, 0x40, 0x10, 0, 0, 0, 2, 0, 0, 0, 1, 0, 0, 0, 5, 0x73, 0x74, 0x61,
+    0, 0, 0, 1, 0, 0, 0, 1, 0, 0, 0x40, 1, 0, 0, 0, 2, 0, 0, 0, 1, 0, 0, 0, 5, 0x73, 0x74, 0x61,
     0x66, 0x66, 0xff, 0xff, 0xff, 0xff,
 ];
 

@@ -15,46 +15,51 @@ use std::test::Fail;
 use test_support::code::{FIELD_OID, USER, WAS_NULL};
 use test_support::{refuses, spells, user_type};
 
-/// `CREATE TYPE worker AS (level level, score percentage, mails email[])`.
+/// `CREATE TYPE worker AS (name text, level level, score percentage, mails email[])`.
 #[derive(Debug, PartialEq, Drop)]
 struct Worker {
+    name: String,
     level: Enum<Level>,
     score: Option<Domain<Percentage>>,
     mails: Vec<Option<Domain<Email>>>,
 }
 
+type Mails = And<Vec<Option<Domain<Email>>>, End>;
+
 impl Record for Worker {
-    type Fields = And<
-        Enum<Level>,
-        And<Option<Domain<Percentage>>, And<Vec<Option<Domain<Email>>>, End>>,
-    >;
+    type Fields = And<String, And<Enum<Level>, And<Option<Domain<Percentage>>, Mails>>>;
 
     ghost type_name = { codes "worker" };
 
-    ghost names = { codes "level" ∷ codes "score" ∷ codes "mails" ∷ [] };
+    ghost names = { codes "name" ∷ codes "level" ∷ codes "score" ∷ codes "mails" ∷ [] };
 
-    ghost inside = { λ v. and v.level (and v.score (and v.mails end)) };
+    ghost inside = { λ v. and v.name (and v.level (and v.score (and v.mails end))) };
 
     ghost short = { refl };
 
     ghost names_width = { refl };
 
-    ghost injective = { λ v w. ap (λ r. record { level = r.0; score = r.1.0; mails = r.1.1.0 }) };
+    ghost injective = { λ v w. ap (λ r. record {
+      name = r.0;
+      level = r.1.0;
+      score = r.1.1.0;
+      mails = r.1.1.1.0;
+    }) };
 
     fn name() -> &'static str {
         "worker"
     }
 
     fn field_names() -> &'static [&'static str] {
-        &["level", "score", "mails"]
+        &["name", "level", "score", "mails"]
     }
 
     fn from_row(row: Self::Fields) -> Worker {
-        from_row!(row => Worker { level, score, mails })
+        from_row!(row => Worker { name, level, score, mails })
     }
 
     fn row_to_sql(&self, alloc: Global, fields: &[Field], out: &mut BytesMut) -> Result<(), Fault> {
-        row!(self => level, score, mails).to_fields(alloc, fields, out)
+        row!(self => name, level, score, mails).to_fields(alloc, fields, out)
     }
 }
 
@@ -68,12 +73,13 @@ fn field(alloc: Global, name: &str, ty: Type) -> Result<Field, Fault> {
     Ok(Field::new(String::from_str(alloc, name)?, ty))
 }
 
-/// The type `worker`, with the OIDs of the server whose cells stand below: of `level` 0x4010, of
+/// The type `worker`, with the OIDs of the server whose cells stand below: of `level` 0x4001, of
 /// `percentage` 0x4008, of `email` 0x400b and of its arrays 0x400a.
 fn worker_type(alloc: Global) -> Result<Type, Fault> {
     let email = domain(alloc, "email", 0x400b, Type::TEXT)?;
     let emails = user_type(alloc, "_email", 0x400a, Kind::Array(email), "public")?;
     let fields = vec![in alloc;
+        field(alloc, "name", Type::TEXT)?,
         field(alloc, "level", super::levels::level(alloc)?)?,
         field(
             alloc,
@@ -85,11 +91,12 @@ fn worker_type(alloc: Global) -> Result<Type, Fault> {
     user_type(alloc, "worker", 0x4014, Kind::Composite(fields), "public")
 }
 
-/// What `record_send` makes of `ROW('staff', 100, ARRAY['a@b'::email, NULL])::worker`.
-const STAFF: [u8; 66] = [
-    0, 0, 0, 3, 0, 0, 0x40, 0x10, 0, 0, 0, 5, 0x73, 0x74, 0x61, 0x66, 0x66, 0, 0, 0x40, 0x08, 0, 0,
-    0, 2, 0, 100, 0, 0, 0x40, 0x0a, 0, 0, 0, 0x1f, 0, 0, 0, 1, 0, 0, 0, 1, 0, 0, 0x40, 0x0b, 0, 0,
-    0, 2, 0, 0, 0, 1, 0, 0, 0, 3, 0x61, 0x40, 0x62, 0xff, 0xff, 0xff, 0xff,
+/// What `record_send` makes of `ROW('Ada', 'staff', 100, ARRAY['a@b'::email, NULL])::worker`.
+const STAFF: [u8; 77] = [
+    0, 0, 0, 4, 0, 0, 0, 0x19, 0, 0, 0, 3, 0x41, 0x64, 0x61, 0, 0, 0x40, 1, 0, 0, 0, 5, 0x73, 0x74,
+    0x61, 0x66, 0x66, 0, 0, 0x40, 8, 0, 0, 0, 2, 0, 0x64, 0, 0, 0x40, 0x0a, 0, 0, 0, 0x1f, 0, 0, 0,
+    1, 0, 0, 0, 1, 0, 0, 0x40, 0x0b, 0, 0, 0, 2, 0, 0, 0, 1, 0, 0, 0, 3, 0x61, 0x40, 0x62, 0xff,
+    0xff, 0xff, 0xff,
 ];
 
 #[test]
@@ -97,6 +104,7 @@ fn fields_are_labels_and_domains(rt: HostRuntime) -> Result<(), Fail> {
     let alloc = rt.alloc();
     let email = Domain(Email(String::from_str(alloc, "a@b")?));
     let staff = Worker {
+        name: String::from_str(alloc, "Ada")?,
         level: Enum(Level::Staff),
         score: Some(Domain(Percentage(100))),
         mails: vec![in alloc; Some(email), None]?,
@@ -109,11 +117,11 @@ fn fields_are_labels_and_domains(rt: HostRuntime) -> Result<(), Fail> {
 fn faults_of_fields_are_those_of_the_record(rt: HostRuntime) -> Result<(), Fail> {
     let alloc = rt.alloc();
     let mut unknown = STAFF;
-    unknown[12] = 0x53;
+    unknown[23] = 0x53;
     let mut more = STAFF;
-    more[26] = 101;
+    more[37] = 101;
     let mut other = STAFF;
-    other[20] = 0x15;
+    other[31] = 0x15;
     let faults = [
         (None, WAS_NULL),
         (Some(unknown.as_slice()), USER),
