@@ -4,9 +4,10 @@ ghost use Rattle.named_types.specs.BaseNames.{base_name, base_of, has_arrays, kn
 
 /// The table of the base names, in alphabetical order and by their first letters: of each its
 /// member of [`Base`], the name, its Rust type, its Postgres type and, where it has arrays, their
-/// Postgres type, each a constant of `Type`, or `user` and a user-defined type; and, where one
-/// program alone knows it, which. `$rows` is the macro that is called with all rows, after the
-/// arguments.
+/// Postgres type; and, where one program alone knows it, which. A Postgres type is a constant of
+/// `Type`, or of a user-defined type `user`, the function of `pg_record::types` that makes it, its
+/// OID, and its name where the function is told it. `$rows` is the macro that is called with all
+/// rows, after the arguments.
 #[macro_export]
 macro_rules! base_names {
     ($rows:ident $args:tt) => {
@@ -29,7 +30,7 @@ macro_rules! base_names {
                 DateInf "date_inf" [postgres_types::Date<jiff::civil::Date>, DATE, DATE_ARRAY],
             }
             b'h' {
-                Hstore "hstore" [std::collections::HashMap<String, Option<String>>, user.hstore],
+                Hstore "hstore" [std::collections::HashMap<String, Option<String>>, user(simple_type 100_002 "hstore")],
             }
             b'i' {
                 Inet "inet" [postgres_types::IpInet, INET, INET_ARRAY],
@@ -38,18 +39,19 @@ macro_rules! base_names {
                 Int4 "int4" [i32, INT4, INT4_ARRAY],
                 Int8 "int8" [i64, INT8, INT8_ARRAY],
                 Interval "interval" [postgres_types::Interval, INTERVAL, INTERVAL_ARRAY],
-                Item "item" [pg_record::InventoryItem, user.item, user.item_array],
+                Item "item"
+                    [pg_record::InventoryItem, user(item_type 100_003), user(item_array_type 100_004)],
             }
             b'j' {
                 Json "json" [serde_json::Value, JSON, JSON_ARRAY] only Copy,
                 Jsonb "jsonb" [serde_json::Value, JSONB, JSONB_ARRAY] only Copy,
             }
             b'l' {
-                Ltree "ltree" [String, user.ltree],
+                Ltree "ltree" [String, user(simple_type 100_001 "ltree")],
             }
             b'm' {
                 Macaddr "macaddr" [postgres_types::MacAddress, MACADDR, MACADDR_ARRAY],
-                Mood "mood" [pg_record::Mood, user.mood],
+                Mood "mood" [pg_record::Mood, user(mood_type 100_005)],
             }
             b'n' {
                 Name "name" [String, NAME, NAME_ARRAY],
@@ -62,7 +64,7 @@ macro_rules! base_names {
                 PgLsn "pg_lsn" [postgres_types::PgLsn, PG_LSN, PG_LSN_ARRAY],
             }
             b's' {
-                Session "session" [pg_record::SessionId, user.session],
+                Session "session" [pg_record::SessionId, user(session_id_type 100_006)],
             }
             b't' {
                 Text "text" [String, TEXT, TEXT_ARRAY],
@@ -174,7 +176,7 @@ macro_rules! has_arrays {
             $($(Base::$base => has_arrays!($types),)*)*
         }
     };
-    ([$rust:ty, user.$own:ident]) => {
+    ([$rust:ty, user $own:tt]) => {
         false
     };
     ([$rust:ty, $own:ident]) => {

@@ -66,7 +66,7 @@ impl<T: Drop> From<AllocFailed<T>> for ArgumentFault {
 /// What the words of a command line ask for, without the name of the program: `--help`, or any
 /// number of `--oid NAME=OID` and then the names of the columns' types.
 pub fn parse(alloc: Global, words: &[String]) -> Result<Request, ArgumentFault> {
-    let mut oids = Oids::UNKNOWN;
+    let mut oids = Oids::new(alloc);
     let mut rest = words;
     for _ in 0..words.len() {
         let [word, after @ ..] = rest else {
@@ -93,10 +93,14 @@ fn after_oid<'a>(
     let Some((word, after)) = words.split_first() else {
         return Err(ArgumentFault::BadOid(String::new(alloc)));
     };
-    match name_and_oid(word.as_str()) {
-        Some((name, oid)) if oids.set(name, oid) => Ok(after),
-        _ => Err(ArgumentFault::BadOid(String::from_str(alloc, word.as_str())?)),
+    let is_set = match name_and_oid(word.as_str()) {
+        Some((name, oid)) => oids.set(name, oid)?,
+        None => false,
+    };
+    if !is_set {
+        return Err(ArgumentFault::BadOid(String::from_str(alloc, word.as_str())?));
     }
+    Ok(after)
 }
 
 /// The name and the OID of a word.

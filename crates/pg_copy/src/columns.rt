@@ -2,6 +2,7 @@
 
 use crate::user_types::Oids;
 use named_types::{Base, Name, base_names};
+use pg_record::types::{item_array_type, item_type, mood_type, session_id_type, simple_type};
 use postgres_types::Type;
 use std::alloc::{AllocError, Global};
 
@@ -24,7 +25,7 @@ macro_rules! types {
         $($letter:literal { $($base:ident $name:literal $types:tt $(only $program:ident)?,)* })*
     ) => {
         match $of {
-            $($(Base::$base => row_types!(($alloc, $oids) $types $($program)?),)*)*
+            $($(Base::$base => row_types!(($alloc, $oids, $base) $types $($program)?),)*)*
         }
     };
 }
@@ -34,12 +35,24 @@ macro_rules! row_types {
     ($args:tt $types:tt Pgcell) => {
         None
     };
-    (($alloc:ident, $oids:ident) [$rust:ty, user.$own:ident, user.$arrays:ident]) => {
-        Some(($oids.$own($alloc)?, Some($oids.$arrays($alloc)?)))
+    (
+        ($alloc:ident, $oids:ident, $base:ident)
+        [$rust:ty, user($own:ident $oid:literal $($name:literal)?)]
+    ) => {
+        Some(($own($alloc, $($name,)? $oids.of(Base::$base, $oid))?, None))
     };
-    (($alloc:ident, $oids:ident) [$rust:ty, user.$own:ident]) => {
-        Some(($oids.$own($alloc)?, None))
-    };
+    (
+        ($alloc:ident, $oids:ident, $base:ident)
+        [
+            $rust:ty,
+            user($own:ident $oid:literal $($name:literal)?),
+            user($arrays:ident $array_oid:literal $($array_name:literal)?)
+        ]
+    ) => {{
+        let own = $own($alloc, $($name,)? $oids.of(Base::$base, $oid))?;
+        let arrays = $arrays($alloc, $($array_name,)? $array_oid, own.clone()?)?;
+        Some((own, Some(arrays)))
+    }};
     ($args:tt [$rust:ty, $own:ident]) => {
         Some((Type::$own, None))
     };

@@ -1,70 +1,57 @@
-//! The user-defined types of the table of base names.
+//! The OIDs of the user-defined types of the table of base names.
 
-use pg_record::types::{item_array_type, item_type, mood_type, session_id_type, simple_type};
-use postgres_types::{Oid, Type};
+use named_types::{Base, base_names};
+use postgres_types::Oid;
 use std::alloc::{AllocError, Global};
 
-/// The OIDs of the user-defined types. A server gives a type its OID when it is made; in a COPY the
-/// OID of `InventoryItem` alone stands, in the cells of its arrays.
-#[derive(Debug, Clone, Copy, PartialEq, Eq)]
+// Whether the types of a base name are user-defined.
+macro_rules! is_user_defined {
+    (($of:expr) $($letter:literal { $($base:ident $name:literal $types:tt $(only $program:ident)?,)* })*) => {
+        match $of {
+            $($(Base::$base => is_user_defined!($types),)*)*
+        }
+    };
+    ([$rust:ty, user $($types:tt)*]) => {
+        true
+    };
+    ($types:tt) => {
+        false
+    };
+}
+
+/// The OIDs that user-defined types are said to have. A server gives a type its OID when it is made;
+/// in a COPY the OID of `InventoryItem` alone stands, in the cells of its arrays.
+#[derive(Debug, Drop)]
 pub struct Oids {
-    pub ltree: Oid,
-    pub hstore: Oid,
-    pub item: Oid,
-    pub mood: Oid,
-    pub session: Oid,
+    said: Vec<(Base, Oid)>,
 }
 
 impl Oids {
-    /// OIDs of no server.
-    pub const UNKNOWN: Oids = Oids {
-        ltree: 100_001,
-        hstore: 100_002,
-        item: 100_003,
-        mood: 100_005,
-        session: 100_006,
-    };
+    /// None is said.
+    pub fn new(alloc: Global) -> Oids {
+        Oids {
+            said: Vec::new(alloc),
+        }
+    }
 
     /// Sets the OID of the type of that base name, and answers whether it is one.
-    pub fn set(&mut self, name: &str, oid: Oid) -> bool {
-        match name {
-            "ltree" => self.ltree = oid,
-            "hstore" => self.hstore = oid,
-            "item" => self.item = oid,
-            "mood" => self.mood = oid,
-            "session" => self.session = oid,
-            _ => return false,
+    pub fn set(&mut self, name: &str, oid: Oid) -> Result<bool, AllocError> {
+        match Base::parse(name.as_bytes()) {
+            Some(base) if base_names!(is_user_defined(base)) => {
+                self.said.push((base, oid))?;
+                Ok(true)
+            }
+            _ => Ok(false),
         }
-        true
     }
 
-    /// The type of ltree.
-    pub fn ltree(&self, alloc: Global) -> Result<Type, AllocError> {
-        simple_type(alloc, "ltree", self.ltree)
-    }
-
-    /// The type of hstore.
-    pub fn hstore(&self, alloc: Global) -> Result<Type, AllocError> {
-        simple_type(alloc, "hstore", self.hstore)
-    }
-
-    /// The composite type of [`InventoryItem`](pg_record::InventoryItem).
-    pub fn item(&self, alloc: Global) -> Result<Type, AllocError> {
-        item_type(alloc, self.item)
-    }
-
-    /// The type of its arrays, whose own OID stands in no cell.
-    pub fn item_array(&self, alloc: Global) -> Result<Type, AllocError> {
-        item_array_type(alloc, 100_004, self.item(alloc)?)
-    }
-
-    /// The enumerated type of [`Mood`](pg_record::Mood).
-    pub fn mood(&self, alloc: Global) -> Result<Type, AllocError> {
-        mood_type(alloc, self.mood)
-    }
-
-    /// The domain of [`SessionId`](pg_record::SessionId).
-    pub fn session(&self, alloc: Global) -> Result<Type, AllocError> {
-        session_id_type(alloc, self.session)
+    /// The OID of the type of the base name, which is the one of no server where none is said.
+    pub fn of(&self, base: Base, of_no_server: Oid) -> Oid {
+        for (said, oid) in self.said.iter().rev() {
+            if *said == base {
+                return *oid;
+            }
+        }
+        of_no_server
     }
 }

@@ -1,6 +1,6 @@
 -- What each base name stands for.
-use Rattle.std.specs.Prelude.{ℕ, Option, Some, None, map, String, Vec}
-use Rattle.postgres_types.specs.Content.{Content, BuiltInType, kind_of}
+use Rattle.std.specs.Prelude.{ℕ, Bool, true, false, Option, Some, None, ◌&&◌, codes, map, String, Vec}
+use Rattle.postgres_types.specs.Content.{Content, BuiltInType, kind_of, same_type}
 use Rattle.std.specs.Int.{w8, w16, w32, w64}
 use Rattle.std.specs.Global.{Global}
 use Rattle.std.specs.HashMap.{HashMap}
@@ -23,10 +23,34 @@ use Rattle.postgres_types.specs.Records.{fields_of_kind}
 use Rattle.pg_record.specs.InventoryItems.{reads_item, wire_item}
 use Rattle.pg_record.specs.Moods.{ReadsMood, wire_mood}
 use Rattle.pg_record.specs.SessionIds.{ReadsSessionId, wire_session_id}
-use Rattle.pgcell.specs.UserTypes.{hstore, item, item_array, ltree, mood, session}
+use Rattle.pg_record.specs.Types.{item_array_type, item_type, mood_type, session_id_type, simple_type}
 use Rattle.pgcell.specs.Rewritten.{ReadsVec, wire_vec, Rewriting, RewrittenAs, RewrittenPlain, RewrittenText}
 use Rattle.named_types.specs.declared.base.Base.{Base}
 use Rattle.named_types.specs.declared.base.Base.TheVariants as base
+
+-- a type and, where it has arrays, the type of these
+abbrev pub Types : Type 0
+Types = Content × Option Content
+
+-- the user-defined types of a base name, each with an OID that a server could have given it
+abbrev pub user_types : Base → Option Types
+user_types base.Hstore = Some (simple_type (codes "hstore") 100002, None)
+user_types base.Item = Some (item_type 100003, Some (item_array_type 100004 (item_type 100003)))
+user_types base.Ltree = Some (simple_type (codes "ltree") 100001, None)
+user_types base.Mood = Some (mood_type 100005, None)
+user_types base.Session = Some (session_id_type 100006, None)
+user_types other = None
+
+-- whether two types of arrays, if there are such, are the same
+abbrev pub same_arrays : Option Content → Option Content → Bool
+same_arrays None None = true
+same_arrays (Some one) (Some other) = same_type one other
+same_arrays _ _ = false
+
+-- whether there are types, and they are these
+unfoldable pub are_types : Option Types → Content → Option Content → Bool
+are_types None own arrays = false
+are_types (Some types) own arrays = same_type own types.0 && same_arrays arrays types.1
 
 -- what a base name stands for: its Postgres type, the type of its arrays, if it has arrays, and how a cell is rewritten
 pub data Entry : Type 1 where
@@ -37,9 +61,14 @@ pub data Entry : Type 1 where
 abbrev pub built_in : Row → Row → Rewriting → Entry
 built_in own arrays = entry (BuiltInType own) (Some (BuiltInType arrays))
 
--- a base name without arrays
-abbrev pub no_arrays : Content → Rewriting → Entry
-no_arrays own = entry own None
+-- a base name with one of the built-in types, without arrays
+abbrev pub no_arrays : Row → Rewriting → Entry
+no_arrays own = entry (BuiltInType own) None
+
+-- a base name with user-defined types
+abbrev pub user_defined : Option Types → Rewriting → Entry
+user_defined None rewriting = no_entry
+user_defined (Some types) rewriting = entry types.0 types.1 rewriting
 
 -- a map of texts
 abbrev pub Map : Type 0
@@ -64,27 +93,27 @@ entry_of base.Date = built_in row.Date row.DateArray (RewrittenPlain ReadsDate w
 entry_of base.DateInf =
     built_in row.Date row.DateArray (RewrittenPlain (ReadsSpecial w32 date_view ReadsDate) (λ v. wire_special w32 wire_date (date_view v)))
 entry_of base.Hstore =
-    no_arrays hstore (RewrittenPlain {A = Map} ReadsHstore (λ m. wire_hstore (map owned_entry m.entries)))
+    user_defined (user_types base.Hstore) (RewrittenPlain {A = Map} ReadsHstore (λ m. wire_hstore (map owned_entry m.entries)))
 entry_of base.Inet = built_in row.Inet row.InetArray (RewrittenPlain ReadsInet wire_inet)
 entry_of base.Int2 = built_in row.Int2 row.Int2Array (RewrittenPlain (ReadsSigned w16) (wire_signed w16))
 entry_of base.Int2Vector =
-    no_arrays (BuiltInType row.Int2Vector) (RewrittenAs (ReadsVec (λ _. ReadsSigned w16)) (wire_vec (λ _. wire_signed w16)))
+    no_arrays row.Int2Vector (RewrittenAs (ReadsVec (λ _. ReadsSigned w16)) (wire_vec (λ _. wire_signed w16)))
 entry_of base.Int4 = built_in row.Int4 row.Int4Array (RewrittenPlain (ReadsSigned w32) (wire_signed w32))
 entry_of base.Int8 = built_in row.Int8 row.Int8Array (RewrittenPlain (ReadsSigned w64) (wire_signed w64))
 entry_of base.Interval = built_in row.Interval row.IntervalArray (RewrittenPlain ReadsInterval wire_interval)
-entry_of base.Item = entry item (Some item_array) RewrittenItem
+entry_of base.Item = user_defined (user_types base.Item) RewrittenItem
 entry_of base.Json = no_entry
 entry_of base.Jsonb = no_entry
-entry_of base.Ltree = no_arrays ltree RewrittenText
+entry_of base.Ltree = user_defined (user_types base.Ltree) RewrittenText
 entry_of base.Macaddr =
     built_in row.Macaddr row.MacaddrArray (RewrittenPlain (ReadsFixedBytes 6) (wire_fixed_bytes 6))
-entry_of base.Mood = no_arrays mood (RewrittenPlain ReadsMood wire_mood)
+entry_of base.Mood = user_defined (user_types base.Mood) (RewrittenPlain ReadsMood wire_mood)
 entry_of base.Name = built_in row.Name row.NameArray RewrittenText
 entry_of base.Oid = built_in row.Oid row.OidArray (RewrittenPlain (ReadsUnsigned w32) (wire_unsigned w32))
 entry_of base.OidVector =
-    no_arrays (BuiltInType row.OidVector) (RewrittenAs (ReadsVec (λ _. ReadsUnsigned w32)) (wire_vec (λ _. wire_unsigned w32)))
+    no_arrays row.OidVector (RewrittenAs (ReadsVec (λ _. ReadsUnsigned w32)) (wire_vec (λ _. wire_unsigned w32)))
 entry_of base.PgLsn = built_in row.PgLsn row.PgLsnArray (RewrittenPlain (ReadsUnsigned w64) (wire_unsigned w64))
-entry_of base.Session = no_arrays session (RewrittenPlain ReadsSessionId wire_session_id)
+entry_of base.Session = user_defined (user_types base.Session) (RewrittenPlain ReadsSessionId wire_session_id)
 entry_of base.Text = built_in row.Text row.TextArray RewrittenText
 entry_of base.Time = built_in row.Time row.TimeArray (RewrittenPlain ReadsTime wire_time)
 entry_of base.Timestamp = built_in row.Timestamp row.TimestampArray (RewrittenPlain ReadsDateTime wire_datetime)
@@ -95,7 +124,7 @@ entry_of base.Unix =
     built_in row.Timestamp row.TimestampArray (RewrittenPlain (ReadsTimestamp nanos_of) (λ v. wire_timestamp (nanos_of v)))
 entry_of base.UnixInf =
     built_in row.Timestamp row.TimestampArray (RewrittenPlain (ReadsSpecial w64 timestamp_view (ReadsTimestamp nanos_of)) (λ v. wire_special w64 (λ u. wire_timestamp (nanos_of u)) (timestamp_view v)))
-entry_of base.Unknown = no_arrays (BuiltInType row.Unknown) RewrittenText
+entry_of base.Unknown = no_arrays row.Unknown RewrittenText
 entry_of base.Uuid = built_in row.Uuid row.UuidArray (RewrittenPlain (ReadsFixedBytes 16) (wire_fixed_bytes 16))
 entry_of base.Varbit = built_in row.Varbit row.VarbitArray (RewrittenPlain (ReadsBits (λ v. v)) wire_bits)
 entry_of base.Varchar = built_in row.Varchar row.VarcharArray RewrittenText

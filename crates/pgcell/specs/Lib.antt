@@ -4,4 +4,3 @@ pub mod Entries
 pub mod Norm
 pub mod Request
 pub mod Rewritten
-pub mod UserTypes

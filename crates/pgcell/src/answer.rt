@@ -20,14 +20,13 @@ pub struct Answerer {
 }
 
 impl Answerer {
-    /// Makes the user-defined types that cells are rewritten by.
-    pub fn new(alloc: Global) -> Result<Answerer, AllocError> {
-        let rewriter = Rewriter::new(alloc)?;
-        Ok(Answerer {
+    /// Nothing takes memory before the first line.
+    pub fn new(alloc: Global) -> Answerer {
+        Answerer {
             bytes: Vec::new(alloc),
             text: String::new(alloc),
-            rewriter,
-        })
+            rewriter: Rewriter::new(alloc),
+        }
     }
 }
 

@@ -39,18 +39,12 @@ macro_rules! norm_as {
     };
     (
         ($this:ident, $alloc:ident, $name:ident, $cell:ident, $pending:ident)
-        [$rust:ty, user.$own:ident, user.$arrays:ident]
+        [$rust:ty, user $($types:tt)*]
     ) => {{
-        let own = $this.types.$own()?;
-        let arrays = $this.types.$arrays()?;
-        $this.norm_as::<$rust>($alloc, $name.form, own, Some(arrays), $cell, $pending)
-    }};
-    (
-        ($this:ident, $alloc:ident, $name:ident, $cell:ident, $pending:ident)
-        [$rust:ty, user.$own:ident]
-    ) => {{
-        let own = $this.types.$own()?;
-        $this.norm_as::<$rust>($alloc, $name.form, own, None, $cell, $pending)
+        let Some((own, arrays)) = $this.types.of($alloc, $name.base)? else {
+            unreachable!()
+        };
+        $this.norm_as::<$rust>($alloc, $name.form, own, arrays, $cell, $pending)
     }};
     (
         ($this:ident, $alloc:ident, $name:ident, $cell:ident, $pending:ident)
@@ -73,8 +67,8 @@ macro_rules! norm_as {
     };
 }
 
-/// What rewriting keeps from cell to cell: the user-defined types, and a buffer for the cell that
-/// is written.
+/// What rewriting keeps from cell to cell: the user-defined types that it made, and a buffer for the
+/// cell that is written.
 #[derive(Drop)]
 pub struct Rewriter {
     types: UserTypes,
@@ -82,13 +76,12 @@ pub struct Rewriter {
 }
 
 impl Rewriter {
-    /// Makes the user-defined types; the buffer takes no memory before the first cell.
-    pub fn new(alloc: Global) -> Result<Rewriter, AllocError> {
-        let types = UserTypes::new(alloc)?;
-        Ok(Rewriter {
-            types,
+    /// No type is made, and the buffer takes no memory, before the first cell.
+    pub fn new(alloc: Global) -> Rewriter {
+        Rewriter {
+            types: UserTypes::new(alloc),
             written: BytesMut::new(alloc),
-        })
+        }
     }
 
     /// Rewrites the cell by what the name stands for, and puts what came of it after what is

@@ -19,8 +19,6 @@ pub fn run<R: Read, W: Write>(alloc: Global, input: &mut R, output: &mut W) -> R
     ensures partial { IfErr result (λ e. e ≡ RunFault.Write → AnswersPart Answer (R.remaining input.old)
         (W.contents output.old) (W.contents output.new)) }
 {
-    let Ok(mut answerer) = Answerer::new(alloc) else {
-        return Err(RunFault::Memory);
-    };
+    let mut answerer = Answerer::new(alloc);
     answer_lines(alloc, &mut answerer, input, output)
 }

@@ -1,89 +1,119 @@
 //! The user-defined types of the table of base names, in the schema public.
-ghost use Rattle.std.specs.Prelude.{◌≡◌, IsTrue, IfOk};
+ghost use Rattle.std.specs.Prelude.{◌≡◌, IsTrue, IfOk, Some, option_map};
 ghost use Rattle.postgres_types.specs.Content.{content};
-ghost use Rattle.pgcell.specs.UserTypes as spec;
-ghost use Rattle.pgcell.specs.UserTypes.{is_type};
+ghost use Rattle.pgcell.specs.Entries.{are_types, user_types};
 
+use named_types::{Base, base_names};
 use pg_record::types::{item_array_type, item_type, mood_type, session_id_type, simple_type};
 use postgres_types::Type;
 use std::alloc::{AllocError, Global};
 
-/// These types, each made once.
+/// A type and, where it has arrays, the type of these.
+pub type Types = (Type, Option<Type>);
+
+// The types of a base name are made by its row.
+macro_rules! made {
+    (
+        ($alloc:ident, $of:ident)
+        $($letter:literal { $($base:ident $name:literal $types:tt $(only $program:ident)?,)* })*
+    ) => {
+        match $of {
+            $($(Base::$base => row_made!(($alloc) $types),)*)*
+        }
+    };
+}
+
+// The same of a row; built-in types are constants.
+macro_rules! row_made {
+    (($alloc:ident) [$rust:ty, user($own:ident $oid:literal $($name:literal)?)]) => {
+        Some(($own($alloc, $($name,)? $oid)?, None))
+    };
+    (
+        ($alloc:ident)
+        [$rust:ty, user($own:ident $oid:literal $($name:literal)?), user($arrays:ident $array_oid:literal)]
+    ) => {{
+        let own = $own($alloc, $($name,)? $oid)?;
+        let arrays = $arrays($alloc, $array_oid, own.clone()?)?;
+        Some((own, Some(arrays)))
+    }};
+    ($args:tt $types:tt) => {
+        None
+    };
+}
+
+/// Makes the user-defined types of a base name, with the OIDs that a server could have given them;
+/// `None` where it has none.
+fn make(alloc: Global, base: Base) -> Result<Option<Types>, AllocError>
+    ensures { IfOk result (λ types.
+        option_map (λ t. (content t.0, option_map content t.1)) types ≡ user_types base) }
+{
+    let types: Option<Types> = base_names!(made(alloc, base));
+    Ok(types)
+}
+
+/// A copy of a type, if there is one.
+fn copy_of(ty: &Option<Type>) -> Result<Option<Type>, AllocError>
+    ensures { IfOk result (λ copy. option_map content copy ≡ option_map content ty.now) }
+{
+    match ty {
+        None => Ok(None),
+        Some(ty) => Ok(Some(ty.clone()?)),
+    }
+}
+
+/// The user-defined types of a base name.
+#[derive(Debug, Drop)]
+struct Known {
+    base: Base,
+    own: Type,
+    arrays: Option<Type>,
+    ghost are: { IsTrue (are_types (user_types base) (content own) (option_map content arrays)) },
+}
+
+impl Known {
+    /// A copy of them.
+    #[tactic(auto, using(crate::proofs::Types::copied))]
+    fn types(&self) -> Result<Types, AllocError>
+        ensures { IfOk result (λ t. Some (content t.0, option_map content t.1) ≡ user_types self.now.base) }
+    {
+        let own = self.own.clone()?;
+        let arrays = copy_of(&self.arrays)?;
+        Ok((own, arrays))
+    }
+}
+
+/// The user-defined types that were asked for. Each is made once, so that the lines after the first
+/// take no memory for it.
 #[derive(Debug, Drop)]
 pub struct UserTypes {
-    ltree: Type,
-    hstore: Type,
-    item: Type,
-    item_array: Type,
-    mood: Type,
-    session: Type,
-    ghost ltree_is: { IsTrue (is_type spec.ltree (content ltree)) },
-    ghost hstore_is: { IsTrue (is_type spec.hstore (content hstore)) },
-    ghost item_is: { IsTrue (is_type spec.item (content item)) },
-    ghost item_array_is: { IsTrue (is_type spec.item_array (content item_array)) },
-    ghost mood_is: { IsTrue (is_type spec.mood (content mood)) },
-    ghost session_is: { IsTrue (is_type spec.session (content session)) },
+    known: Vec<Known>,
 }
 
 impl UserTypes {
-    /// Makes each type, with the OID that a server could have given it.
+    /// None yet.
+    pub fn new(alloc: Global) -> UserTypes {
+        UserTypes {
+            known: Vec::new(alloc),
+        }
+    }
+
+    /// The user-defined types of a base name; `None` where it has none.
     #[tactic(auto, using(crate::proofs::Types::known))]
-    pub fn new(alloc: Global) -> Result<UserTypes, AllocError> {
-        Ok(UserTypes {
-            ltree: simple_type(alloc, "ltree", 100_001)?,
-            hstore: simple_type(alloc, "hstore", 100_002)?,
-            item: item_type(alloc, 100_003)?,
-            item_array: item_array_type(alloc, 100_004, item_type(alloc, 100_003)?)?,
-            mood: mood_type(alloc, 100_005)?,
-            session: session_id_type(alloc, 100_006)?,
-        })
-    }
-
-    /// The type of ltree, OID 100001.
-    #[tactic(auto, using(crate::proofs::Types::copied))]
-    pub fn ltree(&self) -> Result<Type, AllocError>
-        ensures { IfOk result (λ ty. content ty ≡ spec.ltree) }
+    pub fn of(&mut self, alloc: Global, base: Base) -> Result<Option<Types>, AllocError>
+        ensures { IfOk result (λ types.
+            option_map (λ t. (content t.0, option_map content t.1)) types ≡ user_types base) }
     {
-        self.ltree.clone()
-    }
-
-    /// The type of hstore, OID 100002.
-    #[tactic(auto, using(crate::proofs::Types::copied))]
-    pub fn hstore(&self) -> Result<Type, AllocError>
-        ensures { IfOk result (λ ty. content ty ≡ spec.hstore) }
-    {
-        self.hstore.clone()
-    }
-
-    /// The composite type of [`InventoryItem`](pg_record::InventoryItem).
-    #[tactic(auto, using(crate::proofs::Types::copied))]
-    pub fn item(&self) -> Result<Type, AllocError>
-        ensures { IfOk result (λ ty. content ty ≡ spec.item) }
-    {
-        self.item.clone()
-    }
-
-    /// The type of its arrays.
-    #[tactic(auto, using(crate::proofs::Types::copied))]
-    pub fn item_array(&self) -> Result<Type, AllocError>
-        ensures { IfOk result (λ ty. content ty ≡ spec.item_array) }
-    {
-        self.item_array.clone()
-    }
-
-    /// The enumerated type of [`Mood`](pg_record::Mood).
-    #[tactic(auto, using(crate::proofs::Types::copied))]
-    pub fn mood(&self) -> Result<Type, AllocError>
-        ensures { IfOk result (λ ty. content ty ≡ spec.mood) }
-    {
-        self.mood.clone()
-    }
-
-    /// The domain of [`SessionId`](pg_record::SessionId).
-    #[tactic(auto, using(crate::proofs::Types::copied))]
-    pub fn session(&self) -> Result<Type, AllocError>
-        ensures { IfOk result (λ ty. content ty ≡ spec.session) }
-    {
-        self.session.clone()
+        for known in &self.known {
+            if known.base == base {
+                return Ok(Some(known.types()?));
+            }
+        }
+        let Some((own, arrays)) = make(alloc, base)? else {
+            return Ok(None);
+        };
+        let known = Known { base, own, arrays };
+        let types = known.types()?;
+        self.known.push(known)?;
+        Ok(Some(types))
     }
 }

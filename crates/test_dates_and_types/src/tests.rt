@@ -9,7 +9,6 @@ mod faults;
 mod infinities;
 mod intervals;
 mod memory;
-mod names;
 mod no_day;
 mod timestamps;
 mod types;

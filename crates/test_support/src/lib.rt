@@ -26,7 +26,8 @@ pub use texts::{debugs, displays};
 pub use types::{accepts, simple_type, unix, user_type};
 pub use without_memory::{null_takes_no_memory, takes_no_memory, writes_by_room};
 pub use writing::{
-    reads_back, refuses_type, refuses_value, refuses_values, rewrites, spells, writes, writes_null,
+    reads_back, refuses_odd, refuses_type, refuses_value, refuses_values, rewrites, spells, writes,
+    writes_null,
 };
 
 /// What stands in a buffer before a call that writes to it.

@@ -1,7 +1,7 @@
 //! Rows of writing.
 
 use crate::code::WRONG_TYPE;
-use crate::{BEFORE, read, reads, same};
+use crate::{BEFORE, read, reads, same, simple_type};
 use postgres_types::private::BytesMut;
 use postgres_types::{FromSql, IsNull, Paired, ToSql, Type, rewrite, to_sql_checked_as};
 use std::alloc::Global;
@@ -56,6 +56,12 @@ pub fn refuses_values<T: ToSql>(alloc: Global, ty: &Type, rows: &[(T, u32)]) -> 
         refuses_value(alloc, value, ty, *code)?;
     }
     Ok(())
+}
+
+/// The user-defined type odd, which no type of the library accepts, is refused, under that name.
+pub fn refuses_odd<T: ToSql>(alloc: Global, value: &T, rust: &str) -> Result<(), Fail> {
+    let odd = simple_type(alloc, "odd", 99_999, "public")?;
+    refuses_type(alloc, value, &odd, rust)
 }
 
 /// The type is refused, under that name, and nothing is written.

@@ -9,8 +9,8 @@ use std::test::Fail;
 use test_support::code::{COUNT, SIZE, WAS_NULL};
 use test_support::without_memory::{answer_without_memory, yes};
 use test_support::{
-    holds, null_takes_no_memory, read, reads, refuses, refuses_fronts, rewrites, same, spells,
-    writes_by_room,
+    debugs, holds, null_takes_no_memory, read, reads, refuses, refuses_fronts, refuses_odd,
+    rewrites, same, spells, writes_by_room,
 };
 
 /// Bit strings and their cells.
@@ -201,4 +201,19 @@ fn the_format_of_bits_takes_no_memory(rt: HostRuntime) -> Result<(), Fail> {
             "varbit_to_sql",
         )
     })
+}
+
+#[test]
+fn bits_are_named(rt: HostRuntime) -> Result<(), Fail> {
+    let alloc = rt.alloc();
+    refuses_odd(alloc, &BitVec::new(alloc), "BitVec")
+}
+
+#[test]
+fn bits_have_debug_texts(rt: HostRuntime) -> Result<(), Fail> {
+    let alloc = rt.alloc();
+    let bits = BitVec::from_bytes(alloc, &[144])?;
+    debugs(alloc, &bits, "BitVec { bytes: [144], len: 8 }")?;
+    let bits = varbit_from_sql(&[0, 0, 0, 3, 0xa0])?;
+    debugs(alloc, &bits, "Varbit { len: 3, bytes: [160] }")
 }

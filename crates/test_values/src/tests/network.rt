@@ -11,7 +11,8 @@ use std::test::Fail;
 use test_support::code::{ADDRESS_LENGTH, FAMILY, HOST_BITS, NETMASK, SIZE, WAS_NULL};
 use test_support::without_memory::{answer_without_memory, yes};
 use test_support::{
-    fault_code, has_cells, has_functions, holds, reads, refusal, refuses_fronts, rewrites, same,
+    debugs, fault_code, has_cells, has_functions, holds, reads, refusal, refuses_fronts,
+    refuses_odd, rewrites, same,
 };
 use uuid::Uuid;
 
@@ -306,4 +307,37 @@ fn the_format_of_addresses_takes_no_memory(rt: HostRuntime) -> Result<(), Fail> 
         let appended = inet_to_sql(alloc, ten(1, 2, 3), 8, &mut target.out).is_ok();
         yes(appended && target.has(&HOST), "inet_to_sql")
     })
+}
+
+#[test]
+fn addresses_are_named(rt: HostRuntime) -> Result<(), Fail> {
+    let alloc = rt.alloc();
+    refuses_odd(alloc, &ten(0, 0, 0), "IpAddr")?;
+    refuses_odd(alloc, &IpInet::new(ten(0, 0, 0), 8)?, "IpInet")?;
+    refuses_odd(alloc, &IpCidr::new(ten(0, 0, 0), 8)?, "IpCidr")
+}
+
+#[test]
+fn mac_addresses_and_uuids_are_named(rt: HostRuntime) -> Result<(), Fail> {
+    let alloc = rt.alloc();
+    refuses_odd(alloc, &MacAddress::new([0; 6]), "MacAddress")?;
+    refuses_odd(alloc, &Uuid::from_bytes([0; 16]), "Uuid")
+}
+
+#[test]
+fn addresses_have_debug_texts(rt: HostRuntime) -> Result<(), Fail> {
+    let alloc = rt.alloc();
+    let inet = IpInet::new(ten(0, 0, 0), 8)?;
+    debugs(alloc, &inet, "IpInet { address: 10.0.0.0, len: 8 }")?;
+    let cidr = IpCidr::new(ten(0, 0, 0), 8)?;
+    let text = "IpCidr { first: IpInet { address: 10.0.0.0, len: 8 } }";
+    debugs(alloc, &cidr, text)?;
+    let card = MacAddress::new([1, 2, 3, 4, 5, 255]);
+    debugs(alloc, &card, "MacAddress([1, 2, 3, 4, 5, 255])")
+}
+
+#[test]
+fn the_format_of_addresses_has_a_debug_text(rt: HostRuntime) -> Result<(), Fail> {
+    let inet = inet_from_sql(&[2, 8, 0, 4, 10, 1, 2, 3])?;
+    debugs(rt.alloc(), &inet, "Inet { addr: 10.1.2.3, netmask: 8 }")
 }
