@@ -30,10 +30,14 @@ macro_rules! row_made {
     };
     (
         ($alloc:ident)
-        [$rust:ty, user($own:ident $oid:literal $($name:literal)?), user($arrays:ident $array_oid:literal)]
+        [
+            $rust:ty,
+            user($own:ident $oid:literal $($name:literal)?),
+            user($arrays:ident $array_oid:literal $($array_name:literal)?)
+        ]
     ) => {{
         let own = $own($alloc, $($name,)? $oid)?;
-        let arrays = $arrays($alloc, $array_oid, own.clone()?)?;
+        let arrays = $arrays($alloc, $($array_name,)? $array_oid, own.clone()?)?;
         Some((own, Some(arrays)))
     }};
     ($args:tt $types:tt) => {
