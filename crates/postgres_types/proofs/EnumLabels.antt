@@ -1,6 +1,6 @@
 -- Lemmas on the labels of enumerated types.
-use Rattle.std.proofs.Common.{◌≡◌, ℕ, ◌+◌, ◌<◌, ◌≤◌, List, [], ◌∷◌, Bool, true, false, ◌||◌, ◌&&◌, ◌==◌, Bor, Option, Some}
-use Rattle.std.proofs.Common.{None, IfSome, IsUtf8, map, length, drop, get_or, slice_get, refl, ◌∙◌, ap, cond}
+use Rattle.std.proofs.Common.{◌≡◌, ℕ, ◌+◌, ◌<◌, ◌≤◌, List, [], ◌∷◌, Bool, true, false, ◌||◌, ◌&&◌, ◌==◌, Bor, Option}
+use Rattle.std.proofs.Common.{Some, None, IfSome, IsUtf8, map, length, drop, get_or, slice_get, refl, ◌∙◌, ap, cond}
 use Rattle.std.specs.Cmp.Lexicographic.{pointwise}
 use Rattle.std.proofs.lemmas.List.{drop_all, drop_more}
 use Rattle.std.proofs.lemmas.Option.{slice_get-get_or, slice_get-map}

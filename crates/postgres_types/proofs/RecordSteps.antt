@@ -1,5 +1,5 @@
 -- The steps of reading and writing a record, one after another.
-use Rattle.std.proofs.Common.{◌≡◌, ◌<◌, ◌++◌, ◌+◌, ℕ, List, [], ◌∷◌, length, take, drop, Option, Some, None}
+use Rattle.std.proofs.Common.{◌≡◌, ◌++◌, ℕ, List, [], ◌∷◌, length, take, drop, Option, Some, None}
 use Rattle.std.proofs.Common.{Result, Ok, Err, IfSome}
 use Rattle.std.proofs.Common.{refl, sym, ap, subst, ◌∙◌, append_assoc, append-nil, inl, inr, nat_eq, suc, arith, true}
 use Rattle.std.specs.Result.{is_err}
@@ -10,7 +10,7 @@ use Rattle.std.proofs.lemmas.List.{take-append-drop, take_all}
 use Rattle.std.proofs.lemmas.Option.{IfSome_then}
 use Rattle.pg_types.specs.Content.{Content, FieldsContent, FieldAnd, content, field_name, field_type}
 use Rattle.pg_types.specs.Content.{fields_content, oid_of}
-use Rattle.pg_types.specs.Faults.{Answers, Outcome, Refusal, refusal_of, size}
+use Rattle.pg_types.specs.Faults.{Outcome, Refusal, refusal_of, size}
 use Rattle.pg_types.specs.declared.fault.Fault.{Fault}
 use Rattle.pg_types.specs.declared.types.PgType.{PgType}
 use Rattle.pg_types.specs.declared.types.kind.Field.{Field}
@@ -25,7 +25,7 @@ use Rattle.postgres_types.specs.CompositeFields.{ReadsAnd, and, no_fields}
 use Rattle.postgres_types.specs.Records.{AppendsBytes, AppendsBytesOrPart, AtEnd, Both, Bytes, CellThen, CountThen}
 use Rattle.postgres_types.specs.Records.{PassesCheck, FieldThen, FrameThen, IsDone, IsRefused, ReadsNext, PassesNumber}
 use Rattle.postgres_types.specs.Records.{Unless, append_bytes}
-use Rattle.postgres_types.specs.Records.{concat_bytes, count_fault, count_of, field_bytes, frame_bytes, oid_fault}
+use Rattle.postgres_types.specs.Records.{concat_bytes, count_fault, count_of, frame_bytes, oid_fault}
 use Rattle.postgres_types.specs.Records.{or_transmit}
 use Rattle.postgres_types.specs.declared.composite.fields.And.{And}
 

@@ -1,11 +1,10 @@
 -- A cell of an enumerated type has one outcome, and a value is read back as itself.
 use Rattle.std.specs.Prelude.{◌≡◌, ℕ, zero, suc, ◌==◌, ◌&&◌, ◌||◌, List, [], ◌∷◌, length, Bool, true, false, not}
-use Rattle.std.specs.Prelude.{Option, Some, None, Ok, Err, IsTrue, nat_le, slice_get, refl}
+use Rattle.std.specs.Prelude.{Option, Some, None, IsTrue, nat_le, slice_get, refl}
 use Rattle.std.specs.Cmp.Lexicographic.{pointwise}
 use Rattle.std.proofs.Common.{sym, ◌∙◌, ap, subst}
 use Rattle.std.proofs.lemmas.Bool.{and_parts}
 use Rattle.pg_types.proofs.Contents.{bytes-self}
-use Rattle.pg_base.specs.Cells.{Cell}
 use Rattle.pg_base.specs.Formats.{IsGrammar}
 use Rattle.pg_read.specs.Reading.{ReadsSingle}
 use Rattle.pg_read.specs.Laws.Reading.{plain_single}
@@ -41,21 +40,20 @@ first_and_others label others ok =
     (not_true (has_label others label) q.0, q.1)
 
 -- the first label comes at no other place
-no_second : (label : List ℕ) (others : List (List ℕ)) (i : ℕ) → has_label others label ≡ false
-    → slice_get others i ≡ Some label → ⊥
-no_second label others i first h = let found = label_in others i label h in cc
+no_second : (label : List ℕ) (others : List (List ℕ)) (i : ℕ) (b : List ℕ) → IsTrue (are_labels (label ∷ others))
+    → Some label ≡ Some b → slice_get others i ≡ Some b → ⊥
+no_second label others i b ok h k =
+    let e : b ≡ label = cc in
+    let found = label_in others i label (subst (λ s. slice_get others i ≡ Some s) e k) in
+    let first = (first_and_others label others ok).0 in cc
 
 -- a label has one place
-label_place : (labels : List (List ℕ)) → IsTrue (are_labels labels) → (i j : ℕ) (b : List ℕ) → slice_get labels i ≡ Some b
-    → slice_get labels j ≡ Some b → i ≡ j
+label_place : (labels : List (List ℕ)) → IsTrue (are_labels labels) → (i j : ℕ) (b : List ℕ)
+    → slice_get labels i ≡ Some b → slice_get labels j ≡ Some b → i ≡ j
 label_place [] ok i j b h k = let no : ⊥ = cc in absurd no
 label_place (label ∷ others) ok zero zero b h k = refl
-label_place (label ∷ others) ok zero (suc j) b h k =
-    let e : label ≡ b = cc in
-    absurd (no_second label others j (first_and_others label others ok).0 (subst (λ s. slice_get others j ≡ Some s) (sym e) k))
-label_place (label ∷ others) ok (suc i) zero b h k =
-    let e : label ≡ b = cc in
-    absurd (no_second label others i (first_and_others label others ok).0 (subst (λ s. slice_get others i ≡ Some s) (sym e) h))
+label_place (label ∷ others) ok zero (suc j) b h k = absurd (no_second label others j b ok h k)
+label_place (label ∷ others) ok (suc i) zero b h k = absurd (no_second label others i b ok k h)
 label_place (label ∷ others) ok (suc i) (suc j) b h k =
     ap suc (label_place others (first_and_others label others ok).1 i j b h k)
 

@@ -1,7 +1,6 @@
 -- What the proof of `from_sql` answers by hand.
-use Rattle.std.proofs.Common.{◌≡◌, ◌∙◌, false, IsUtf8, sym, subst}
-use Rattle.postgres_types.specs.Enums.{has_label}
-use Rattle.postgres_types.proofs.EnumLabels.{not_a_label, texts_of}
+use Rattle.std.proofs.Common.{IsUtf8, sym, subst}
+use Rattle.postgres_types.proofs.EnumLabels.{not_a_label}
 use Rattle.postgres_types.proofs.enums.EnumFromSql.from_sql.Goals as goal
 
 pub returns-clause-outcome : goal.returns-clause-outcome
