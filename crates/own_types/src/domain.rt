@@ -1,6 +1,6 @@
 //! Domains: one with a constraint, and one whose constraint is the server's to check.
 ghost use Rattle.std.specs.Prelude.{◌&&◌};
-ghost use Rattle.postgres_types.specs.Conversion.{codes, int_le, pos, refl, user};
+ghost use Rattle.postgres_types.specs.Conversion.{ap, codes, int_le, pos, refl, user};
 
 use postgres_types::Fault;
 use postgres_types::newtype::{FromNewtype, Newtype};
@@ -21,6 +21,8 @@ impl Newtype for Percentage {
     ghost unmet = { user (codes "percentage") };
 
     ghost short = { refl };
+
+    ghost injective = { λ v w. ap (λ n. record { 0 = n }) };
 
     fn name() -> &'static str {
         "percentage"
@@ -59,6 +61,8 @@ impl Newtype for Email {
     ghost inside = { λ v. v.0 };
 
     ghost short = { refl };
+
+    ghost injective = { λ v w. ap (λ text. record { 0 = text }) };
 
     fn name() -> &'static str {
         "email"

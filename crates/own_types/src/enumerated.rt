@@ -1,5 +1,5 @@
 //! An enumerated type.
-ghost use Rattle.std.specs.Prelude.{[], ◌∷◌, ℕ};
+ghost use Rattle.std.specs.Prelude.{[], ◌∷◌};
 ghost use Rattle.postgres_types.specs.Conversion.{codes, refl};
 ghost use Rattle.own_types.specs.declared.enumerated.Level.TheVariants.{Junior, Senior, Staff};
 
@@ -18,11 +18,15 @@ impl EnumType for Level {
 
     ghost labels = { codes "junior" ∷ codes "senior" ∷ codes "staff" ∷ [] };
 
-    ghost place = { λ v. elim v as (λ _. ℕ) [ Junior ↦ 0 | Senior ↦ 1 | Staff ↦ 2 ] };
+    ghost members = { Junior ∷ Senior ∷ Staff ∷ [] };
+
+    ghost place = { elim [ Junior ↦ 0 | Senior ↦ 1 | Staff ↦ 2 ] };
 
     ghost short = { refl };
 
     ghost proper = { refl };
+
+    ghost placed = { elim [ Junior ↦ refl | Senior ↦ refl | Staff ↦ refl ] };
 
     fn name() -> &'static str {
         "level"

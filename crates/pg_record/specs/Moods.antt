@@ -19,6 +19,10 @@ label Happy = codes "Happy"
 abbrev pub labels : List (List ℕ)
 labels = label Sad ∷ label MoodOk ∷ label Happy ∷ []
 
+-- the values, in the order of their labels
+abbrev pub members : List Mood
+members = Sad ∷ MoodOk ∷ Happy ∷ []
+
 -- the place of a value's label among them
 abbrev pub place : Mood → ℕ
 place Sad = 0

@@ -1,8 +1,8 @@
 //! The enumerated type `Mood`.
 ghost use Rattle.std.specs.Prelude.{◌≡◌, true};
 ghost use Rattle.postgres_types.specs.Conversion.{BackKept, EveryCell, codes, equal_equivalence, refl};
-ghost use Rattle.pg_record.specs.Moods.{ReadsMood, is_mood, labels, place, wire_mood};
-ghost use Rattle.pg_record.specs.Laws.Mood.{mood_lawful, mood_single};
+ghost use Rattle.pg_record.specs.Moods.{ReadsMood, is_mood, labels, members, place, wire_mood};
+ghost use Rattle.pg_record.specs.Laws.Mood.{mood_lawful, mood_single, placed};
 
 use postgres_types::enums::{Enum, EnumType};
 use postgres_types::private::BytesMut;
@@ -25,11 +25,15 @@ impl EnumType for Mood {
 
     ghost labels = { labels };
 
+    ghost members = { members };
+
     ghost place = { place };
 
     ghost short = { refl };
 
     ghost proper = { refl };
+
+    ghost placed = { placed };
 
     fn name() -> &'static str {
         "Mood"

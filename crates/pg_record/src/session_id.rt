@@ -25,8 +25,8 @@ fn is_session_id(ty: &Type) -> bool
     is_domain("SessionId", ty) && <Vec<u8> as FromSql>::accepts(&underlying_type(ty))
 }
 
-/// A type named `SessionId`, whatever its schema, of kind Domain over BYTEA: the cell of the member type
-/// (`domain_recv`), which is a copy of the bytes. NULL is `WasNull`.
+/// A type named `SessionId`, whatever its schema, of kind Domain over BYTEA: the cell of the underlying
+/// type (`domain_recv`), which is a copy of the bytes. NULL is `WasNull`.
 impl<'a> FromSql<'a> for SessionId {
     ghost same = { λ v w. v.0.items ≡ w.0.items };
 
@@ -54,7 +54,7 @@ impl<'a> FromSql<'a> for SessionId {
     }
 }
 
-/// The same types: the cell of the member type (`byteasend`). A session id is never NULL, even where it has
+/// The same types: the cell of the underlying type (`byteasend`). A session id is never NULL, even where it has
 /// no bytes.
 impl ToSql for SessionId {
     ghost accepted = { is_session_id };

@@ -24,6 +24,8 @@ use pg_write::to_sql::{ToSql, check_type};
 use std::alloc::Global;
 use std::fmt;
 
+pub mod laws;
+
 /// An enumeration whose members are the labels of an enumerated type.
 ///
 /// [`Enum`] around it is read and written. The enumeration says what the type and its labels are
@@ -35,6 +37,9 @@ pub trait EnumType: Copy + fmt::Debug {
 
     /// The labels.
     ghost labels: { List (List ℕ) };
+
+    /// The members, in the order of their labels.
+    ghost members: { List Self };
 
     /// The place of a member's label among the labels.
     ghost place: { Self → ℕ };
@@ -62,6 +67,9 @@ pub trait EnumType: Copy + fmt::Debug {
 
     /// Law: each label has at most 63 bytes, and none comes twice.
     ghost proper: { IsTrue (are_labels labels) };
+
+    /// Law: each member has a place of its own, which is its own among the members.
+    ghost placed: { (v : Self) → slice_get members (place v) ≡ Some v };
 }
 
 /// The value of an enumerated type that is a member of an enumeration.

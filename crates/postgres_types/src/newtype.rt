@@ -11,6 +11,7 @@ use pg_write::to_sql::ToSql;
 use std::fmt;
 
 mod domain;
+pub mod laws;
 mod transparent;
 
 pub use domain::{Domain, is_domain, underlying_type};
@@ -58,6 +59,9 @@ pub trait Newtype: Sized + fmt::Debug + Drop {
 
     /// Law: the name is short enough for a `WrongType`.
     ghost short: { IsTrue (nat_le (length type_name) 64) };
+
+    /// Law: structs with the same value inside are the same.
+    ghost injective: { (v w : Self) → inside v ≡ inside w → v ≡ w };
 }
 
 /// A struct around a value of another type, which is read.

@@ -1,12 +1,12 @@
 -- Laws of the enumerated type "Mood".
-use Rattle.std.specs.Prelude.{◌≡◌, None, refl}
+use Rattle.std.specs.Prelude.{◌≡◌, None, Some, refl, slice_get}
 use Rattle.std.proofs.Common.{sym, ◌∙◌, ap}
 use Rattle.postgres_types.specs.Formats.{IsGrammar}
 use Rattle.postgres_types.specs.Laws.Plain.{plain_lawful}
 use Rattle.postgres_types.specs.Reading.{ReadsSingle}
 use Rattle.postgres_types.specs.ReadingBack.{BackKept, IsLawful}
 use Rattle.postgres_types.specs.Laws.Reading.{plain_single}
-use Rattle.pg_record.specs.Moods.{FormMood, ReadsMood, first_fault_mood, label, wire_mood}
+use Rattle.pg_record.specs.Moods.{FormMood, ReadsMood, first_fault_mood, label, members, place, wire_mood}
 use Rattle.pg_record.specs.declared.mood.Mood.{Mood}
 use Rattle.pg_record.specs.declared.mood.Mood.TheVariants.{Sad, Ok as MoodOk, Happy}
 
@@ -27,6 +27,12 @@ label_single MoodOk Happy e = cc
 label_single Happy Sad e = cc
 label_single Happy MoodOk e = cc
 label_single Happy Happy e = refl
+
+-- each value is at its place among the values
+pub placed : (v : Mood) → slice_get members (place v) ≡ Some v
+placed Sad = refl
+placed MoodOk = refl
+placed Happy = refl
 
 -- labels are a grammar
 pub mood_grammar : IsGrammar (λ v w. v ≡ w) FormMood first_fault_mood

@@ -1,6 +1,6 @@
 //! Domains by `Newtype`: `percentage` over INT2, `email` over TEXT, a domain over a domain and one over an
 //! enumerated type.
-ghost use Rattle.postgres_types.specs.Conversion.{codes, int_le, pos, refl, user};
+ghost use Rattle.postgres_types.specs.Conversion.{ap, codes, int_le, pos, refl, user};
 
 use own_types::domain::{Email, Percentage};
 use own_types::enumerated::Level;
@@ -30,6 +30,8 @@ impl Newtype for Passed {
     ghost unmet = { user (codes "not passed") };
 
     ghost short = { refl };
+
+    ghost injective = { λ v w. ap (λ x. record { 0 = x }) };
 
     fn name() -> &'static str {
         "passed"
@@ -68,6 +70,8 @@ impl Newtype for Rank {
     ghost inside = { λ v. v.0 };
 
     ghost short = { refl };
+
+    ghost injective = { λ v w. ap (λ x. record { 0 = x }) };
 
     fn name() -> &'static str {
         "rank"

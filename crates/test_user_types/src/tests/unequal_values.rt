@@ -1,8 +1,12 @@
 //! Values that differ are not equal, so that the comparisons of the other tests say something.
 
+use own_types::domain::{Email, Percentage};
+use own_types::enumerated::Level;
 use own_types::nested_composite::Address;
 use pg_record::{InventoryItem, Mood, SessionId};
 use postgres_types::composite::{And, Composite, End};
+use postgres_types::enums::Enum;
+use postgres_types::newtype::{Domain, Transparent};
 use postgres_types::odd::{Gap, Moment, Picky, Short};
 use std::alloc::{AllocError, Global};
 use std::test::Fail;
@@ -82,4 +86,21 @@ fn composites_differ(rt: HostRuntime) -> Result<(), Fail> {
 fn rows_differ(_rt: HostRuntime) -> Result<(), Fail> {
     let first = And(1i32, And(2i32, End));
     differ(&[first, And(0, And(2, End)), And(1, And(0, End))])
+}
+
+#[test]
+fn labels_differ(_rt: HostRuntime) -> Result<(), Fail> {
+    differ(&[Enum(Level::Junior), Enum(Level::Senior), Enum(Level::Staff)])
+}
+
+fn email(alloc: Global, text: &str) -> Result<Email, AllocError> {
+    Ok(Email(String::from_str(alloc, text)?))
+}
+
+#[test]
+fn domains_differ(rt: HostRuntime) -> Result<(), Fail> {
+    differ(&[Domain(Percentage(0)), Domain(Percentage(1))])?;
+    let here = Transparent(email(rt.alloc(), "a@b")?);
+    let elsewhere = Transparent(email(rt.alloc(), "a@c")?);
+    differ(&[here, elsewhere])
 }
