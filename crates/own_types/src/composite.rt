@@ -1,10 +1,10 @@
 //! A composite type of eight fields, of which one is a composite and one an array of composites.
 ghost use Rattle.std.specs.Prelude.{[], ◌∷◌};
-ghost use Rattle.postgres_types.specs.CompositeFields.{and, end};
+ghost use Rattle.postgres_types.specs.CompositeFields.{and4, end};
 ghost use Rattle.postgres_types.specs.Conversion.{ap, codes, refl};
 
 use pg_record::InventoryItem;
-use postgres_types::composite::{And, End, Record, ToFields};
+use postgres_types::composite::{And4, End, FieldRefs, Record};
 use postgres_types::private::BytesMut;
 use postgres_types::{Fault, Field, UnixTime, from_row, row};
 use std::alloc::Global;
@@ -23,18 +23,18 @@ pub struct Purchase {
     pub items: Vec<InventoryItem>,
 }
 
-type Goods = And<Vec<String>, And<InventoryItem, And<Vec<InventoryItem>, End>>>;
+type Goods = And4<Option<i32>, Vec<String>, InventoryItem, Vec<InventoryItem>, End>;
 
 impl Record for Purchase {
-    type Fields = And<i64, And<String, And<bool, And<UnixTime, And<Option<i32>, Goods>>>>>;
+    type Fields = And4<i64, String, bool, UnixTime, Goods>;
 
     ghost type_name = { codes "purchase" };
 
     ghost names = { codes "id" ∷ codes "customer" ∷ codes "paid" ∷ codes "placed" ∷ codes "discount"
         ∷ codes "tags" ∷ codes "gift" ∷ codes "items" ∷ [] };
 
-    ghost inside = { λ v. and v.id (and v.customer (and v.paid (and v.placed (and v.discount
-        (and v.tags (and v.gift (and v.items end))))))) };
+    ghost inside = { λ v. and4 v.id v.customer v.paid v.placed
+        (and4 v.discount v.tags v.gift v.items end) };
 
     ghost short = { refl };
 
@@ -42,13 +42,13 @@ impl Record for Purchase {
 
     ghost injective = { λ v w. ap (λ r. record {
       id = r.0;
-      customer = r.1.0;
-      paid = r.1.1.0;
-      placed = r.1.1.1.0;
-      discount = r.1.1.1.1.0;
-      tags = r.1.1.1.1.1.0;
-      gift = r.1.1.1.1.1.1.0;
-      items = r.1.1.1.1.1.1.1.0;
+      customer = r.1;
+      paid = r.2;
+      placed = r.3;
+      discount = r.4.0;
+      tags = r.4.1;
+      gift = r.4.2;
+      items = r.4.3;
     }) };
 
     fn name() -> &'static str {

@@ -13,6 +13,7 @@ use Rattle.postgres_types.specs.ReadingBack.{IsLawful}
 use Rattle.postgres_types.specs.Laws.Record.{AreLawful, SamePair, end_lawful, end_single, field_lawful, field_single}
 use Rattle.postgres_types.specs.Records.{AtEnd, Both, Bytes, FieldThen, IsDone, concat_bytes, count_of, field_bytes}
 use Rattle.postgres_types.specs.Laws.ViewBack.{through_map}
+use Rattle.postgres_types.specs.declared.composite.and4.And4.{And4}
 use Rattle.postgres_types.specs.declared.composite.fields.And.{And}
 use Rattle.postgres_types.specs.declared.composite.fields.End.{End}
 
@@ -41,6 +42,14 @@ BackEnd fs v = Through nothing_in IsDone
 -- the value of a field before those of others
 abbrev pub and : {A B : Type 0} → A → B → And A B
 and a b = record { 0 = a; 1 = b }
+
+-- the values of four fields before those of others
+abbrev pub and4 : {A B C D E : Type 0} → A → B → C → D → E → And4 A B C D E
+and4 a b c d e = record { 0 = a; 1 = b; 2 = c; 3 = d; 4 = e }
+
+-- these, one field after another
+abbrev pub in_turn4 : {A B C D E : Type 0} → And4 A B C D E → And A (And B (And C (And D E)))
+in_turn4 v = and v.0 (and v.1 (and v.2 (and v.3 v.4)))
 
 abbrev pub pair_in : {A B : Type 0} → And A B → A × B
 pair_in v = (v.0, v.1)
@@ -79,7 +88,7 @@ BackAnd first others (FieldAnd name ty fs) v outcome =
 -- ---- laws
 
 -- fields that show others inside are lawful where those are
-through_are_lawful : {A B : Type 0} (inside : B → A) (same : A → A → Type 0) (reads : List ℕ → Outcome A → Type 0)
+pub through_are_lawful : {A B : Type 0} (inside : B → A) (same : A → A → Type 0) (reads : List ℕ → Outcome A → Type 0)
     (bytes : A → Bytes) (back : A → Outcome A → Type 0) → AreLawful same reads bytes back
     → AreLawful (λ v w. same (inside v) (inside w)) (λ s. Through inside (reads s)) (λ v. bytes (inside v))
     (λ v. Through inside (back (inside v)))

@@ -8,25 +8,35 @@
 //! around it is read and written, with nothing to prove. The calls that this is made of, such as
 //! [`read_field`], serve a conversion that is written by hand.
 
+mod and4;
 mod fields;
 pub mod laws;
 mod reading;
 mod record;
 mod writing;
 
-pub use fields::{And, End, FromFields, PairedFields, ToFields};
+pub use and4::And4;
+pub use fields::{And, End, FieldRefs, FromFields, PairedFields, ToFields};
 pub use reading::{fields_of, read_end, read_field, read_field_count};
 pub use record::{Composite, Record, is_record};
 pub use writing::{field_count_to_sql, field_to_sql};
 
 /// Fields in a row, by their names: `row!(name, price)` is `And(name, And(price, End))`, and
-/// `row!(self => name, price)` is `And(&self.name, And(&self.price, End))`.
+/// `row!(self => name, price)` is `And(&self.name, And(&self.price, End))`. Of four fields and more,
+/// each four are an `And4`, and those that are left an `And` each.
 #[macro_export]
 macro_rules! row {
     () => { $crate::composite::End };
     ($of:ident =>) => { $crate::composite::End };
+    ($of:ident => $a:ident, $b:ident, $c:ident, $d:ident $(, $other:ident)*) => {
+        $crate::composite::And4(
+            &$of.$a, &$of.$b, &$of.$c, &$of.$d, $crate::row!($of => $($other),*))
+    };
     ($of:ident => $first:ident $(, $other:ident)*) => {
         $crate::composite::And(&$of.$first, $crate::row!($of => $($other),*))
+    };
+    ($a:ident, $b:ident, $c:ident, $d:ident $(, $other:ident)*) => {
+        $crate::composite::And4($a, $b, $c, $d, $crate::row!($($other),*))
     };
     ($first:ident $(, $other:ident)*) => {
         $crate::composite::And($first, $crate::row!($($other),*))

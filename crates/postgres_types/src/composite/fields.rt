@@ -6,7 +6,7 @@ ghost use Rattle.pg_base.specs.Appending.{KeepsCapacity};
 ghost use Rattle.pg_base.specs.Sameness.{IsEquivalence};
 ghost use Rattle.pg_read.specs.Reading.{GivesSingle};
 ghost use Rattle.postgres_types.specs.CompositeFields.{BackAnd, BackEnd, ReadsAnd, ReadsEnd, SameAnd, accepts_and};
-ghost use Rattle.postgres_types.specs.CompositeFields.{and_equivalence, and_lawful, and_single, bytes_and};
+ghost use Rattle.postgres_types.specs.CompositeFields.{and, and_equivalence, and_lawful, and_single, bytes_and};
 ghost use Rattle.postgres_types.specs.CompositeFields.{no_fields_equivalence, no_fields_lawful, no_fields_single};
 ghost use Rattle.postgres_types.specs.CompositeFields.{and_width, no_fields, no_fields_width};
 ghost use Rattle.postgres_types.specs.Laws.Record.{AreLawful};
@@ -31,7 +31,7 @@ pub struct And<A, B>(pub A, pub B);
 pub struct End;
 
 /// The values of fields that are read: [`End`], or [`And`] of a type that is read and of others.
-pub trait FromFields<'a>: Sized + Drop {
+pub trait FromFields<'a>: Sized {
     /// Two values have the same content.
     ghost same: { Self → Self → Type 0 };
 
@@ -60,8 +60,8 @@ pub trait FromFields<'a>: Sized + Drop {
 }
 
 /// The values of fields that are written: [`End`], or [`And`] of a type that is written and of
-/// others. References to the values are written as they are.
-pub trait ToFields: Drop {
+/// others. References to them are written, as [`FieldRefs`].
+pub trait ToFields {
     /// The fields' types are accepted.
     ghost accepted: { FieldsContent → Bool };
 
@@ -71,19 +71,30 @@ pub trait ToFields: Drop {
     /// How many fields there are.
     ghost width: { ℕ };
 
-    /// Appends the fields, one after another. The types must be accepted. A refusal is that of the
-    /// first field that is refused, and leaves the buffer's bytes as they were, `Memory` too.
-    fn to_fields(&self, alloc: Global, fields: &[Field], out: &mut BytesMut) -> Result<(), Fault>
-        requires { IsTrue (accepted (fields_content fields.now)) }
-        ensures bytes { AppendsBytes (bytes (fields_content fields.now) self.now) out.old.items out.new.items result }
-        ensures capacity { KeepsCapacity out.old out.new };
-
     /// Whether so many fields, of these types, are written. Their names don't matter.
     fn accepts(fields: &[Field]) -> bool
         ensures { result ≡ accepted (fields_content fields.now) };
 
     /// Law: so many fields are accepted, and no other number of them.
     ghost width_of_accepted: { (fields : FieldsContent) → IsTrue (accepted fields) → count_of fields ≡ width };
+}
+
+/// References to the values of fields, which are written: [`End`], or [`And`] of a reference and of
+/// others.
+pub trait FieldRefs {
+    /// The types of the values.
+    type Values: ToFields;
+
+    /// The values that are referred to.
+    ghost values: { Self → Self.Values };
+
+    /// Appends the fields, one after another. The types must be accepted. A refusal is that of the
+    /// first field that is refused, and leaves the buffer's bytes as they were, `Memory` too.
+    fn to_fields(&self, alloc: Global, fields: &[Field], out: &mut BytesMut) -> Result<(), Fault>
+        requires { IsTrue (Self.Values.accepted (fields_content fields.now)) }
+        ensures bytes { AppendsBytes (Self.Values.bytes (fields_content fields.now) (values self.now))
+            out.old.items out.new.items result }
+        ensures capacity { KeepsCapacity out.old out.new };
 }
 
 /// The values of fields that are read back as they are written.
@@ -131,6 +142,16 @@ impl ToFields for End {
 
     ghost width_of_accepted = { no_fields_width };
 
+    fn accepts(fields: &[Field]) -> bool {
+        fields.is_empty()
+    }
+}
+
+impl FieldRefs for End {
+    type Values = End;
+
+    ghost values = { λ v. v };
+
     fn to_fields(
         &self,
         _alloc: Global,
@@ -138,10 +159,6 @@ impl ToFields for End {
         _out: &mut BytesMut,
     ) -> Result<(), Fault> {
         Ok(())
-    }
-
-    fn accepts(fields: &[Field]) -> bool {
-        fields.is_empty()
     }
 }
 
@@ -193,12 +210,25 @@ impl<A: ToSql, B: ToFields> ToFields for And<A, B> {
 
     ghost width_of_accepted = { and_width A.accepted B.accepted B.width B.width_of_accepted };
 
+    fn accepts(fields: &[Field]) -> bool {
+        match fields.split_first() {
+            Some((field, fields)) => A::accepts(field.type_()) && B::accepts(fields),
+            None => false,
+        }
+    }
+}
+
+impl<'a, A: ToSql, B: FieldRefs> FieldRefs for And<&'a A, B> {
+    type Values = And<A, B::Values>;
+
+    ghost values = { λ v. and v.0.now (B.values v.1) };
+
     fn to_fields(&self, alloc: Global, fields: &[Field], out: &mut BytesMut) -> Result<(), Fault> {
         let Some((field, fields)) = fields.split_first() else {
             unreachable!()
         };
         let start = out.len();
-        field_to_sql(alloc, &self.0, field.type_(), out)?;
+        field_to_sql(alloc, self.0, field.type_(), out)?;
         match self.1.to_fields(alloc, fields, out) {
             Ok(()) => Ok(()),
             Err(fault) => {
@@ -207,12 +237,15 @@ impl<A: ToSql, B: ToFields> ToFields for And<A, B> {
             }
         }
     }
+}
 
-    fn accepts(fields: &[Field]) -> bool {
-        match fields.split_first() {
-            Some((field, fields)) => A::accepts(field.type_()) && B::accepts(fields),
-            None => false,
-        }
+impl<'a, A: FieldRefs> FieldRefs for &'a A {
+    type Values = A::Values;
+
+    ghost values = { λ v. A.values v.now };
+
+    fn to_fields(&self, alloc: Global, fields: &[Field], out: &mut BytesMut) -> Result<(), Fault> {
+        (**self).to_fields(alloc, fields, out)
     }
 }
 

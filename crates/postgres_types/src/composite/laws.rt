@@ -1,11 +1,25 @@
 //! What equality means, each as a call whose contract says it.
 ghost use Rattle.std.specs.Prelude.{◌≡◌, ◌&&◌, true};
 
-use super::{And, Composite, End};
+use super::{And, And4, Composite, End};
 
 /// Whether two rows of fields are equal: in the first field and in the others.
 pub fn same_and<A: PartialEq, B: PartialEq>(a: &And<A, B>, b: &And<A, B>) -> bool
     ensures { result ≡ (A.eq a.now.0 b.now.0 && B.eq a.now.1 b.now.1) }
+{
+    *a == *b
+}
+
+/// Whether two rows of fields are equal: in the first four and in the others.
+pub fn same_and4<A, B, C, D, E>(a: &And4<A, B, C, D, E>, b: &And4<A, B, C, D, E>) -> bool
+where
+    A: PartialEq,
+    B: PartialEq,
+    C: PartialEq,
+    D: PartialEq,
+    E: PartialEq,
+    ensures { result ≡ (A.eq a.now.0 b.now.0 && (B.eq a.now.1 b.now.1 && (C.eq a.now.2 b.now.2
+        && (D.eq a.now.3 b.now.3 && E.eq a.now.4 b.now.4)))) }
 {
     *a == *b
 }

@@ -55,7 +55,9 @@ pub trait Record: Sized + fmt::Debug + Drop {
     fn from_row(row: Self::Fields) -> Self
         ensures { inside result ≡ row };
 
-    /// Appends its fields, as [`ToFields::to_fields`] does, of references to them in a row.
+    /// Appends its fields, as [`to_fields`] of references to them does.
+    ///
+    /// [`to_fields`]: super::FieldRefs::to_fields
     fn row_to_sql(&self, alloc: Global, fields: &[Field], out: &mut BytesMut) -> Result<(), Fault>
         requires { IsTrue (Self.Fields.accepted (fields_content fields.now)) }
         ensures bytes { AppendsBytes (Self.Fields.bytes (fields_content fields.now) (inside self.now))

@@ -3,7 +3,7 @@ ghost use Rattle.std.specs.Prelude.{◌∷◌, []};
 ghost use Rattle.postgres_types.specs.CompositeFields.{and, end};
 ghost use Rattle.postgres_types.specs.Conversion.{ap, codes, refl};
 
-use postgres_types::composite::{And, Composite, End, Record, ToFields};
+use postgres_types::composite::{And, Composite, End, FieldRefs, Record};
 use postgres_types::odd::Picky;
 use postgres_types::private::BytesMut;
 use postgres_types::{Fault, Field, Kind, Type};

@@ -1,11 +1,11 @@
 //! A composite type of an enumerated type, a domain and an array of a domain.
 ghost use Rattle.std.specs.Prelude.{[], ◌∷◌};
-ghost use Rattle.postgres_types.specs.CompositeFields.{and, end};
+ghost use Rattle.postgres_types.specs.CompositeFields.{and4, end};
 ghost use Rattle.postgres_types.specs.Conversion.{ap, codes, refl};
 
 use own_types::domain::{Email, Percentage};
 use own_types::enumerated::Level;
-use postgres_types::composite::{And, Composite, End, Record, ToFields};
+use postgres_types::composite::{And4, Composite, End, FieldRefs, Record};
 use postgres_types::enums::Enum;
 use postgres_types::newtype::Domain;
 use postgres_types::private::BytesMut;
@@ -21,30 +21,25 @@ struct Worker {
     name: String,
     level: Enum<Level>,
     score: Option<Domain<Percentage>>,
-    mails: Vec<Option<Domain<Email>>>,
+    mails: Mails,
 }
 
-type Mails = And<Vec<Option<Domain<Email>>>, End>;
+type Mails = Vec<Option<Domain<Email>>>;
 
 impl Record for Worker {
-    type Fields = And<String, And<Enum<Level>, And<Option<Domain<Percentage>>, Mails>>>;
+    type Fields = And4<String, Enum<Level>, Option<Domain<Percentage>>, Mails, End>;
 
     ghost type_name = { codes "worker" };
 
     ghost names = { codes "name" ∷ codes "level" ∷ codes "score" ∷ codes "mails" ∷ [] };
 
-    ghost inside = { λ v. and v.name (and v.level (and v.score (and v.mails end))) };
+    ghost inside = { λ v. and4 v.name v.level v.score v.mails end };
 
     ghost short = { refl };
 
     ghost names_width = { refl };
 
-    ghost injective = { λ v w. ap (λ r. record {
-      name = r.0;
-      level = r.1.0;
-      score = r.1.1.0;
-      mails = r.1.1.1.0;
-    }) };
+    ghost injective = { λ v w. ap (λ r. record { name = r.0; level = r.1; score = r.2; mails = r.3 }) };
 
     fn name() -> &'static str {
         "worker"
