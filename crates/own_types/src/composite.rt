@@ -1,10 +1,10 @@
 //! A composite type of eight fields, of which one is a composite and one an array of composites.
 ghost use Rattle.std.specs.Prelude.{[], ◌∷◌};
-ghost use Rattle.postgres_types.specs.CompositeFields.{and4, end};
+ghost use Rattle.postgres_types.specs.CompositeFields.{and8, end};
 ghost use Rattle.postgres_types.specs.Conversion.{ap, codes, refl};
 
 use pg_record::InventoryItem;
-use postgres_types::composite::{And4, End, FieldRefs, Record};
+use postgres_types::composite::{And8, End, FieldRefs, Record};
 use postgres_types::private::BytesMut;
 use postgres_types::{Fault, Field, UnixTime, from_row, row};
 use std::alloc::Global;
@@ -23,18 +23,25 @@ pub struct Purchase {
     pub items: Vec<InventoryItem>,
 }
 
-type Goods = And4<Option<i32>, Vec<String>, InventoryItem, Vec<InventoryItem>, End>;
-
 impl Record for Purchase {
-    type Fields = And4<i64, String, bool, UnixTime, Goods>;
+    type Fields = And8<
+        i64,
+        String,
+        bool,
+        UnixTime,
+        Option<i32>,
+        Vec<String>,
+        InventoryItem,
+        Vec<InventoryItem>,
+        End,
+    >;
 
     ghost type_name = { codes "purchase" };
 
     ghost names = { codes "id" ∷ codes "customer" ∷ codes "paid" ∷ codes "placed" ∷ codes "discount"
         ∷ codes "tags" ∷ codes "gift" ∷ codes "items" ∷ [] };
 
-    ghost inside = { λ v. and4 v.id v.customer v.paid v.placed
-        (and4 v.discount v.tags v.gift v.items end) };
+    ghost inside = { λ v. and8 v.id v.customer v.paid v.placed v.discount v.tags v.gift v.items end };
 
     ghost short = { refl };
 
@@ -45,10 +52,10 @@ impl Record for Purchase {
       customer = r.1;
       paid = r.2;
       placed = r.3;
-      discount = r.4.0;
-      tags = r.4.1;
-      gift = r.4.2;
-      items = r.4.3;
+      discount = r.4;
+      tags = r.5;
+      gift = r.6;
+      items = r.7;
     }) };
 
     fn name() -> &'static str {

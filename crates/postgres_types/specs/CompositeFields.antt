@@ -14,6 +14,7 @@ use Rattle.postgres_types.specs.Laws.Record.{AreLawful, SamePair, end_lawful, en
 use Rattle.postgres_types.specs.Records.{AtEnd, Both, Bytes, FieldThen, IsDone, concat_bytes, count_of, field_bytes}
 use Rattle.postgres_types.specs.Laws.ViewBack.{through_map}
 use Rattle.postgres_types.specs.declared.composite.and4.And4.{And4}
+use Rattle.postgres_types.specs.declared.composite.and8.And8.{And8}
 use Rattle.postgres_types.specs.declared.composite.fields.And.{And}
 use Rattle.postgres_types.specs.declared.composite.fields.End.{End}
 
@@ -50,6 +51,15 @@ and4 a b c d e = record { 0 = a; 1 = b; 2 = c; 3 = d; 4 = e }
 -- these, one field after another
 abbrev pub in_turn4 : {A B C D E : Type 0} → And4 A B C D E → And A (And B (And C (And D E)))
 in_turn4 v = and v.0 (and v.1 (and v.2 (and v.3 v.4)))
+
+-- the values of eight fields before those of others
+abbrev pub and8 : {A B C D E F G H I : Type 0} → A → B → C → D → E → F → G → H → I → And8 A B C D E F G H I
+and8 a b c d e f g h i = record { 0 = a; 1 = b; 2 = c; 3 = d; 4 = e; 5 = f; 6 = g; 7 = h; 8 = i }
+
+-- these, one field after another
+abbrev pub in_turn8 : {A B C D E F G H I : Type 0} → And8 A B C D E F G H I
+    → And A (And B (And C (And D (And E (And F (And G (And H I)))))))
+in_turn8 v = and v.0 (and v.1 (and v.2 (and v.3 (and v.4 (and v.5 (and v.6 (and v.7 v.8)))))))
 
 abbrev pub pair_in : {A B : Type 0} → And A B → A × B
 pair_in v = (v.0, v.1)

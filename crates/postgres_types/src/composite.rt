@@ -9,6 +9,7 @@
 //! [`read_field`], serve a conversion that is written by hand.
 
 mod and4;
+mod and8;
 mod fields;
 pub mod laws;
 mod reading;
@@ -16,24 +17,35 @@ mod record;
 mod writing;
 
 pub use and4::And4;
+pub use and8::And8;
 pub use fields::{And, End, FieldRefs, FromFields, PairedFields, ToFields};
 pub use reading::{fields_of, read_end, read_field, read_field_count};
 pub use record::{Composite, Record, is_record};
 pub use writing::{field_count_to_sql, field_to_sql};
 
 /// Fields in a row, by their names: `row!(name, price)` is `And(name, And(price, End))`, and
-/// `row!(self => name, price)` is `And(&self.name, And(&self.price, End))`. Of four fields and more,
-/// each four are an `And4`, and those that are left an `And` each.
+/// `row!(self => name, price)` is `And(&self.name, And(&self.price, End))`. Each eight fields are an
+/// `And8`, then four an `And4`, and those that are left an `And` each.
 #[macro_export]
 macro_rules! row {
     () => { $crate::composite::End };
     ($of:ident =>) => { $crate::composite::End };
+    ($of:ident => $a:ident, $b:ident, $c:ident, $d:ident, $e:ident, $f:ident, $g:ident, $h:ident
+        $(, $other:ident)*) => {
+        $crate::composite::And8(
+            &$of.$a, &$of.$b, &$of.$c, &$of.$d, &$of.$e, &$of.$f, &$of.$g, &$of.$h,
+            $crate::row!($of => $($other),*))
+    };
     ($of:ident => $a:ident, $b:ident, $c:ident, $d:ident $(, $other:ident)*) => {
         $crate::composite::And4(
             &$of.$a, &$of.$b, &$of.$c, &$of.$d, $crate::row!($of => $($other),*))
     };
     ($of:ident => $first:ident $(, $other:ident)*) => {
         $crate::composite::And(&$of.$first, $crate::row!($of => $($other),*))
+    };
+    ($a:ident, $b:ident, $c:ident, $d:ident, $e:ident, $f:ident, $g:ident, $h:ident
+        $(, $other:ident)*) => {
+        $crate::composite::And8($a, $b, $c, $d, $e, $f, $g, $h, $crate::row!($($other),*))
     };
     ($a:ident, $b:ident, $c:ident, $d:ident $(, $other:ident)*) => {
         $crate::composite::And4($a, $b, $c, $d, $crate::row!($($other),*))

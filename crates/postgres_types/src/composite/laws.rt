@@ -1,7 +1,7 @@
 //! What equality means, each as a call whose contract says it.
 ghost use Rattle.std.specs.Prelude.{◌≡◌, ◌&&◌, true};
 
-use super::{And, And4, Composite, End};
+use super::{And, And4, And8, Composite, End};
 
 /// Whether two rows of fields are equal: in the first field and in the others.
 pub fn same_and<A: PartialEq, B: PartialEq>(a: &And<A, B>, b: &And<A, B>) -> bool
@@ -20,6 +20,28 @@ where
     E: PartialEq,
     ensures { result ≡ (A.eq a.now.0 b.now.0 && (B.eq a.now.1 b.now.1 && (C.eq a.now.2 b.now.2
         && (D.eq a.now.3 b.now.3 && E.eq a.now.4 b.now.4)))) }
+{
+    *a == *b
+}
+
+/// Whether two rows of fields are equal: in the first eight and in the others.
+pub fn same_and8<A, B, C, D, E, F, G, H, I>(
+    a: &And8<A, B, C, D, E, F, G, H, I>,
+    b: &And8<A, B, C, D, E, F, G, H, I>,
+) -> bool
+where
+    A: PartialEq,
+    B: PartialEq,
+    C: PartialEq,
+    D: PartialEq,
+    E: PartialEq,
+    F: PartialEq,
+    G: PartialEq,
+    H: PartialEq,
+    I: PartialEq,
+    ensures { result ≡ (A.eq a.now.0 b.now.0 && (B.eq a.now.1 b.now.1 && (C.eq a.now.2 b.now.2
+        && (D.eq a.now.3 b.now.3 && (E.eq a.now.4 b.now.4 && (F.eq a.now.5 b.now.5 && (G.eq a.now.6 b.now.6
+        && (H.eq a.now.7 b.now.7 && I.eq a.now.8 b.now.8)))))))) }
 {
     *a == *b
 }

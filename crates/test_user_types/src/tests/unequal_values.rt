@@ -4,7 +4,7 @@ use own_types::domain::{Email, Percentage};
 use own_types::enumerated::Level;
 use own_types::nested_composite::Address;
 use pg_record::{InventoryItem, Mood, SessionId};
-use postgres_types::composite::{And, Composite, End};
+use postgres_types::composite::{And, And4, And8, Composite, End};
 use postgres_types::enums::Enum;
 use postgres_types::newtype::{Domain, Transparent};
 use postgres_types::odd::{Gap, Moment, Picky, Short};
@@ -85,7 +85,9 @@ fn composites_differ(rt: HostRuntime) -> Result<(), Fail> {
 #[test]
 fn rows_differ(_rt: HostRuntime) -> Result<(), Fail> {
     let first = And(1i32, And(2i32, End));
-    differ(&[first, And(0, And(2, End)), And(1, And(0, End))])
+    differ(&[first, And(0, And(2, End)), And(1, And(0, End))])?;
+    differ(&[And4(1i32, 2i32, 3i32, 4i32, End), And4(1, 2, 3, 0, End)])?;
+    differ(&[And8(1i32, 2i32, 3i32, 4i32, 5i32, 6i32, 7i32, 8i32, End), And8(1, 2, 3, 4, 0, 6, 7, 8, End)])
 }
 
 #[test]
