@@ -11,6 +11,7 @@ mod fixed_arrays;
 mod formats;
 mod frames;
 mod growths;
+mod known_frames;
 mod list_reading;
 mod list_refusals;
 mod list_writing;

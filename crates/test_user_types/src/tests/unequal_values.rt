@@ -87,7 +87,10 @@ fn rows_differ(_rt: HostRuntime) -> Result<(), Fail> {
     let first = And(1i32, And(2i32, End));
     differ(&[first, And(0, And(2, End)), And(1, And(0, End))])?;
     differ(&[And4(1i32, 2i32, 3i32, 4i32, End), And4(1, 2, 3, 0, End)])?;
-    differ(&[And8(1i32, 2i32, 3i32, 4i32, 5i32, 6i32, 7i32, 8i32, End), And8(1, 2, 3, 4, 0, 6, 7, 8, End)])
+    differ(&[
+        And8(1i32, 2i32, 3i32, 4i32, 5i32, 6i32, 7i32, 8i32, End),
+        And8(1, 2, 3, 4, 0, 6, 7, 8, End),
+    ])
 }
 
 #[test]
