@@ -11,6 +11,7 @@ mod percentages;
 mod refusals;
 mod refused_fields;
 mod session_ids;
+mod surveys;
 mod timestamps;
 mod unequal_values;
 mod user_defined;
