@@ -1,6 +1,6 @@
 -- The steps of reading and writing a record, one after another.
 use Rattle.std.proofs.Common.{◌≡◌, ◌++◌, ℕ, List, [], ◌∷◌, length, take, drop, Option, Some, None}
-use Rattle.std.proofs.Common.{Result, Ok, Err, IfSome}
+use Rattle.std.proofs.Common.{Result, Ok, Err, IfSome, ◌≤◌}
 use Rattle.std.proofs.Common.{refl, sym, ap, subst, ◌∙◌, append_assoc, append-nil, inl, inr, nat_eq, suc, arith, true}
 use Rattle.std.specs.Result.{is_err}
 use Rattle.std.specs.Bool.{⊤}
@@ -10,21 +10,21 @@ use Rattle.std.proofs.lemmas.List.{take-append-drop, take_all}
 use Rattle.std.proofs.lemmas.Option.{IfSome_then}
 use Rattle.pg_types.specs.Content.{Content, FieldsContent, FieldAnd, content, field_name, field_type}
 use Rattle.pg_types.specs.Content.{fields_content, oid_of}
-use Rattle.pg_types.specs.Faults.{Outcome, Refusal, refusal_of, size}
+use Rattle.pg_types.specs.Faults.{NeverMemory, Outcome, Refusal, refusal_of, size}
 use Rattle.pg_types.specs.declared.fault.Fault.{Fault}
 use Rattle.pg_types.specs.declared.types.PgType.{PgType}
 use Rattle.pg_types.specs.declared.types.kind.Field.{Field}
 use Rattle.pg_base.specs.Appending.{Wire}
-use Rattle.pg_base.specs.Cells.{Cell, frame}
+use Rattle.pg_base.specs.Cells.{Cell, Spells, SpellsAll, frame}
 use Rattle.pg_base.specs.Counts.{after_number, no_trailing}
 use Rattle.pg_base.specs.Formats.{first_fault_of}
-use Rattle.pg_read.specs.FrameReading.{BeginsWithCells, ReadsFirst}
+use Rattle.pg_read.specs.FrameReading.{AnswersSize, BeginsWithCells, ReadsFirst}
 use Rattle.pg_write.specs.ParamWriting.{AppendsFrame}
 use Rattle.pg_write.specs.ArrayWriting.{element_frame_cell, with_frame}
 use Rattle.postgres_types.specs.CompositeFields.{ReadsAnd, and, no_fields}
-use Rattle.postgres_types.specs.Records.{AppendsBytes, AppendsBytesOrPart, AtEnd, Both, Bytes, CellThen, CountThen}
-use Rattle.postgres_types.specs.Records.{PassesCheck, FieldThen, FrameThen, IsDone, IsRefused, ReadsNext, PassesNumber}
-use Rattle.postgres_types.specs.Records.{Unless, append_bytes}
+use Rattle.postgres_types.specs.Records.{AnswersRefusal, AppendsBytes, AppendsBytesOrPart, AtEnd, Both, Bytes, CellThen}
+use Rattle.postgres_types.specs.Records.{CountThen, FieldFree, PassesCheck, FieldThen, FrameThen, IsDone, IsRefused, ReadsNext, PassesNumber}
+use Rattle.postgres_types.specs.Records.{RecordFree, Unless, append_bytes}
 use Rattle.postgres_types.specs.Records.{concat_bytes, count_fault, count_of, frame_bytes, oid_fault}
 use Rattle.postgres_types.specs.Records.{or_transmit}
 use Rattle.postgres_types.specs.declared.composite.fields.And.{And}
@@ -215,6 +215,65 @@ module _ {A B : Type 0} (reads : Cell → Outcome A → Type 0) (free : Cell →
       → IfSome o (λ r. FieldThen oid reads others s (Err r))
   others_not_read oid s v None h k = tt
   others_not_read oid s v (Some r) h k = next_read (oid_fault oid s) s v (Err r) h (λ c x. inr (v, x, k))
+
+-- ---- memory
+
+refusal_is_no_memory : {A : Type 0} (r : Refusal) (result : Result A Fault) → AnswersRefusal r result → NeverMemory result
+refusal_is_no_memory r (Ok v) h = tt
+refusal_is_no_memory r (Err f) h = rw h refl
+
+size_is_no_memory : {A : Type 0} (result : Result A Fault) → AnswersSize result → NeverMemory result
+size_is_no_memory (Ok v) h = tt
+size_is_no_memory (Err f) h = rw h refl
+
+-- where the number of fields is refused, it is not for memory
+pub number_takes_none : (x : Option Refusal) (old new : List ℕ) (result : Result ⊤ Fault) → PassesNumber x old result new
+    → NeverMemory result
+number_takes_none None old new (Ok u) h = tt
+number_takes_none None old new (Err f) h = let no : ⊥ = cc in absurd no
+number_takes_none (Some r) old new result h = refusal_is_no_memory r result h.0
+
+-- after it the slice stands after the number
+pub number_passed : {u : ⊤} (x : Option Refusal) (old new : List ℕ) → PassesNumber x old (Ok u) new → new ≡ after_number old
+number_passed None old new h = h.1
+number_passed (Some r) old new h = absurd h.0
+
+module _ {A : Type 0} (reads : Cell → Outcome A → Type 0) (free : Cell → Type 0) (others : List ℕ → Type 0)
+    (new : List ℕ) where
+  abbrev FrontFree : List ℕ → Type 0
+  FrontFree s = (front rest : List ℕ) (c : Cell) → s ≡ front ++ rest → Spells front c → free c × others rest
+
+  first_takes_none : (s : List ℕ) (cs : List Cell) (rest : List ℕ) (result : Result A Fault) → FrontFree s
+      → SpellsAll s cs rest → ReadsFirst reads free s cs rest result new → NeverMemory result
+  first_takes_none s [] rest result fits spelled h = size_is_no_memory result h.0
+  first_takes_none s (c ∷ cs) rest result fits spelled h =
+      h.1 (fits spelled.front spelled.rest c spelled.is spelled.spells).0
+
+  then_free : (s : List ℕ) (cs : List Cell) (rest : List ℕ) (v : A) → FrontFree s → length cs ≤ 1
+      → SpellsAll s cs rest → ReadsFirst reads free s cs rest (Ok v) new → others new
+  then_free s [] rest v fits few spelled h = absurd h.0
+  then_free s (c ∷ []) rest v fits few spelled h =
+      subst others (spelled.rest_spells ∙ sym h.2) (fits spelled.front spelled.rest c spelled.is spelled.spells).1
+  then_free s (c ∷ d ∷ cs) rest v fits few spelled h = let no : ⊥ = omega (arith, few) in absurd no
+
+  -- a field that is read without memory
+  pub field_takes_none : (x : Option Refusal) (s : List ℕ) (result : Result A Fault) → FieldFree free others s
+      → ReadsNext x reads free s result new → NeverMemory result
+  field_takes_none None s result fits h =
+      first_takes_none (after_number s) h.cells h.rest result fits h.in_row.0 h.holds
+  field_takes_none (Some r) s result fits h = refusal_is_no_memory r result h.0
+
+  -- and what follows it
+  pub others_take_none : (x : Option Refusal) (s : List ℕ) (v : A) → FieldFree free others s
+      → ReadsNext x reads free s (Ok v) new → others new
+  others_take_none None s v fits h =
+      then_free (after_number s) h.cells h.rest v fits h.in_row.1 h.in_row.0 h.holds
+  others_take_none (Some r) s v fits h = absurd h.0
+
+-- a record's cells are read without memory where all bytes of its fields are
+pub record_free : (fields : List ℕ → Type 0) → ((s : List ℕ) → fields s) → (c : Cell) → RecordFree fields c
+record_free fields all None = tt
+record_free fields all (Some s) = all (after_number s)
 
 -- ---- fields in a row
 

@@ -9,7 +9,7 @@ use Rattle.pg_types.specs.Content.{KindContent, CompositeKind, FieldsContent, No
 use Rattle.pg_types.specs.Faults.{Refusal, Outcome, field_count, field_oid, refusal_of, size, transmit}
 use Rattle.pg_types.specs.declared.fault.Fault.{Fault}
 use Rattle.pg_base.specs.Appending.{Wire}
-use Rattle.pg_base.specs.Cells.{Cell, frame}
+use Rattle.pg_base.specs.Cells.{Cell, Spells, frame}
 use Rattle.pg_base.specs.Counts.{after_number, count_bytes, has_number, no_trailing, number_in, number_width}
 use Rattle.pg_base.specs.Formats.{Checks, NotNull, first_fault_of}
 use Rattle.pg_read.specs.FrameReading.{BeginsWithCells, ReadsFrame, after_truncated}
@@ -94,6 +94,16 @@ CountThen n fs s = Unless (count_fault n s) (fs (after_number s))
 -- a record of n fields; NULL is WasNull
 abbrev pub ReadsRecord : {A : Type 0} → ℕ → (List ℕ → Outcome A → Type 0) → Cell → Outcome A → Type 0
 ReadsRecord n fs = NotNull (CountThen n fs)
+
+-- a field's cell is read without memory, and so is what follows it
+abbrev pub FieldFree : (Cell → Type 0) → (List ℕ → Type 0) → List ℕ → Type 0
+FieldFree free others s =
+    (front rest : List ℕ) (c : Cell) → after_number s ≡ front ++ rest → Spells front c → free c × others rest
+
+-- a record's fields are read without memory; NULL always is
+abbrev pub RecordFree : (List ℕ → Type 0) → Cell → Type 0
+RecordFree fs None = Unit {0}
+RecordFree fs (Some s) = fs (after_number s)
 
 -- ---- written
 

@@ -68,7 +68,7 @@ pub trait EnumType: Copy + fmt::Debug {
     /// Law: each label has at most 63 bytes, and none comes twice.
     ghost proper: { IsTrue (are_labels labels) };
 
-    /// Law: each member has a place of its own, which is its own among the members.
+    /// Law: each member stands among the members at its place.
     ghost placed: { (v : Self) → slice_get members (place v) ≡ Some v };
 }
 

@@ -38,6 +38,8 @@ where
 
     ghost reads = { λ fields s. Through in_turn4 (⟦<InTurn<A, B, C, D, E> as FromFields<'a>>⟧.reads fields s) };
 
+    ghost memory_free = { ⟦<InTurn<A, B, C, D, E> as FromFields<'a>>⟧.memory_free };
+
     ghost equivalence = { inside_equivalence in_turn4 ⟦<InTurn<A, B, C, D, E> as FromFields<'a>>⟧.same
         (and_equivalence A.same _ A.equivalence (and_equivalence B.same _ B.equivalence (and_equivalence C.same _
         C.equivalence (and_equivalence D.same _ D.equivalence E.equivalence)))) };

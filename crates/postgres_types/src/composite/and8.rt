@@ -56,14 +56,18 @@ where
     ghost reads = { λ fields s. Through in_turn8 (⟦<InTurn<A, B, C, D, E, F, G, H, I> as FromFields<'a>>⟧.reads fields
         s) };
 
+    ghost memory_free = { ⟦<InTurn<A, B, C, D, E, F, G, H, I> as FromFields<'a>>⟧.memory_free };
+
     ghost equivalence = { inside_equivalence in_turn8 ⟦<InTurn<A, B, C, D, E, F, G, H, I> as FromFields<'a>>⟧.same
         (and_equivalence A.same _ A.equivalence (and_equivalence B.same _ B.equivalence (and_equivalence C.same _
         C.equivalence (and_equivalence D.same _ D.equivalence (and_equivalence E.same _ E.equivalence (and_equivalence
         F.same _ F.equivalence (and_equivalence G.same _ G.equivalence (and_equivalence H.same _ H.equivalence
         I.equivalence)))))))) };
 
-    ghost single = { λ fields ok s. through_gives_single in_turn8 ⟦<InTurn<A, B, C, D, E, F, G, H, I> as FromFields<'a>>⟧.same (⟦<InTurn<A, B, C, D, E, F, G, H, I> as FromFields<'a>>⟧.reads fields s) (and_single
-        A.same A.accepted A.reads _ _ _ A.single (and_single B.same B.accepted B.reads _ _ _ B.single (and_single
+    ghost single = { λ fields ok s. through_gives_single in_turn8
+        ⟦<InTurn<A, B, C, D, E, F, G, H, I> as FromFields<'a>>⟧.same
+        (⟦<InTurn<A, B, C, D, E, F, G, H, I> as FromFields<'a>>⟧.reads fields s)
+        (and_single A.same A.accepted A.reads _ _ _ A.single (and_single B.same B.accepted B.reads _ _ _ B.single (and_single
         C.same C.accepted C.reads _ _ _ C.single (and_single D.same D.accepted D.reads _ _ _ D.single (and_single
         E.same E.accepted E.reads _ _ _ E.single (and_single F.same F.accepted F.reads _ _ _ F.single (and_single
         G.same G.accepted G.reads _ _ _ G.single (and_single H.same H.accepted H.reads _ _ _ H.single I.single)))))))
@@ -163,7 +167,12 @@ where
         (and_types F.FromSql.accepted F.ToSql.accepted _ _ F.types (and_types G.FromSql.accepted G.ToSql.accepted _ _
         G.types (and_types H.FromSql.accepted H.ToSql.accepted _ _ H.types I.types))))))) };
 
-    ghost lawful = { λ fields ok. through_are_lawful in_turn8 ⟦<InTurn<A, B, C, D, E, F, G, H, I> as FromFields<'a>>⟧.same (⟦<InTurn<A, B, C, D, E, F, G, H, I> as FromFields<'a>>⟧.reads fields) (⟦<InTurn<A, B, C, D, E, F, G, H, I> as ToFields>⟧.bytes fields) (⟦<InTurn<A, B, C, D, E, F, G, H, I> as PairedFields<'a>>⟧.back fields) (and_lawful A.same A.FromSql.accepted A.reads _ _ _ A.wire A.back _ _ A.lawful
+    ghost lawful = { λ fields ok. through_are_lawful in_turn8
+        ⟦<InTurn<A, B, C, D, E, F, G, H, I> as FromFields<'a>>⟧.same
+        (⟦<InTurn<A, B, C, D, E, F, G, H, I> as FromFields<'a>>⟧.reads fields)
+        (⟦<InTurn<A, B, C, D, E, F, G, H, I> as ToFields>⟧.bytes fields)
+        (⟦<InTurn<A, B, C, D, E, F, G, H, I> as PairedFields<'a>>⟧.back fields)
+        (and_lawful A.same A.FromSql.accepted A.reads _ _ _ A.wire A.back _ _ A.lawful
         (and_lawful B.same B.FromSql.accepted B.reads _ _ _ B.wire B.back _ _ B.lawful (and_lawful C.same
         C.FromSql.accepted C.reads _ _ _ C.wire C.back _ _ C.lawful (and_lawful D.same D.FromSql.accepted D.reads _ _
         _ D.wire D.back _ _ D.lawful (and_lawful E.same E.FromSql.accepted E.reads _ _ _ E.wire E.back _ _ E.lawful

@@ -1,7 +1,7 @@
 //! The fields of a composite type in a row.
 ghost use Rattle.std.specs.Prelude.{◌≡◌, ℕ, List, Bool, IsTrue, [], Ok, suc};
 ghost use Rattle.pg_types.specs.Content.{FieldsContent, fields_content};
-ghost use Rattle.pg_types.specs.Faults.{Answers, Outcome};
+ghost use Rattle.pg_types.specs.Faults.{Answers, NeverMemory, Outcome};
 ghost use Rattle.pg_base.specs.Appending.{KeepsCapacity};
 ghost use Rattle.pg_base.specs.Sameness.{IsEquivalence};
 ghost use Rattle.pg_read.specs.Reading.{GivesSingle};
@@ -10,7 +10,7 @@ ghost use Rattle.postgres_types.specs.CompositeFields.{and, and_equivalence, and
 ghost use Rattle.postgres_types.specs.CompositeFields.{no_fields_equivalence, no_fields_lawful, no_fields_single};
 ghost use Rattle.postgres_types.specs.CompositeFields.{and_width, no_fields, no_fields_width};
 ghost use Rattle.postgres_types.specs.Laws.Record.{AreLawful};
-ghost use Rattle.postgres_types.specs.Records.{AppendsBytes, Bytes, count_of};
+ghost use Rattle.postgres_types.specs.Records.{AppendsBytes, Bytes, FieldFree, count_of};
 
 use super::reading::{read_end, read_field};
 use super::writing::field_to_sql;
@@ -41,11 +41,15 @@ pub trait FromFields<'a>: Sized {
     /// The fields' bytes have that outcome.
     ghost reads: { FieldsContent → List ℕ → Outcome Self → Type 0 };
 
+    /// The fields' bytes are read without memory.
+    ghost memory_free: { List ℕ → Type 0 };
+
     /// Reads the fields, one after another, and then the record's end: the first fault of a field,
     /// or `Size` where bytes trail the last one, or `Memory`. The types must be accepted.
     fn from_fields(alloc: Global, fields: &[Field], raw: &'a [u8]) -> Result<Self, Fault>
         requires { IsTrue (accepted (fields_content fields.now)) }
-        ensures { Answers (reads (fields_content fields.now) raw.entry.now) result };
+        ensures outcome { Answers (reads (fields_content fields.now) raw.entry.now) result }
+        ensures never_memory { memory_free raw.entry.now → NeverMemory result };
 
     /// Whether so many fields, of these types, are read. Their names don't matter.
     fn accepts(fields: &[Field]) -> bool
@@ -79,8 +83,11 @@ pub trait ToFields {
     ghost width_of_accepted: { (fields : FieldsContent) → IsTrue (accepted fields) → count_of fields ≡ width };
 }
 
-/// References to the values of fields, which are written: [`End`], or [`And`] of a reference and of
-/// others.
+/// References to the values of fields, which are written: [`End`], or [`And`], [`And4`] or [`And8`]
+/// of references and of others.
+///
+/// [`And4`]: super::And4
+/// [`And8`]: super::And8
 pub trait FieldRefs {
     /// The types of the values.
     type Values: ToFields;
@@ -118,6 +125,8 @@ impl<'a> FromFields<'a> for End {
     ghost accepted = { no_fields };
 
     ghost reads = { ReadsEnd };
+
+    ghost memory_free = { λ _. Unit {0} };
 
     ghost equivalence = { no_fields_equivalence };
 
@@ -178,6 +187,8 @@ impl<'a, A: FromSql<'a>, B: FromFields<'a>> FromFields<'a> for And<A, B> {
     ghost accepted = { accepts_and A.accepted B.accepted };
 
     ghost reads = { ReadsAnd A.reads B.reads };
+
+    ghost memory_free = { FieldFree A.memory_free B.memory_free };
 
     ghost equivalence = { and_equivalence A.same B.same A.equivalence B.equivalence };
 

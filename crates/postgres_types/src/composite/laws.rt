@@ -1,7 +1,9 @@
-//! What equality means, each as a call whose contract says it.
-ghost use Rattle.std.specs.Prelude.{◌≡◌, ◌&&◌, true};
+//! What equality means, and what is read without memory, each as a call whose contract says it.
+ghost use Rattle.std.specs.Prelude.{◌≡◌, ◌&&◌, ℕ, List, true};
+ghost use Rattle.pg_base.specs.Cells.{Cell};
 
-use super::{And, And4, And8, Composite, End};
+use super::{And, And4, And8, Composite, End, FromFields, Record};
+use pg_read::from_sql::FromSql;
 
 /// Whether two rows of fields are equal: in the first field and in the others.
 pub fn same_and<A: PartialEq, B: PartialEq>(a: &And<A, B>, b: &And<A, B>) -> bool
@@ -59,3 +61,19 @@ pub fn same_composite<T: PartialEq>(a: &Composite<T>, b: &Composite<T>) -> bool
 {
     *a == *b
 }
+
+/// A field and others are read without memory where both are.
+pub fn fields_read_without_memory<'a, A: FromSql<'a>, B: FromFields<'a>>()
+    requires first { (cell : Cell) → A.memory_free cell }
+    requires others { (bytes : List ℕ) → B.memory_free bytes }
+    ensures { (bytes : List ℕ) → ⟦<And<A, B> as FromFields<'a>>⟧.memory_free bytes }
+{}
+
+/// A composite type's cells are read without memory where its fields are.
+#[tactic(auto, using(crate::proofs::RecordSteps::record_free))]
+pub fn record_read_without_memory<'a, T: Record>()
+where
+    T::Fields: FromFields<'a>,
+    requires { (bytes : List ℕ) → T.Fields.memory_free bytes }
+    ensures { (cell : Cell) → ⟦<Composite<T> as FromSql<'a>>⟧.memory_free cell }
+{}

@@ -2,13 +2,12 @@
 ghost use Rattle.std.specs.Prelude.{◌≡◌, ◌≤◌, List, Bool, IsTrue, length, map, nat_le, true, ℕ};
 ghost use Rattle.pg_types.specs.Content.{content, fields_content, kind_of};
 ghost use Rattle.pg_base.proofs.SamenessLaws.{inside_equivalence};
-ghost use Rattle.pg_read.specs.Reading.{NullAlone};
 ghost use Rattle.pg_read.specs.Laws.Reading.{through_single};
 ghost use Rattle.pg_read.specs.Views.{ReadsThrough, Through};
 ghost use Rattle.postgres_types.specs.Composites.{accepts_record, are_named, composite_lawful, composite_single};
 ghost use Rattle.postgres_types.specs.Composites.{composite_types, is_composite, is_record, reads_record, record_cell};
 ghost use Rattle.pg_base.specs.Appending.{KeepsCapacity};
-ghost use Rattle.postgres_types.specs.Records.{AppendsBytes, fields_of_kind, record_bytes};
+ghost use Rattle.postgres_types.specs.Records.{AppendsBytes, RecordFree, fields_of_kind, record_bytes};
 ghost use Rattle.postgres_types.specs.Laws.ViewBack.{through_lawful};
 
 use super::fields::{FromFields, PairedFields, ToFields};
@@ -83,7 +82,7 @@ pub trait Record: Sized + fmt::Debug + Drop {
 /// In reading, fewer than 4 bytes are `Size`, and another number of fields is `FieldCount`. Then,
 /// field by field: a truncated OID is `Size`, another OID than that of the field's type `FieldOid`,
 /// a truncated cell `Size`, and a cell that the field's type refuses has its fault. Trailing bytes
-/// are `Size`. In writing, the first field that is refused gives the fault, which is `Transmit`
+/// are `Size`. A record takes no memory of its own. In writing, the first field that is refused gives the fault, which is `Transmit`
 /// where its cell passes 2,147,483,647 bytes. A refusal leaves the buffer's bytes as they were.
 #[derive(Debug, PartialEq, Eq, Drop)]
 pub struct Composite<T>(pub T);
@@ -128,7 +127,7 @@ where
 
     ghost reads = { λ ty. ReadsThrough (λ v. T.inside v.0) (reads_record T.Fields.reads ty) };
 
-    ghost memory_free = { NullAlone };
+    ghost memory_free = { RecordFree T.Fields.memory_free };
 
     ghost equivalence = { inside_equivalence (λ v. T.inside v.0) T.Fields.same T.Fields.equivalence };
 
