@@ -3,4 +3,5 @@ mod CopyLaws
 mod EscapeLaws
 mod LineLaws
 mod OutputLaws
+mod ReadingLaws
 mod TupleLaws

@@ -1,46 +1,97 @@
 -- Laws of lines.
 use Rattle.std.proofs.Common.{◌≡◌, ℕ, suc, zero, ◌+◌, List, [], ◌∷◌, ◌++◌, length, refl, ap, sym, ◌∙◌, arith}
-use Rattle.std.proofs.Common.{append_assoc, append-nil, length-append}
-use Rattle.pg_copy.specs.Lines.{GainsFields, IsField, IsLine, tab_before, tabbed}
+use Rattle.std.proofs.Common.{append_assoc, append-nil, length-append, subst, take}
+use Rattle.pg_base.specs.Cells.{Cell, SpellsAll}
+use Rattle.pg_copy.specs.Lines.{AreFieldsOf, AreLinesOf, FieldOf, IsLineOf, tab_before, tabbed}
 use Rattle.pg_copy.specs.Outputs.{Extends, Gains}
-use Rattle.pg_copy.proofs.OutputLaws.{all_append}
+use Rattle.pg_copy.specs.ReadingSteps.{TakesField, TakesRow}
+use Rattle.pg_copy.specs.declared.columns.Column.{Column}
+use Rattle.pg_read.proofs.ArrayCellSteps.{spelled_more}
 
-pub no_field : (a : List ℕ) → GainsFields 0 a a
-no_field a = ([], refl, tt, sym (append-nil a))
+-- fields are as many as columns, and so are cells
+pub fields_width : (columns : List Column) (cells : List Cell) (fields : List (List ℕ)) → AreFieldsOf columns cells fields
+    → (length cells ≡ length columns) × (length fields ≡ length columns)
+fields_width [] [] [] h = (refl, refl)
+fields_width [] [] (f ∷ fs) h = absurd h
+fields_width [] (x ∷ xs) [] h = absurd h
+fields_width [] (x ∷ xs) (f ∷ fs) h = absurd h
+fields_width (c ∷ cs) [] [] h = absurd h
+fields_width (c ∷ cs) [] (f ∷ fs) h = absurd h
+fields_width (c ∷ cs) (x ∷ xs) [] h = absurd h
+fields_width (c ∷ cs) (x ∷ xs) (f ∷ fs) h =
+    let p = fields_width cs xs fs h.1 in
+    (ap suc p.0, ap suc p.1)
 
-tabbed_next : (field : List ℕ) (fields : List (List ℕ)) (next : List ℕ)
+module _ (column : Column) (cell : Cell) (field : List ℕ) (one : FieldOf column cell field) where
+  fields_more : (columns : List Column) (cells : List Cell) (fields : List (List ℕ)) → AreFieldsOf columns cells fields
+      → AreFieldsOf (columns ++ column ∷ []) (cells ++ cell ∷ []) (fields ++ field ∷ [])
+  fields_more [] [] [] h = (one, tt)
+  fields_more [] [] (f ∷ fs) h = absurd h
+  fields_more [] (x ∷ xs) [] h = absurd h
+  fields_more [] (x ∷ xs) (f ∷ fs) h = absurd h
+  fields_more (c ∷ cs) [] [] h = absurd h
+  fields_more (c ∷ cs) [] (f ∷ fs) h = absurd h
+  fields_more (c ∷ cs) (x ∷ xs) [] h = absurd h
+  fields_more (c ∷ cs) (x ∷ xs) (f ∷ fs) h = (h.0, fields_more cs xs fs h.1)
+
+tabbed_more : (field : List ℕ) (fields : List (List ℕ)) (next : List ℕ)
     → tabbed (field ∷ (fields ++ next ∷ [])) ≡ tabbed (field ∷ fields) ++ 9 ∷ next
-tabbed_next field [] next = refl
-tabbed_next field (f ∷ fields) next =
-    ap (λ l. field ++ 9 ∷ l) (tabbed_next f fields next) ∙ sym (append_assoc field (9 ∷ tabbed (f ∷ fields)) (9 ∷ next))
+tabbed_more field [] next = refl
+tabbed_more field (f ∷ fields) next =
+    ap (λ l. field ++ 9 ∷ l) (tabbed_more f fields next) ∙ sym (append_assoc field (9 ∷ tabbed (f ∷ fields)) (9 ∷ next))
 
-longer : (fields : List (List ℕ)) (field : List ℕ) (n : ℕ) → length fields ≡ n → length (fields ++ field ∷ []) ≡ n + 1
-longer fields field n e = let sum = length-append fields (field ∷ []) in omega (arith, e, sum)
+tabbed_next : (fields : List (List ℕ)) (next : List ℕ)
+    → tabbed (fields ++ next ∷ []) ≡ tabbed fields ++ (tab_before (length fields) ++ next)
+tabbed_next [] next = refl
+tabbed_next (field ∷ fields) next = tabbed_more field fields next
 
-pub next_field : (n : ℕ) (a b m c : List ℕ) → GainsFields n a b → m ≡ b ++ tab_before n → Gains IsField m c
-    → GainsFields (n + 1) a c
-next_field zero a b m c ([], e, f, is) tab q = (
-  q.0 ∷ [],
-  refl,
-  (q.1, tt),
-  q.2 ∙ ap (λ l. l ++ q.0) (tab ∙ append-nil b ∙ is ∙ append-nil a),
+-- the fields of so many columns were appended, and their cells taken
+abbrev pub TakesFields : List Column → List ℕ → List ℕ → List ℕ → List ℕ → Type 0
+TakesFields columns old new lines longer =
+    (cells : List Cell) × (fields : List (List ℕ)) × AreFieldsOf columns cells fields × SpellsAll old cells new
+    × (longer ≡ lines ++ tabbed fields)
+
+pub no_field : (old lines : List ℕ) → TakesFields [] old old lines lines
+no_field old lines = ([], [], tt, refl, sym (append-nil lines))
+
+pub next_field : (columns : List Column) (column : Column) (n : ℕ) (old mid new lines longer tab longest : List ℕ)
+    → length columns ≡ n → TakesFields columns old mid lines longer → tab ≡ longer ++ tab_before n
+    → TakesField column mid new tab longest → TakesFields (columns ++ column ∷ []) old new lines longest
+next_field columns column n old mid new lines longer tab longest count (cells, fields, are, spelled, is) tabs
+    (cell, next, field, one, then) = (
+  cells ++ cell ∷ [],
+  fields ++ field ∷ [],
+  fields_more column cell field one columns cells fields are,
+  spelled_more old mid new cells (cell ∷ []) spelled next,
+  (let place : n ≡ length fields = sym count ∙ sym (fields_width columns cells fields are).1 in
+  then ∙ ap (λ l. l ++ field) (tabs ∙ ap (λ l. l ++ tab_before n) is) ∙ append_assoc (lines ++ tabbed fields) (tab_before n) field
+      ∙ append_assoc lines (tabbed fields) (tab_before n ++ field)
+      ∙ ap (λ l. lines ++ (tabbed fields ++ (tab_before l ++ field))) place
+      ∙ ap (λ l. lines ++ l) (sym (tabbed_next fields field))),
 )
-next_field zero a b m c (field ∷ fields, e, f, is) tab q = let bad : ⊥ = omega (arith, e) in absurd bad
-next_field (suc n) a b m c ([], e, f, is) tab q = let bad : ⊥ = omega (arith, e) in absurd bad
-next_field (suc n) a b m c (field ∷ fields, e, f, is) tab q = (
-  (field ∷ fields) ++ q.0 ∷ [],
-  longer (field ∷ fields) q.0 (suc n) e,
-  all_append IsField (field ∷ fields) (q.0 ∷ []) f (q.1, tt),
-  q.2 ∙ ap (λ l. l ++ q.0) tab ∙ append_assoc b (9 ∷ []) q.0 ∙ ap (λ l. l ++ 9 ∷ q.0) is
-      ∙ append_assoc a (tabbed (field ∷ fields)) (9 ∷ q.0) ∙ ap (λ l. a ++ l) (sym (tabbed_next field fields q.0)),
+
+pub line_ends : (columns : List Column) (old new lines longer longest : List ℕ)
+    → TakesFields columns old new lines longer → longest ≡ longer ++ 10 ∷ [] → TakesRow columns old new lines longest
+line_ends columns old new lines longer longest (cells, fields, are, spelled, is) e = (
+  cells,
+  spelled,
+  tabbed fields ++ 10 ∷ [],
+  (fields, are, refl),
+  e ∙ ap (λ l. l ++ 10 ∷ []) is ∙ append_assoc lines (tabbed fields) (10 ∷ []),
 )
 
-pub line_ends : (n : ℕ) (a b c : List ℕ) → GainsFields n a b → c ≡ b ++ 10 ∷ [] → Gains (IsLine n) a c
-line_ends n a b c p e = (
-  tabbed p.0 ++ 10 ∷ [],
-  (p.0, p.1, p.2, refl),
-  e ∙ ap (λ l. l ++ 10 ∷ []) p.3 ∙ append_assoc a (tabbed p.0) (10 ∷ []),
-)
+pub fields_extend : (columns : List Column) (old new lines longer : List ℕ) → TakesFields columns old new lines longer
+    → Extends lines longer
+fields_extend columns old new lines longer (cells, fields, are, spelled, is) = (tabbed fields, is)
 
-pub fields_extend : (n : ℕ) (a b : List ℕ) → GainsFields n a b → Extends a b
-fields_extend n a b p = (tabbed p.0, p.3)
+pub lines_next : (columns : List Column) (rows : List (List Cell)) (row : List Cell) (lines line : List ℕ)
+    → AreLinesOf columns rows lines → IsLineOf columns row line → AreLinesOf columns (rows ++ row ∷ []) (lines ++ line)
+lines_next columns [] row lines line h one =
+    (line, [], one, refl, ap (λ l. l ++ line) h ∙ sym (append-nil line))
+lines_next columns (first ∷ rows) row lines line (l, rest, p, q, is) one = (
+  l,
+  rest ++ line,
+  p,
+  lines_next columns rows row rest line q one,
+  ap (λ s. s ++ line) is ∙ append_assoc l rest line,
+)

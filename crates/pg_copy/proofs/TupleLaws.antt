@@ -1,33 +1,11 @@
 -- Laws of frames in a row.
-use Rattle.std.proofs.Common.{ℕ, ◌+◌, List, [], ◌∷◌, ◌++◌, refl, sym, subst, arith, length-append}
+use Rattle.std.proofs.Common.{ℕ, ◌+◌, List, [], ◌∷◌, ◌++◌, refl, sym, arith, length-append}
 use Rattle.std.proofs.Common.{◌≡◌, pos, Some, ap, ◌∙◌, append_assoc, append-nil}
-use Rattle.pg_base.specs.Cells.{Cell, SpellsAll, be, concat, frame, frames}
+use Rattle.pg_base.specs.Cells.{Cell, be, concat, frame, frames}
 use Rattle.pg_base.proofs.Concat.{concat-nil, frames-append}
 use Rattle.std.specs.Int.{w16}
 use Rattle.pg_copy.specs.Outputs.{Extends, Gains}
 use Rattle.pg_copy.specs.Tuples.{FrameThen, FramesThen, GainsFrames, IsFrame, IsTuple}
-
--- cells after cells are cells in a row
-spelled_more : (s u rest : List ℕ) (cs ds : List Cell) → SpellsAll s cs u → SpellsAll u ds rest
-    → SpellsAll s (cs ++ ds) rest
-spelled_more s u rest [] ds e r = subst (λ x. SpellsAll x ds rest) (sym e) r
-spelled_more s u rest (c ∷ cs) ds p r = record {
-  front = p.front;
-  rest = p.rest;
-  is = p.is;
-  spells = p.spells;
-  rest_spells = spelled_more p.rest u rest cs ds p.rest_spells r;
-}
-
--- a frame after so many is one more
-pub frames_next : (s mid rest : List ℕ) (n : ℕ) → FramesThen s n mid → FrameThen mid rest → FramesThen s (n + 1) rest
-frames_next s mid rest n h f =
-    let one : SpellsAll mid (f.0 ∷ []) rest =
-    record { front = f.1; rest = rest; is = f.2; spells = f.3; rest_spells = refl } in (
-      h.0 ++ f.0 ∷ [],
-      omega (arith, h.1, length-append h.0 (f.0 ∷ [])),
-      spelled_more s mid rest h.0 (f.0 ∷ []) h.2 one,
-    )
 
 pub no_frame : (a : List ℕ) → GainsFrames 0 a a
 no_frame a = ([], [], refl, refl, sym (append-nil a))
@@ -36,6 +14,16 @@ next_frames : (cells : List Cell) (cell : Cell) (bytes more : List ℕ) → fram
     → frame cell ≡ Some more → frames (cells ++ cell ∷ []) ≡ Some (bytes ++ more)
 next_frames cells cell bytes more so_far next =
     frames-append cells (cell ∷ []) ∙ ap (concat (frames cells)) (concat-nil (frame cell)) ∙ rw (so_far, next) refl
+
+-- a frame after so many is one more
+pub frames_next : (s mid rest : List ℕ) (n : ℕ) → FramesThen s n mid → FrameThen mid rest → FramesThen s (n + 1) rest
+frames_next s mid rest n (cells, bytes, count, are, is) (cell, more, one, then) = (
+  cells ++ cell ∷ [],
+  bytes ++ more,
+  (let sum = length-append cells (cell ∷ []) in omega (arith, count, sum)),
+  next_frames cells cell bytes more are one,
+  is ∙ ap (λ l. bytes ++ l) then ∙ sym (append_assoc bytes more rest),
+)
 
 -- one frame more
 pub next_frame : (n : ℕ) (a b c : List ℕ) → GainsFrames n a b → Gains IsFrame b c → GainsFrames (n + 1) a c

@@ -2,4 +2,6 @@
 pub mod Escapes
 pub mod Lines
 pub mod Outputs
+pub mod ReadingSteps
+pub mod Rows
 pub mod Tuples

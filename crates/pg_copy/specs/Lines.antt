@@ -1,11 +1,20 @@
 -- Lines of COPY's text format.
-use Rattle.std.specs.Prelude.{◌≡◌, ℕ, zero, suc, ◌⊎◌, List, [], ◌∷◌, ◌++◌, length}
-use Rattle.std.specs.List.{AllByRecursion}
+use Rattle.std.specs.Prelude.{◌≡◌, ℕ, zero, suc, List, [], ◌∷◌, ◌++◌, Some, None}
+use Rattle.pg_base.specs.Cells.{Cell}
 use Rattle.pg_copy.specs.Escapes.{escaped}
+use Rattle.pg_copy.specs.declared.columns.Column.{Column}
 
--- a field is an escaped text, or \N for NULL
-abbrev pub IsField : List ℕ → Type 0
-IsField field = ((text : List ℕ) × (field ≡ escaped text)) ⊎ (field ≡ 92 ∷ 78 ∷ [])
+-- the field of a column's cell: \N of NULL, and of bytes an escaped text
+abbrev pub FieldOf : Column → Cell → List ℕ → Type 0
+FieldOf column None field = field ≡ 92 ∷ 78 ∷ []
+FieldOf column (Some bytes) field = (text : List ℕ) × (field ≡ escaped text)
+
+-- the fields of a row's cells, one for each column
+abbrev pub AreFieldsOf : List Column → List Cell → List (List ℕ) → Type 0
+AreFieldsOf [] [] [] = Unit {0}
+AreFieldsOf (column ∷ columns) (cell ∷ cells) (field ∷ fields) =
+    FieldOf column cell field × AreFieldsOf columns cells fields
+AreFieldsOf _ _ _ = ⊥
 
 -- the fields, with a tab between two of them
 abbrev pub tabbed : List (List ℕ) → List ℕ
@@ -18,12 +27,13 @@ abbrev pub tab_before : ℕ → List ℕ
 tab_before zero = []
 tab_before (suc place) = 9 ∷ []
 
--- so many fields were appended, with a tab between two of them
-abbrev pub GainsFields : ℕ → List ℕ → List ℕ → Type 0
-GainsFields n old new =
-    (fields : List (List ℕ)) × (length fields ≡ n) × AllByRecursion IsField fields × (new ≡ old ++ tabbed fields)
+-- the line of a row: its fields with tabs, and a line feed
+abbrev pub IsLineOf : List Column → List Cell → List ℕ → Type 0
+IsLineOf columns cells line =
+    (fields : List (List ℕ)) × AreFieldsOf columns cells fields × (line ≡ tabbed fields ++ 10 ∷ [])
 
--- a line of so many fields, which ends with a line feed
-abbrev pub IsLine : ℕ → List ℕ → Type 0
-IsLine n line =
-    (fields : List (List ℕ)) × (length fields ≡ n) × AllByRecursion IsField fields × (line ≡ tabbed fields ++ 10 ∷ [])
+-- the lines of rows, one after another
+abbrev pub AreLinesOf : List Column → List (List Cell) → List ℕ → Type 0
+AreLinesOf columns [] lines = lines ≡ []
+AreLinesOf columns (row ∷ rows) lines =
+    (line rest : List ℕ) × IsLineOf columns row line × AreLinesOf columns rows rest × (lines ≡ line ++ rest)

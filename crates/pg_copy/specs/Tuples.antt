@@ -1,16 +1,17 @@
 -- What the tuples of a binary COPY are made of.
 use Rattle.std.specs.Prelude.{◌≡◌, ℕ, pos, ◌⊎◌, List, [], ◌∷◌, ◌++◌, length, Some}
 use Rattle.std.specs.Int.{w16}
-use Rattle.pg_base.specs.Cells.{Cell, Spells, SpellsAll, be, frame, frames}
+use Rattle.pg_base.specs.Cells.{Cell, be, frame, frames}
 use Rattle.pg_copy.specs.Outputs.{AreRows}
 
--- s is a frame and then rest: what stands before rest spells a cell
+-- s is the frame of a cell and then rest
 abbrev pub FrameThen : List ℕ → List ℕ → Type 0
-FrameThen s rest = (c : Cell) × (t : List ℕ) × (s ≡ t ++ rest) × Spells t c
+FrameThen s rest = (cell : Cell) × (bytes : List ℕ) × (frame cell ≡ Some bytes) × (s ≡ bytes ++ rest)
 
--- s is so many frames, one after another, and then rest
+-- s is the frames of so many cells, one after another, and then rest
 abbrev pub FramesThen : List ℕ → ℕ → List ℕ → Type 0
-FramesThen s n rest = (cs : List Cell) × (length cs ≡ n) × SpellsAll s cs rest
+FramesThen s n rest =
+    (cells : List Cell) × (bytes : List ℕ) × (length cells ≡ n) × (frames cells ≡ Some bytes) × (s ≡ bytes ++ rest)
 
 -- the bytes are the frame of a cell
 abbrev pub IsFrame : List ℕ → Type 0

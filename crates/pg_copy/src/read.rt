@@ -1,7 +1,9 @@
 //! From a binary COPY to lines of text.
-ghost use Rattle.std.specs.Prelude.{◌≡◌, ◌≢◌, ◌<◌, ◌++◌, OnOk, OnErr, IfErr, length};
-ghost use Rattle.pg_copy.specs.Lines.{IsField, IsLine, tab_before};
-ghost use Rattle.pg_copy.specs.Outputs.{AreRows, Extends, Gains, WritesPart, WritesWhole};
+ghost use Rattle.std.specs.Prelude.{◌≡◌, ◌≢◌, ◌×◌, ℕ, List, [], ◌++◌, IfErr, IfOk, OnErr, OnOk, length};
+ghost use Rattle.pg_copy.specs.Lines.{tab_before};
+ghost use Rattle.pg_copy.specs.Outputs.{Extends, WritesPart, WritesWhole};
+ghost use Rattle.pg_copy.specs.ReadingSteps.{Advances, TakesField, TakesRow};
+ghost use Rattle.pg_copy.specs.Rows.{IsCopyOf, OfInput, StartsCopyOf};
 
 use crate::columns::Column;
 use crate::copy_fault::{CopyFault, Row, value_fault};
@@ -51,12 +53,12 @@ pub fn read<R: Read, W: Write>(
     input: &mut R,
     output: &mut W,
 ) -> Result<(), CopyFault>
-    ensures ok { OnOk result (WritesWhole (AreRows (IsLine (length columns.now)))
-        (W.contents output.old) (W.contents output.new)) }
-    ensures whole { IfErr result (λ e. e ≢ CopyFault.Write →
-        WritesWhole (AreRows (IsLine (length columns.now))) (W.contents output.old) (W.contents output.new)) }
-    ensures part { OnErr result (WritesPart (AreRows (IsLine (length columns.now)))
-        (W.contents output.old) (W.contents output.new)) }
+    ensures ok { OnOk result (OfInput (R.remaining input.old) (λ bytes.
+        WritesWhole (IsCopyOf columns.now bytes) (W.contents output.old) (W.contents output.new))) }
+    ensures whole { IfErr result (λ e. e ≢ CopyFault.Write → OfInput (R.remaining input.old) (λ bytes.
+        WritesWhole (StartsCopyOf columns.now bytes) (W.contents output.old) (W.contents output.new))) }
+    ensures part { OnErr result (OfInput (R.remaining input.old) (λ bytes.
+        WritesPart (StartsCopyOf columns.now bytes) (W.contents output.old) (W.contents output.new))) }
 {
     let mut reading = Reading {
         alloc,
@@ -95,8 +97,11 @@ impl Reading<'_> {
         spare: &mut Vec<u8>,
     ) -> Result<(), CopyFault>
         ensures columns { self.new.columns.now ≡ self.old.columns.now }
-        ensures lines { Gains (AreRows (IsLine (length self.old.columns.now)))
-            self.old.lines.items self.new.lines.items }
+        ensures ok { OnOk result (Advances self.old.columns.now self.old.place (held.old.items ++ block.now)
+            self.old.lines.items self.new.place held.new.items self.new.lines.items) }
+        ensures end { OnOk result (self.new.place ≡ Place.End → held.new.items ≡ []) }
+        ensures err { OnErr result ((rest : List ℕ) × Advances self.old.columns.now self.old.place
+            (held.old.items ++ block.now) self.old.lines.items self.new.place rest self.new.lines.items) }
     {
         held.extend_from_slice(block)?;
         let mut rest = held.as_slice();
@@ -114,15 +119,11 @@ impl Reading<'_> {
     /// leaves the lines of the tuples before it.
     fn take(&mut self, bytes: &mut &[u8]) -> Result<(), CopyFault>
         ensures columns { self.new.columns.now ≡ self.old.columns.now }
-        ensures lines { Gains (AreRows (IsLine (length self.old.columns.now)))
-            self.old.lines.items self.new.lines.items }
+        ensures steps { Advances self.old.columns.now self.old.place bytes.old.now self.old.lines.items
+            self.new.place bytes.new.now self.new.lines.items }
+        ensures end { OnOk result (self.new.place ≡ Place.End → bytes.new.now ≡ []) }
     {
-        if self.place == Place::Header {
-            match take_header(bytes)? {
-                Some(len) => self.place = Place::Extension(len),
-                None => return Ok(()),
-            }
-        }
+        self.take_head(bytes)?;
         if let Place::Extension(len) = self.place {
             self.skip(len, bytes);
         }
@@ -135,10 +136,26 @@ impl Reading<'_> {
         Ok(())
     }
 
+    /// Takes the header up to its extension, where that is to come and is there.
+    fn take_head(&mut self, bytes: &mut &[u8]) -> Result<(), CopyFault>
+        ensures columns { self.new.columns.now ≡ self.old.columns.now }
+        ensures steps { Advances self.old.columns.now self.old.place bytes.old.now self.old.lines.items
+            self.new.place bytes.new.now self.new.lines.items }
+    {
+        if self.place == Place::Header
+            && let Some(len) = take_header(bytes)?
+        {
+            self.place = Place::Extension(len);
+        }
+        Ok(())
+    }
+
     /// Takes what is there of so many bytes of the header extension.
     fn skip(&mut self, len: usize, bytes: &mut &[u8])
+        requires { self.old.place ≡ Place.Extension len }
         ensures columns { self.new.columns.now ≡ self.old.columns.now }
-        ensures lines { self.new.lines.items ≡ self.old.lines.items }
+        ensures steps { Advances self.old.columns.now self.old.place bytes.old.now self.old.lines.items
+            self.new.place bytes.new.now self.new.lines.items }
     {
         match bytes.split_at_checked(len) {
             Some((_, rest)) => {
@@ -152,57 +169,64 @@ impl Reading<'_> {
         }
     }
 
-    /// Takes the whole tuples, and the trailer.
+    /// Takes the whole tuples, and the trailer. A fault leaves the tuple that it is of.
     fn take_tuples(&mut self, bytes: &mut &[u8]) -> Result<(), CopyFault>
+        requires { self.old.place ≡ Place.Tuples }
         ensures columns { self.new.columns.now ≡ self.old.columns.now }
-        ensures lines { Gains (AreRows (IsLine (length self.old.columns.now)))
-            self.old.lines.items self.new.lines.items }
+        ensures steps { Advances self.old.columns.now self.old.place bytes.old.now self.old.lines.items
+            self.new.place bytes.new.now self.new.lines.items }
     {
         // A tuple has two bytes at least.
         'tuples: for _ in 0..bytes.len() {
             let row = self.row.saturating_add(1);
             match front_of(bytes, self.columns.len(), Row::Tuple(row))? {
                 Front::Part => return Ok(()),
-                Front::Trailer => {
+                Front::Trailer(rest) => {
                     self.place = Place::End;
-                    take_count(bytes);
+                    *bytes = rest;
                     return Ok(());
                 }
-                Front::Tuple => {
+                Front::Tuple(fields) => {
                     self.row = row;
-                    self.take_tuple(bytes)?;
+                    *bytes = self.take_row(fields)?;
                 }
             }
         }
         Ok(())
     }
 
-    /// Takes a whole tuple, and appends its line. A fault leaves the lines as they were.
-    fn take_tuple(&mut self, bytes: &mut &[u8]) -> Result<(), CopyFault>
+    /// Appends the line of the fields at the front, and answers what stands after them. A fault leaves
+    /// the lines as they were.
+    fn take_row<'f>(&mut self, fields: &'f [u8]) -> Result<&'f [u8], CopyFault>
         ensures columns { self.new.columns.now ≡ self.old.columns.now }
-        ensures ok { OnOk result (Gains (IsLine (length self.old.columns.now))
+        ensures place { self.new.place ≡ self.old.place }
+        ensures ok { IfOk result (λ rest. TakesRow self.old.columns.now fields.now rest.now
             self.old.lines.items self.new.lines.items) }
         ensures err { OnErr result (self.new.lines.items ≡ self.old.lines.items) }
     {
         let start = self.lines.len();
-        take_count(bytes);
-        let outcome = self.push_line(bytes);
-        if outcome.is_err() {
-            self.lines.truncate(start);
+        let mut rest = fields;
+        match self.push_line(&mut rest) {
+            Ok(()) => Ok(rest),
+            Err(fault) => {
+                self.lines.truncate(start);
+                Err(fault)
+            }
         }
-        outcome
     }
 
     /// Appends the line of the fields, and takes them. A fault leaves a part of the line.
     fn push_line(&mut self, fields: &mut &[u8]) -> Result<(), CopyFault>
         ensures columns { self.new.columns.now ≡ self.old.columns.now }
-        ensures ok { OnOk result (Gains (IsLine (length self.old.columns.now))
+        ensures place { self.new.place ≡ self.old.place }
+        ensures ok { OnOk result (TakesRow self.old.columns.now fields.old.now fields.new.now
             self.old.lines.items self.new.lines.items) }
         ensures err { OnErr result (Extends self.old.lines.items self.new.lines.items) }
     {
-        'columns: for place in 0..self.columns.len() {
+        let columns = self.columns;
+        'columns: for place in 0..columns.len() {
             self.push_tab(place)?;
-            self.push_field(place, fields)?;
+            self.push_field(&columns[place], place, fields)?;
         }
         Ok(self.lines.push(b'\n')?)
     }
@@ -210,6 +234,7 @@ impl Reading<'_> {
     /// Appends the tab before the field at that place, where it is not the first.
     fn push_tab(&mut self, place: usize) -> Result<(), CopyFault>
         ensures columns { self.new.columns.now ≡ self.old.columns.now }
+        ensures place { self.new.place ≡ self.old.place }
         ensures ok { OnOk result (self.new.lines.items ≡ self.old.lines.items ++ tab_before place) }
         ensures err { OnErr result (self.new.lines.items ≡ self.old.lines.items) }
     {
@@ -219,16 +244,22 @@ impl Reading<'_> {
         Ok(())
     }
 
-    /// Appends the field of the column at that place, and takes it off the front of the fields. A
-    /// fault leaves a part of it.
-    fn push_field(&mut self, place: usize, fields: &mut &[u8]) -> Result<(), CopyFault>
-        requires { place < length self.old.columns.now }
+    /// Appends the field of the column, which is the one at that place, and takes it off the front of
+    /// the fields. A fault leaves a part of it.
+    fn push_field(
+        &mut self,
+        column: &Column,
+        place: usize,
+        fields: &mut &[u8],
+    ) -> Result<(), CopyFault>
         ensures columns { self.new.columns.now ≡ self.old.columns.now }
-        ensures ok { OnOk result (Gains IsField self.old.lines.items self.new.lines.items) }
+        ensures place { self.new.place ≡ self.old.place }
+        ensures ok { OnOk result (TakesField column.now fields.old.now fields.new.now
+            self.old.lines.items self.new.lines.items) }
         ensures err { OnErr result (Extends self.old.lines.items self.new.lines.items) }
     {
         self.value.clear();
-        match push_cell(self.alloc, &self.columns[place], fields, &mut self.value) {
+        match push_cell(self.alloc, column, fields, &mut self.value) {
             Ok(true) => Ok(escape(self.value.as_slice(), &mut self.lines)?),
             Ok(false) => Ok(self.lines.extend_from_slice(b"\\N")?),
             Err(fault) => {
@@ -239,18 +270,13 @@ impl Reading<'_> {
     }
 
     /// What the end of the input says.
-    fn finish(&self) -> Result<(), CopyFault> {
+    fn finish(&self) -> Result<(), CopyFault>
+        ensures { OnOk result (self.now.place ≡ Place.End) }
+    {
         if self.place == Place::End {
             Ok(())
         } else {
             Err(CopyFault::Truncated)
         }
-    }
-}
-
-/// Takes the two bytes of a number of columns.
-fn take_count(bytes: &mut &[u8]) {
-    if let Some((_, rest)) = bytes.split_first_chunk::<2>() {
-        *bytes = rest;
     }
 }

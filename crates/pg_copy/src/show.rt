@@ -1,4 +1,6 @@
 //! The text of a cell, by the base name of its column.
+ghost use Rattle.std.specs.Prelude.{IfOk};
+ghost use Rattle.pg_copy.specs.ReadingSteps.{TakesCell};
 
 use crate::columns::Column;
 use named_types::{Base, base_names};
@@ -40,7 +42,9 @@ pub fn push_cell(
     column: &Column,
     row: &mut &[u8],
     text: &mut Vec<u8>,
-) -> Result<bool, Fault> {
+) -> Result<bool, Fault>
+    ensures { IfOk result (λ has_text. TakesCell row.old.now has_text row.new.now) }
+{
     base_names!(push(alloc, column, row, text))
 }
 
@@ -50,7 +54,9 @@ fn push_as<'a, T: FromSql<'a> + ToText>(
     column: &Column,
     row: &mut &'a [u8],
     text: &mut Vec<u8>,
-) -> Result<bool, Fault> {
+) -> Result<bool, Fault>
+    ensures { IfOk result (λ has_text. TakesCell row.old.now has_text row.new.now) }
+{
     if column.is_array {
         return push_array_as::<T>(alloc, &column.ty, row, text);
     }
@@ -71,7 +77,9 @@ fn push_array_as<'a, T: FromSql<'a> + ToText>(
     ty: &Type,
     row: &mut &'a [u8],
     text: &mut Vec<u8>,
-) -> Result<bool, Fault> {
+) -> Result<bool, Fault>
+    ensures { IfOk result (λ has_text. TakesCell row.old.now has_text row.new.now) }
+{
     let is_accepted = <Option<Vec<Option<T>>> as FromSql<'a>>::accepts(ty);
     check_type(is_accepted, ty, "Option")?;
     let frame = *row;

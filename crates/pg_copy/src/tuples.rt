@@ -1,7 +1,10 @@
 //! A binary COPY: its signature, the flags, the header extension, the tuples and the trailer
 //! (documentation of the command COPY, "Binary Format").
-ghost use Rattle.std.specs.Prelude.{IfOk, IfSome};
+ghost use Rattle.std.specs.Prelude.{◌≡◌, IfOk, IfSome, IsTrue, OnErr, OnOk, pos};
+ghost use Rattle.std.specs.Int.{w16};
+ghost use Rattle.pg_base.specs.Cells.{be};
 ghost use Rattle.pg_copy.specs.Tuples.{FrameThen, FramesThen};
+ghost use Rattle.pg_copy.specs.ReadingSteps.{StandsAt, TakesHeader};
 
 use crate::copy_fault::{CopyFault, Row};
 use postgres_types::private::read_be_i32;
@@ -9,55 +12,61 @@ use postgres_types::private::read_be_i32;
 /// What a binary COPY begins with.
 pub const SIGNATURE: &[u8; 11] = b"PGCOPY\n\xff\r\n\0";
 
-/// How many bytes the signature, the flags and the length of the header extension take.
-const HEADER: usize = 19;
+/// The trailer: -1 in the place of a number of columns.
+const TRAILER: [u8; 2] = [0xff, 0xff];
 
-/// The flags in which a reader that does not know them stops.
-const CRITICAL: u32 = 0xffff_0000;
-
-/// The flag of a COPY whose tuples begin with an OID.
-const OIDS: u32 = 0x0001_0000;
+/// The critical flag of a COPY whose tuples begin with an OID.
+const OIDS: u16 = 1;
 
 /// Takes the signature, the flags and the length of the header extension off the front of the bytes:
-/// how many bytes the extension has. `None` where the bytes are too few, but may begin so.
-pub fn take_header(bytes: &mut &[u8]) -> Result<Option<usize>, CopyFault> {
-    let Some((header, rest)) = bytes.split_first_chunk::<HEADER>() else {
-        return if SIGNATURE.starts_with(bytes) || bytes.starts_with(SIGNATURE) {
+/// how many bytes the extension has. `None` where the bytes are too few, but may begin so; then, and
+/// after a fault, nothing is taken.
+pub fn take_header(bytes: &mut &[u8]) -> Result<Option<usize>, CopyFault>
+    ensures ok { IfOk result (λ extension. TakesHeader bytes.old.now extension bytes.new.now) }
+    ensures err { OnErr result (bytes.new.now ≡ bytes.old.now) }
+{
+    let Some(flags) = bytes.strip_prefix(SIGNATURE) else {
+        return if SIGNATURE.starts_with(bytes) {
             Ok(None)
         } else {
             Err(CopyFault::Signature)
         };
     };
-    if !header.starts_with(SIGNATURE) {
-        return Err(CopyFault::Signature);
-    }
-    let [.., f0, f1, f2, f3, e0, e1, e2, e3] = *header;
-    check_flags(u32::from_be_bytes([f0, f1, f2, f3]))?;
-    let Ok(extension) = usize::try_from(i32::from_be_bytes([e0, e1, e2, e3])) else {
+    let [c0, c1, _, _, length @ ..] = flags else {
+        return Ok(None);
+    };
+    check_flags(*c0, *c1)?;
+    let mut extension = length;
+    let Ok(len) = read_be_i32(&mut extension) else {
+        return Ok(None);
+    };
+    let Ok(len) = usize::try_from(len) else {
         return Err(CopyFault::Extension);
     };
-    *bytes = rest;
-    Ok(Some(extension))
+    *bytes = extension;
+    Ok(Some(len))
 }
 
-/// Refuses the critical flags, of which none is known.
-fn check_flags(flags: u32) -> Result<(), CopyFault> {
-    if flags & OIDS != 0 {
+/// Refuses the critical flags, the first two bytes of the four, of which none is known.
+fn check_flags(high: u8, low: u8) -> Result<(), CopyFault>
+    ensures { OnOk result ((high ≡ 0) × (low ≡ 0)) }
+{
+    if high == 0 && low == 0 {
+        return Ok(());
+    }
+    if u16::from_be_bytes([high, low]) & OIDS != 0 {
         return Err(CopyFault::Oids);
     }
-    if flags & CRITICAL != 0 {
-        return Err(CopyFault::Flags);
-    }
-    Ok(())
+    Err(CopyFault::Flags)
 }
 
 /// What stands at the front of the bytes after the header.
-#[derive(Debug, Clone, Copy, PartialEq, Eq)]
-pub enum Front {
-    /// A whole tuple of that many columns.
-    Tuple,
-    /// The trailer.
-    Trailer,
+#[derive(Debug, Clone, Copy)]
+pub enum Front<'a> {
+    /// A whole tuple: what stands after its number of columns.
+    Tuple(&'a [u8]),
+    /// The trailer: what stands after it.
+    Trailer(&'a [u8]),
     /// A part of a tuple or of the trailer.
     Part,
 }
@@ -66,21 +75,36 @@ pub enum Front {
 ///
 /// A tuple is a number of columns in two bytes and the frame of each cell; the trailer is -1 in two
 /// bytes. The faults name the row.
-pub fn front_of(bytes: &[u8], columns: usize, row: Row) -> Result<Front, CopyFault> {
+pub fn front_of(bytes: &[u8], columns: usize, row: Row) -> Result<Front<'_>, CopyFault>
+    ensures { IfOk result (λ front. StandsAt columns bytes.now front) }
+{
     let Some((count, fields)) = bytes.split_first_chunk::<2>() else {
         return Ok(Front::Part);
     };
-    let got = i64::from(i16::from_be_bytes(*count));
-    if got == -1 {
-        return Ok(Front::Trailer);
+    if *count == TRAILER {
+        return Ok(Front::Trailer(fields));
     }
-    if usize::try_from(got).ok() != Some(columns) {
+    if !is_count(*count, columns) {
+        let got = i64::from(i16::from_be_bytes(*count));
         let expected = columns;
         return Err(CopyFault::Columns { row, expected, got });
     }
     match after_frames(fields, columns) {
-        Ok(_) => Ok(Front::Tuple),
-        Err((place, rest)) => part_of_frame(rest, row, place),
+        Ok(_) => Ok(Front::Tuple(fields)),
+        Err((place, rest)) => {
+            check_length(rest, row, place)?;
+            Ok(Front::Part)
+        }
+    }
+}
+
+/// Whether the two bytes are that number of columns.
+fn is_count(count: [u8; 2], columns: usize) -> bool
+    ensures { IsTrue result → count ≡ be w16 (pos columns) }
+{
+    match i16::try_from(columns) {
+        Ok(columns) => count == columns.to_be_bytes(),
+        Err(_) => false,
     }
 }
 
@@ -99,14 +123,14 @@ fn after_frames(bytes: &[u8], count: usize) -> Result<&[u8], (usize, &[u8])>
     Ok(rest)
 }
 
-/// A part of a frame at that place of the row, or the fault of its length.
-fn part_of_frame(bytes: &[u8], row: Row, place: usize) -> Result<Front, CopyFault> {
+/// Refuses a negative length that is not that of NULL, at that place of the row.
+fn check_length(bytes: &[u8], row: Row, place: usize) -> Result<(), CopyFault> {
     match frame_len(bytes) {
         Some(len) if len < -1 => {
             let column = place.saturating_add(1);
             Err(CopyFault::Length { row, column })
         }
-        _ => Ok(Front::Part),
+        _ => Ok(()),
     }
 }
 

@@ -22,8 +22,10 @@ use Rattle.pg_read.specs.FrameReading.{AnswersSize, BeginsWithCells, ReadsFirst}
 use Rattle.pg_write.specs.ParamWriting.{AppendsFrame}
 use Rattle.pg_write.specs.ArrayWriting.{element_frame_cell, with_frame}
 use Rattle.postgres_types.specs.CompositeFields.{ReadsAnd, and, no_fields}
-use Rattle.postgres_types.specs.Records.{AnswersRefusal, AppendsBytes, AppendsBytesOrPart, AtEnd, Both, Bytes, CellThen}
-use Rattle.postgres_types.specs.Records.{CountThen, FieldFree, PassesCheck, FieldThen, FrameThen, IsDone, IsRefused, ReadsNext, PassesNumber}
+use Rattle.postgres_types.specs.Records.{AnswersRefusal, AppendsBytes, AppendsBytesOrPart, AtEnd, Both, Bytes}
+use Rattle.postgres_types.specs.Records.{CellThen}
+use Rattle.postgres_types.specs.Records.{CountThen, FieldFree, PassesCheck, FieldThen, FrameThen, IsDone}
+use Rattle.postgres_types.specs.Records.{IsRefused, PassesNumber, ReadsNext}
 use Rattle.postgres_types.specs.Records.{RecordFree, Unless, append_bytes}
 use Rattle.postgres_types.specs.Records.{concat_bytes, count_fault, count_of, frame_bytes, oid_fault}
 use Rattle.postgres_types.specs.Records.{or_transmit}
@@ -218,7 +220,8 @@ module _ {A B : Type 0} (reads : Cell → Outcome A → Type 0) (free : Cell →
 
 -- ---- memory
 
-refusal_is_no_memory : {A : Type 0} (r : Refusal) (result : Result A Fault) → AnswersRefusal r result → NeverMemory result
+refusal_is_no_memory : {A : Type 0} (r : Refusal) (result : Result A Fault) → AnswersRefusal r result
+    → NeverMemory result
 refusal_is_no_memory r (Ok v) h = tt
 refusal_is_no_memory r (Err f) h = rw h refl
 
@@ -227,14 +230,15 @@ size_is_no_memory (Ok v) h = tt
 size_is_no_memory (Err f) h = rw h refl
 
 -- where the number of fields is refused, it is not for memory
-pub number_takes_none : (x : Option Refusal) (old new : List ℕ) (result : Result ⊤ Fault) → PassesNumber x old result new
-    → NeverMemory result
+pub number_takes_none : (x : Option Refusal) (old new : List ℕ) (result : Result ⊤ Fault)
+    → PassesNumber x old result new → NeverMemory result
 number_takes_none None old new (Ok u) h = tt
 number_takes_none None old new (Err f) h = let no : ⊥ = cc in absurd no
 number_takes_none (Some r) old new result h = refusal_is_no_memory r result h.0
 
 -- after it the slice stands after the number
-pub number_passed : {u : ⊤} (x : Option Refusal) (old new : List ℕ) → PassesNumber x old (Ok u) new → new ≡ after_number old
+pub number_passed : {u : ⊤} (x : Option Refusal) (old new : List ℕ) → PassesNumber x old (Ok u) new
+    → new ≡ after_number old
 number_passed None old new h = h.1
 number_passed (Some r) old new h = absurd h.0
 

@@ -82,8 +82,10 @@ pub trait Record: Sized + fmt::Debug + Drop {
 /// In reading, fewer than 4 bytes are `Size`, and another number of fields is `FieldCount`. Then,
 /// field by field: a truncated OID is `Size`, another OID than that of the field's type `FieldOid`,
 /// a truncated cell `Size`, and a cell that the field's type refuses has its fault. Trailing bytes
-/// are `Size`. A record takes no memory of its own. In writing, the first field that is refused gives the fault, which is `Transmit`
-/// where its cell passes 2,147,483,647 bytes. A refusal leaves the buffer's bytes as they were.
+/// are `Size`. A record takes no memory of its own.
+///
+/// In writing, the first field that is refused gives the fault, which is `Transmit` where its cell
+/// passes 2,147,483,647 bytes. A refusal leaves the buffer's bytes as they were.
 #[derive(Debug, PartialEq, Eq, Drop)]
 pub struct Composite<T>(pub T);
 
