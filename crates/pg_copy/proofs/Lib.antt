@@ -1,6 +1,7 @@
 -- The lemmas of this crate's proofs.
 mod CopyLaws
 mod EscapeLaws
+mod HeaderLaws
 mod LineLaws
 mod OutputLaws
 mod ReadingLaws

@@ -1,5 +1,5 @@
 //! From a binary COPY to lines of text.
-ghost use Rattle.std.specs.Prelude.{◌≡◌, ◌≢◌, ◌×◌, ℕ, List, [], ◌++◌, IfErr, IfOk, OnErr, OnOk, length};
+ghost use Rattle.std.specs.Prelude.{◌≡◌, ◌≢◌, ℕ, List, [], ◌++◌, IfErr, IfOk, OnErr, OnOk, length};
 ghost use Rattle.pg_copy.specs.Lines.{tab_before};
 ghost use Rattle.pg_copy.specs.Outputs.{Extends, WritesPart, WritesWhole};
 ghost use Rattle.pg_copy.specs.ReadingSteps.{Advances, TakesField, TakesRow};

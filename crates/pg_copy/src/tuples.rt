@@ -40,11 +40,11 @@ pub fn take_header(bytes: &mut &[u8]) -> Result<Option<usize>, CopyFault>
     let Ok(len) = read_be_i32(&mut extension) else {
         return Ok(None);
     };
-    let Ok(len) = usize::try_from(len) else {
+    if len < 0 {
         return Err(CopyFault::Extension);
-    };
+    }
     *bytes = extension;
-    Ok(Some(len))
+    Ok(Some(len as usize))
 }
 
 /// Refuses the critical flags, the first two bytes of the four, of which none is known.

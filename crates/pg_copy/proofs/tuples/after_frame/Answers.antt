@@ -15,4 +15,4 @@ returns c =
     let spelled =
     cell_after_length c.args.bytes.now number.0 c.read_be_i32.new.buf.now cell rest c.in-Ok.len number.1 number.2 is
     parts in
-    (Some cell, spelled.0, spelled.1, spelled.2)
+    (Some cell, spelled.0, spelled.2, spelled.1)
