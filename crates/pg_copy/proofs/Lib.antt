@@ -5,4 +5,5 @@ mod HeaderLaws
 mod LineLaws
 mod OutputLaws
 mod ReadingLaws
+mod ReadingRuns
 mod TupleLaws

@@ -6,7 +6,18 @@ use Rattle.pg_copy.specs.Lines.{AreFieldsOf, AreLinesOf, FieldOf, IsLineOf, tab_
 use Rattle.pg_copy.specs.Outputs.{Extends, Gains}
 use Rattle.pg_copy.specs.ReadingSteps.{TakesField, TakesRow}
 use Rattle.pg_copy.specs.declared.columns.Column.{Column}
-use Rattle.pg_read.proofs.ArrayCellSteps.{spelled_more}
+
+-- cells after cells are cells in a row
+spelled_more : (s u rest : List ℕ) (cs ds : List Cell) → SpellsAll s cs u → SpellsAll u ds rest
+    → SpellsAll s (cs ++ ds) rest
+spelled_more s u rest [] ds e r = subst (λ x. SpellsAll x ds rest) (sym e) r
+spelled_more s u rest (c ∷ cs) ds p r = record {
+  front = p.front;
+  rest = p.rest;
+  is = p.is;
+  spells = p.spells;
+  rest_spells = spelled_more p.rest u rest cs ds p.rest_spells r;
+}
 
 -- fields are as many as columns, and so are cells
 pub fields_width : (columns : List Column) (cells : List Cell) (fields : List (List ℕ)) → AreFieldsOf columns cells fields
@@ -58,26 +69,28 @@ pub next_field : (columns : List Column) (column : Column) (n : ℕ) (old mid ne
     → length columns ≡ n → TakesFields columns old mid lines longer → tab ≡ longer ++ tab_before n
     → TakesField column mid new tab longest → TakesFields (columns ++ column ∷ []) old new lines longest
 next_field columns column n old mid new lines longer tab longest count (cells, fields, are, spelled, is) tabs
-    (cell, next, field, one, then) = (
-  cells ++ cell ∷ [],
-  fields ++ field ∷ [],
-  fields_more column cell field one columns cells fields are,
-  spelled_more old mid new cells (cell ∷ []) spelled next,
-  (let place : n ≡ length fields = sym count ∙ sym (fields_width columns cells fields are).1 in
-  then ∙ ap (λ l. l ++ field) (tabs ∙ ap (λ l. l ++ tab_before n) is) ∙ append_assoc (lines ++ tabbed fields) (tab_before n) field
-      ∙ append_assoc lines (tabbed fields) (tab_before n ++ field)
-      ∙ ap (λ l. lines ++ (tabbed fields ++ (tab_before l ++ field))) place
-      ∙ ap (λ l. lines ++ l) (sym (tabbed_next fields field))),
-)
+    (cell, next, (field, one, then)) = (
+      cells ++ cell ∷ [],
+      fields ++ field ∷ [],
+      fields_more column cell field one columns cells fields are,
+      spelled_more old mid new cells (cell ∷ []) spelled next,
+      (let place : n ≡ length fields = sym count ∙ sym (fields_width columns cells fields are).1 in
+          then ∙ ap (λ l. l ++ field) (tabs ∙ ap (λ l. l ++ tab_before n) is) ∙ append_assoc (lines ++ tabbed fields) (tab_before n) field
+          ∙ append_assoc lines (tabbed fields) (tab_before n ++ field)
+          ∙ ap (λ l. lines ++ (tabbed fields ++ (tab_before l ++ field))) place
+          ∙ ap (λ l. lines ++ l) (sym (tabbed_next fields field))),
+    )
 
 pub line_ends : (columns : List Column) (old new lines longer longest : List ℕ)
     → TakesFields columns old new lines longer → longest ≡ longer ++ 10 ∷ [] → TakesRow columns old new lines longest
 line_ends columns old new lines longer longest (cells, fields, are, spelled, is) e = (
   cells,
   spelled,
-  tabbed fields ++ 10 ∷ [],
-  (fields, are, refl),
-  e ∙ ap (λ l. l ++ 10 ∷ []) is ∙ append_assoc lines (tabbed fields) (10 ∷ []),
+  (
+    tabbed fields ++ 10 ∷ [],
+    (fields, are, refl),
+    e ∙ ap (λ l. l ++ 10 ∷ []) is ∙ append_assoc lines (tabbed fields) (10 ∷ []),
+  ),
 )
 
 pub fields_extend : (columns : List Column) (old new lines longer : List ℕ) → TakesFields columns old new lines longer

@@ -1,6 +1,7 @@
 -- Laws of reading a binary COPY.
 use Rattle.std.proofs.Common.{◌≡◌, ◌≤◌, ◌<◌, ◌-◌, ◌+◌, ℕ, pos, List, [], ◌∷◌, ◌++◌, Option, Some, None, length, inl, inr, refl}
-use Rattle.std.proofs.Common.{ap, sym, subst, ◌∙◌, append_assoc, append-nil, arith, length-append, omega-lists}
+use Rattle.std.proofs.Common.{ap, sym, subst, ◌∙◌, append_assoc, append-nil, arith, length-append}
+use Rattle.std.proofs.lemmas.List.{nil_from_length}
 use Rattle.std.specs.Int.{w16}
 use Rattle.pg_base.proofs.CellLaws.{cells_single, frames_spell}
 use Rattle.pg_base.proofs.Concat.{concat-assoc, concat-nil, nil-concat}
@@ -59,9 +60,9 @@ module _ (columns : List Column) where
         (next (s ++ t) (so_far ++ gained) (step s so_far h))),
   )
 
-  pub header_taken : (old new lines : List ℕ) (len : ℕ) → TakesHeader old (Some len) new
+  pub head_taken : (old new lines : List ℕ) (len : ℕ) → TakesHeader old (Some len) new
       → Advances columns Header old lines (Extension len) new lines
-  header_taken old new lines len (t, awaits, is) = (
+  head_taken old new lines len (t, awaits, is) = (
     t,
     [],
     is,
@@ -72,12 +73,12 @@ module _ (columns : List Column) where
     ),
   )
 
-  pub extension_taken : (t new lines : List ℕ) (len : ℕ) → length t ≡ len
-      → Advances columns (Extension len) (t ++ new) lines Tuples new lines
-  extension_taken t new lines len whole = (
+  pub extension_taken : (old t new lines : List ℕ) (len : ℕ) → length t ≡ len → old ≡ t ++ new
+      → Advances columns (Extension len) old lines Tuples new lines
+  extension_taken old t new lines len whole is = (
     t,
     [],
-    refl,
+    is,
     sym (append-nil lines),
     λ s so_far h. (
       s ++ t,
@@ -107,7 +108,7 @@ module _ (columns : List Column) where
   pub row_taken : (s fields new lines longer : List ℕ)
       → (rest : List ℕ) × FramesThen fields (length columns) rest × (s ≡ be w16 (pos (length columns)) ++ fields)
       → TakesRow columns fields new lines longer → Advances columns Tuples s lines Tuples new longer
-  row_taken s fields new lines longer (rest, (cells, bytes, count, are, then), is) (row, spelled, line, one, grown) =
+  row_taken s fields new lines longer (rest, (cells, bytes, count, are, then), is) (row, spelled, (line, one, grown)) =
       let width : length row ≡ length columns = (fields_width columns row one.0 one.1).0 in
       let framed = subst (λ x. SpellsAll x cells rest) (sym then) (frames_spell cells bytes rest are) in
       let single = cells_single fields (length columns) cells row rest new (framed, omega (arith, count), inl count)
@@ -139,3 +140,20 @@ module _ (columns : List Column) where
   started Tuples s rest lines h = inr (s, rest, h, refl)
   started End s rest lines (t, h, is) =
       inr (t, trailer ++ rest, h, ap (λ x. x ++ rest) is ∙ append_assoc t trailer rest)
+
+-- three parts after one another
+pub advances_three : (x y z : List Column) (p q r u : Place) (a b c d l m n o : List ℕ) → y ≡ x → z ≡ y
+    → Advances x p a l q b m → Advances y q b m r c n → Advances z r c n u d o → Advances x p a l u d o
+advances_three x y z p q r u a b c d l m n o e f one two three =
+    advances_more x p r u a c d l n o
+    (advances_more x p q r a b c l m n one (subst (λ w. Advances w q b m r c n) e two))
+    (subst (λ w. Advances w r c n u d o) (f ∙ e) three)
+
+-- nothing is taken where as much is left
+pub none_taken : (columns : List Column) (p q : Place) (a b l m : List ℕ) → length b ≡ length a
+    → Advances columns p a l q b m → Advances columns p a l q a m
+none_taken columns p q a b l m e (t, gained, is, longer, step) =
+    let count = ap length is ∙ length-append t b in
+    let none : t ≡ [] = nil_from_length t (omega (arith, e, count)) in
+    let same : b ≡ a = sym (is ∙ ap (λ s. s ++ b) none) in
+    subst (λ s. Advances columns p a l q s m) same (t, gained, is, longer, step)

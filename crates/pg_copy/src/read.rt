@@ -16,7 +16,7 @@ use std::mem;
 use streams::blocks::{BLOCK, read_block, write_whole};
 
 /// What is to come of a COPY.
-#[derive(Debug, Clone, Copy, PartialEq, Eq)]
+#[derive(Clone, Copy)]
 enum Place {
     /// The header.
     Header,
@@ -107,11 +107,12 @@ impl Reading<'_> {
         let mut rest = held.as_slice();
         self.take(&mut rest)?;
         // A row that is longer than a block stays where it is until it is whole.
-        if rest.len() < held.len() {
-            spare.clear();
-            spare.extend_from_slice(rest)?;
-            mem::swap(held, spare);
+        if rest.len() == held.len() {
+            return Ok(());
         }
+        spare.clear();
+        spare.extend_from_slice(rest)?;
+        mem::swap(held, spare);
         Ok(())
     }
 
@@ -124,58 +125,65 @@ impl Reading<'_> {
         ensures end { OnOk result (self.new.place ≡ Place.End → bytes.new.now ≡ []) }
     {
         self.take_head(bytes)?;
-        if let Place::Extension(len) = self.place {
-            self.skip(len, bytes);
+        self.take_extension(bytes);
+        self.take_tuples(bytes)?;
+        let Place::End = self.place else {
+            return Ok(());
+        };
+        if bytes.is_empty() {
+            Ok(())
+        } else {
+            Err(CopyFault::Trailing)
         }
-        if self.place == Place::Tuples {
-            self.take_tuples(bytes)?;
-        }
-        if self.place == Place::End && !bytes.is_empty() {
-            return Err(CopyFault::Trailing);
-        }
-        Ok(())
     }
 
-    /// Takes the header up to its extension, where that is to come and is there.
+    /// Takes the header up to its extension, where it is to come and is there.
     fn take_head(&mut self, bytes: &mut &[u8]) -> Result<(), CopyFault>
         ensures columns { self.new.columns.now ≡ self.old.columns.now }
         ensures steps { Advances self.old.columns.now self.old.place bytes.old.now self.old.lines.items
             self.new.place bytes.new.now self.new.lines.items }
     {
-        if self.place == Place::Header
-            && let Some(len) = take_header(bytes)?
-        {
-            self.place = Place::Extension(len);
-        }
+        let Place::Header = self.place else {
+            return Ok(());
+        };
+        let Some(len) = take_header(bytes)? else {
+            return Ok(());
+        };
+        self.place = Place::Extension(len);
         Ok(())
     }
 
-    /// Takes what is there of so many bytes of the header extension.
-    fn skip(&mut self, len: usize, bytes: &mut &[u8])
-        requires { self.old.place ≡ Place.Extension len }
+    /// Takes what is there of the header extension, where it is to come.
+    fn take_extension(&mut self, bytes: &mut &[u8])
         ensures columns { self.new.columns.now ≡ self.old.columns.now }
         ensures steps { Advances self.old.columns.now self.old.place bytes.old.now self.old.lines.items
             self.new.place bytes.new.now self.new.lines.items }
     {
+        let Place::Extension(len) = self.place else {
+            return;
+        };
         match bytes.split_at_checked(len) {
             Some((_, rest)) => {
                 *bytes = rest;
                 self.place = Place::Tuples;
             }
             None => {
-                self.place = Place::Extension(len.saturating_sub(bytes.len()));
+                self.place = Place::Extension(len - bytes.len());
                 *bytes = &[];
             }
         }
     }
 
-    /// Takes the whole tuples, and the trailer. A fault leaves the tuple that it is of.
+    /// Takes the whole tuples, and the trailer, where they are to come. A fault leaves the tuple that it
+    /// is of.
     fn take_tuples(&mut self, bytes: &mut &[u8]) -> Result<(), CopyFault>
-        requires { self.old.place ≡ Place.Tuples }
         ensures columns { self.new.columns.now ≡ self.old.columns.now }
         ensures steps { Advances self.old.columns.now self.old.place bytes.old.now self.old.lines.items
             self.new.place bytes.new.now self.new.lines.items }
     {
+        let Place::Tuples = self.place else {
+            return Ok(());
+        };
         // A tuple has two bytes at least.
         'tuples: for _ in 0..bytes.len() {
             let row = self.row.saturating_add(1);
@@ -273,10 +281,9 @@ impl Reading<'_> {
     fn finish(&self) -> Result<(), CopyFault>
         ensures { OnOk result (self.now.place ≡ Place.End) }
     {
-        if self.place == Place::End {
-            Ok(())
-        } else {
-            Err(CopyFault::Truncated)
+        match self.place {
+            Place::End => Ok(()),
+            _ => Err(CopyFault::Truncated),
         }
     }
 }

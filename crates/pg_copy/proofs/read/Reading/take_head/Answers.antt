@@ -1,0 +1,16 @@
+-- What the proof of `take_head` answers by hand.
+use Rattle.std.proofs.Common.{subst, sym}
+use Rattle.pg_copy.proofs.ReadingLaws.{head_taken}
+use Rattle.pg_copy.specs.ReadingSteps.{Advances, TakesHeader}
+use Rattle.pg_copy.specs.declared.read.Place.TheVariants.{Extension}
+use Rattle.pg_copy.proofs.read.Reading.take_head.Goals as goal
+
+pub returns-clause-steps : goal.returns-clause-steps
+returns-clause-steps c =
+    let columns = c.args.self.now.columns.now in
+    let lines = c.args.self.now.lines.items in
+    let old = c.args.bytes.now.now in
+    let new = c.take_header.new.bytes.now in
+    let head = subst (λ x. TakesHeader old x new) c.in-Some.is c.in_ok-len.ensures.ok in
+    subst (λ p. Advances columns p old lines (Extension c.in-Some.len) new lines) (sym c.in-Header.is)
+    (head_taken columns old new lines c.in-Some.len head)

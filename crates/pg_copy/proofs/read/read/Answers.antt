@@ -1,0 +1,95 @@
+-- What the proof of `read` answers by hand.
+use Rattle.std.proofs.Common.{◌++◌, ◌∙◌, [], arith, take}
+use Rattle.std.specs.Io.KnownBytes.{Appends, Consumes, IsAtEnd}
+use Rattle.streams.proofs.Outcomes.{err_always, err_of, ok_of, ok_weaker, on_err}
+use Rattle.pg_copy.proofs.ReadingRuns.{begun, ended, stopped, stopped_part, taken, taken_either, taken_part}
+use Rattle.pg_copy.proofs.read.read.Goals as goal
+
+pub returns-in_default-clause-whole : goal.returns-in_default-clause-whole
+returns-in_default-clause-whole g c = λ _. stopped c.args.columns.now _ _ c.reads.reading.place c.reads.held.items _ _ c.reads.invariant.3
+
+pub returns-in_default-clause-part : goal.returns-in_default-clause-part
+returns-in_default-clause-part g c = stopped_part c.args.columns.now _ _ c.reads.reading.place c.reads.held.items _ _ c.reads.invariant.3
+
+pub returns-then-len-eq0-clause-ok : goal.returns-then-len-eq0-clause-ok
+returns-then-len-eq0-clause-ok g c =
+    let b = g.R.Read.remaining c.reads.input in
+    let d = g.R.Read.remaining c.read_block.new.input in
+    let nothing : Consumes b d [] = rw c.if-len-eq0.true at c.in-Ok.ensures.bytes.0 in
+    let last : IsAtEnd d = c.in-Ok.ensures.bytes.1 c.if-len-eq0.true (omega arith) in
+    ok_weaker c.finish.result
+    (λ end. ended c.args.columns.now _ _ c.reads.reading.place c.reads.held.items b d _ c.reads.invariant.3 end (c.reads.invariant.2 end) nothing last) c.finish.ensures
+
+pub returns-then-len-eq0-clause-whole : goal.returns-then-len-eq0-clause-whole
+returns-then-len-eq0-clause-whole g c =
+    err_always c.finish.result (λ e not_write. stopped c.args.columns.now _ _ c.reads.reading.place c.reads.held.items _ _ c.reads.invariant.3)
+
+pub returns-then-len-eq0-clause-part : goal.returns-then-len-eq0-clause-part
+returns-then-len-eq0-clause-part g c = on_err c.finish.result _ (stopped_part c.args.columns.now _ _ c.reads.reading.place c.reads.held.items _ _ c.reads.invariant.3)
+
+pub returns-then-is_err-clause-part : goal.returns-then-is_err-clause-part
+returns-then-is_err-clause-part g c =
+    let place = c.reads.reading.place in
+    let next = c.take_block-taken.new.self.place in
+    let held = c.reads.held.items in
+    let block = take c.in-Ok.len c.read_block.new.block in
+    let new = c.take_block-taken.new.self.lines.items in
+    let left = taken_either c.reads.reading.columns.now place next (held ++ block) c.reads.reading.lines.items
+    c.take_block-taken.new.held.items new c.take_block-taken.result c.take_block-taken.ensures.ok
+    c.take_block-taken.ensures.err in
+    let failed = rw c.as_slice.ensures.value at c.write_whole.ensures.err in
+    let w = err_of c.write_whole.result _ failed c.if-is_err.ensures.value in
+    taken_part c.args.columns.now _ _ place next held block left.0 new _ _ _ _ c.reads.invariant.3
+    c.in-Ok.ensures.bytes.0 (begun _ _ place next _ _ left.0 new c.reads.invariant.0 c.reads.invariant.1 left.1) w.0 w.2
+
+pub returns-in_err-taken-clause-whole : goal.returns-in_err-taken-clause-whole
+returns-in_err-taken-clause-whole g c =
+    let place = c.reads.reading.place in
+    let next = c.take_block-taken.new.self.place in
+    let held = c.reads.held.items in
+    let block = take c.in-Ok.len c.read_block.new.block in
+    let new = c.take_block-taken.new.self.lines.items in
+    let left = c.in_err-taken.ensures.err in
+    let w : Appends (g.W.Write.contents c.reads.output) (g.W.Write.contents c.write_whole.new.output) new
+    = rw c.as_slice.ensures.value at (ok_of c.write_whole.result _ c.write_whole.ensures.ok c.if-is_err.ensures.value) in
+    let after = taken c.args.columns.now _ _ place next held block left.0 new _ _ _ _ c.reads.invariant.3
+    c.in-Ok.ensures.bytes.0 (begun _ _ place next _ _ left.0 new c.reads.invariant.0 c.reads.invariant.1 left.1) w in
+    err_always c.from_residual.result (λ e not_write. stopped c.args.columns.now _ _ next left.0 _ _ after)
+
+pub returns-in_err-taken-clause-part : goal.returns-in_err-taken-clause-part
+returns-in_err-taken-clause-part g c =
+    let place = c.reads.reading.place in
+    let next = c.take_block-taken.new.self.place in
+    let held = c.reads.held.items in
+    let block = take c.in-Ok.len c.read_block.new.block in
+    let new = c.take_block-taken.new.self.lines.items in
+    let left = c.in_err-taken.ensures.err in
+    let w : Appends (g.W.Write.contents c.reads.output) (g.W.Write.contents c.write_whole.new.output) new
+    = rw c.as_slice.ensures.value at (ok_of c.write_whole.result _ c.write_whole.ensures.ok c.if-is_err.ensures.value) in
+    let after = taken c.args.columns.now _ _ place next held block left.0 new _ _ _ _ c.reads.invariant.3
+    c.in-Ok.ensures.bytes.0 (begun _ _ place next _ _ left.0 new c.reads.invariant.0 c.reads.invariant.1 left.1) w in
+    on_err c.from_residual.result _ (stopped_part c.args.columns.now _ _ next left.0 _ _ after)
+
+pub reads-preserved : goal.reads-preserved
+reads-preserved g c =
+    let place = c.reads.reading.place in
+    let next = c.take_block-taken.new.self.place in
+    let held = c.reads.held.items in
+    let block = take c.in-Ok.len c.read_block.new.block in
+    let left = c.take_block-taken.new.held.items in
+    let new = c.take_block-taken.new.self.lines.items in
+    let w : Appends (g.W.Write.contents c.reads.output) (g.W.Write.contents c.write_whole.new.output) new
+    = rw c.as_slice.ensures.value at (ok_of c.write_whole.result _ c.write_whole.ensures.ok c.if-is_err.ensures.value) in (
+      c.take_block-taken.ensures.columns ∙ c.reads.invariant.0,
+      c.clear.ensures.items,
+      c.in_ok-taken.ensures.end,
+      taken c.args.columns.now _ _ place next held block left new _ _ _ _ c.reads.invariant.3
+          c.in-Ok.ensures.bytes.0
+          (begun _ _ place next _ _ left new c.reads.invariant.0 c.reads.invariant.1 c.in_ok-taken.ensures.ok) w,
+    )
+
+pub returns-clause-whole : goal.returns-clause-whole
+returns-clause-whole g c = λ _. stopped c.args.columns.now _ _ c.reads.reading.place c.reads.held.items _ _ c.reads.invariant.3
+
+pub returns-clause-part : goal.returns-clause-part
+returns-clause-part g c = stopped_part c.args.columns.now _ _ c.reads.reading.place c.reads.held.items _ _ c.reads.invariant.3
