@@ -1,5 +1,5 @@
 -- Laws of the header of a binary COPY.
-use Rattle.std.proofs.Common.{◌≡◌, ◌==◌, ◌-◌, ◌≤◌, ℕ, ℤ, pos, suc, List, [], ◌∷◌, ◌++◌, Some, true, length, take, drop}
+use Rattle.std.proofs.Common.{◌≡◌, ◌==◌, ◌-◌, ◌≤◌, ℕ, pos, List, [], ◌∷◌, ◌++◌, Some, true, length, take, drop}
 use Rattle.std.proofs.Common.{ap, arith, refl, subst, sym, ◌∙◌, take-append-drop, slice_index}
 use Rattle.std.specs.Cmp.Lexicographic.{pointwise}
 use Rattle.std.proofs.lemmas.Slice.Eq.{bytes_eq-Decides}

@@ -1,9 +1,9 @@
 -- Laws of lines.
-use Rattle.std.proofs.Common.{◌≡◌, ℕ, suc, zero, ◌+◌, List, [], ◌∷◌, ◌++◌, length, refl, ap, sym, ◌∙◌, arith}
-use Rattle.std.proofs.Common.{append_assoc, append-nil, length-append, subst, take}
+use Rattle.std.proofs.Common.{◌≡◌, ℕ, suc, List, [], ◌∷◌, ◌++◌, length, refl, ap, sym, ◌∙◌}
+use Rattle.std.proofs.Common.{append_assoc, append-nil, subst}
 use Rattle.pg_base.specs.Cells.{Cell, SpellsAll}
 use Rattle.pg_copy.specs.Lines.{AreFieldsOf, AreLinesOf, FieldOf, IsLineOf, tab_before, tabbed}
-use Rattle.pg_copy.specs.Outputs.{Extends, Gains}
+use Rattle.pg_copy.specs.Outputs.{Extends}
 use Rattle.pg_copy.specs.ReadingSteps.{TakesField, TakesRow}
 use Rattle.pg_copy.specs.declared.columns.Column.{Column}
 

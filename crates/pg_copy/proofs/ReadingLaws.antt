@@ -1,16 +1,15 @@
 -- Laws of reading a binary COPY.
-use Rattle.std.proofs.Common.{◌≡◌, ◌≤◌, ◌<◌, ◌-◌, ◌+◌, ℕ, pos, List, [], ◌∷◌, ◌++◌, Option, Some, None, length, inl, inr, refl}
+use Rattle.std.proofs.Common.{◌≡◌, ◌+◌, ℕ, pos, List, [], ◌∷◌, ◌++◌, Some, length, inl, inr, refl}
 use Rattle.std.proofs.Common.{ap, sym, subst, ◌∙◌, append_assoc, append-nil, arith, length-append}
 use Rattle.std.proofs.lemmas.List.{nil_from_length}
 use Rattle.std.specs.Int.{w16}
 use Rattle.pg_base.proofs.CellLaws.{cells_single, frames_spell}
 use Rattle.pg_base.proofs.Concat.{concat-assoc, concat-nil, nil-concat}
-use Rattle.pg_base.specs.Cells.{Cell, SpellsAll, be, concat, frames}
+use Rattle.pg_base.specs.Cells.{Cell, SpellsAll, be, concat}
 use Rattle.pg_copy.proofs.LineLaws.{fields_width, lines_next}
-use Rattle.pg_copy.specs.Lines.{AreLinesOf, IsLineOf}
-use Rattle.pg_copy.specs.Outputs.{Gains}
-use Rattle.pg_copy.specs.ReadingSteps.{Advances, AwaitsExtension, HasRead, StandsAt, TakesHeader, TakesRow}
-use Rattle.pg_copy.specs.Rows.{BeginsRows, IsCopyOf, IsHeader, StartsCopyOf, trailer, tuple, tuples}
+use Rattle.pg_copy.specs.Lines.{IsLineOf}
+use Rattle.pg_copy.specs.ReadingSteps.{Advances, AwaitsExtension, HasRead, TakesHeader, TakesRow}
+use Rattle.pg_copy.specs.Rows.{BeginsRows, IsHeader, StartsCopyOf, trailer, tuple, tuples}
 use Rattle.pg_copy.specs.Tuples.{FramesThen}
 use Rattle.pg_copy.specs.declared.columns.Column.{Column}
 use Rattle.pg_copy.specs.declared.read.Place.{Place}

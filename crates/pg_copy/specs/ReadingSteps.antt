@@ -1,7 +1,7 @@
 -- How a binary COPY is read, a part after another.
 use Rattle.std.specs.Prelude.{◌≡◌, ℕ, pos, Bool, List, [], ◌∷◌, ◌++◌, length, Option, Some, None, is_some}
 use Rattle.std.specs.Int.{w16}
-use Rattle.pg_base.specs.Cells.{Cell, Spells, SpellsAll, be}
+use Rattle.pg_base.specs.Cells.{Cell, SpellsAll, be}
 use Rattle.pg_copy.specs.Lines.{FieldOf, IsLineOf}
 use Rattle.pg_copy.specs.Outputs.{Gains}
 use Rattle.pg_copy.specs.Rows.{BeginsRows, IsCopyOf, IsHeader, trailer}

@@ -1,5 +1,5 @@
 -- What the proof of `push_line` answers by hand.
-use Rattle.std.proofs.Common.{◌≡◌, ◌+◌, ◌++◌, ◌∙◌, [], ◌∷◌, arith, length, length-take, refl, subst, take}
+use Rattle.std.proofs.Common.{◌≡◌, ◌+◌, ◌++◌, ◌∙◌, [], ◌∷◌, arith, length-take, refl, subst, take}
 use Rattle.std.proofs.lemmas.Grind.{common_steps}
 use Rattle.pg_copy.proofs.LineLaws.{TakesFields, next_field, no_field}
 use Rattle.pg_copy.proofs.read.Reading.push_line.Goals as goal
