@@ -1,4 +1,5 @@
 -- The lemmas of this crate's proofs.
+mod CellTexts
 mod CopyLaws
 mod EscapeLaws
 mod HeaderLaws

@@ -5,3 +5,4 @@ pub mod Outputs
 pub mod ReadingSteps
 pub mod Rows
 pub mod Tuples
+pub mod Values

@@ -1,13 +1,20 @@
 -- Lines of COPY's text format.
 use Rattle.std.specs.Prelude.{◌≡◌, ℕ, zero, suc, List, [], ◌∷◌, ◌++◌, Some, None}
 use Rattle.pg_base.specs.Cells.{Cell}
+use Rattle.pg_types.specs.Content.{content}
 use Rattle.pg_copy.specs.Escapes.{escaped}
+use Rattle.pg_copy.specs.Values.{ShowsCell, Values, in_form, values_of}
 use Rattle.pg_copy.specs.declared.columns.Column.{Column}
 
--- the field of a column's cell: \N of NULL, and of bytes an escaped text
+-- the values of a column's cells
+abbrev pub values_in : Column → Values
+values_in column = in_form column.is_array (values_of column.base)
+
+-- the field of a column's cell: \N of NULL, and of bytes the escaped text of a value that they are read as
 abbrev pub FieldOf : Column → Cell → List ℕ → Type 0
 FieldOf column None field = field ≡ 92 ∷ 78 ∷ []
-FieldOf column (Some bytes) field = (text : List ℕ) × (field ≡ escaped text)
+FieldOf column (Some bytes) field =
+    (text : List ℕ) × (field ≡ escaped text) × ShowsCell (values_in column) (content column.ty) bytes [] text
 
 -- the fields of a row's cells, one for each column
 abbrev pub AreFieldsOf : List Column → List Cell → List (List ℕ) → Type 0

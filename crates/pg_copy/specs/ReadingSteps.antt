@@ -1,11 +1,13 @@
 -- How a binary COPY is read, a part after another.
-use Rattle.std.specs.Prelude.{◌≡◌, ℕ, pos, Bool, List, [], ◌∷◌, ◌++◌, length, Option, Some, None, is_some}
+use Rattle.std.specs.Prelude.{◌≡◌, ℕ, pos, Bool, true, false, List, [], ◌∷◌, ◌++◌, length, Option, Some, None}
 use Rattle.std.specs.Int.{w16}
 use Rattle.pg_base.specs.Cells.{Cell, SpellsAll, be}
 use Rattle.pg_copy.specs.Lines.{FieldOf, IsLineOf}
 use Rattle.pg_copy.specs.Outputs.{Gains}
 use Rattle.pg_copy.specs.Rows.{BeginsRows, IsCopyOf, IsHeader, trailer}
 use Rattle.pg_copy.specs.Tuples.{FramesThen}
+use Rattle.pg_copy.specs.Values.{ShowsCell, Values}
+use Rattle.pg_types.specs.Content.{Content}
 use Rattle.pg_copy.specs.declared.columns.Column.{Column}
 use Rattle.pg_copy.specs.declared.read.Place.{Place}
 use Rattle.pg_copy.specs.declared.read.Place.TheVariants.{Header, Extension, Tuples, End}
@@ -27,9 +29,15 @@ StandsAt n s (Tuple fields) = (rest : List ℕ) × FramesThen fields.now n rest 
 StandsAt n s (Trailer rest) = s ≡ trailer ++ rest.now
 StandsAt n s Part = Unit {0}
 
--- the framed cell at the front was taken, which is not NULL just where it has a text
-abbrev pub TakesCell : List ℕ → Bool → List ℕ → Type 0
-TakesCell old has_text new = (cell : Cell) × SpellsAll old (cell ∷ []) new × (has_text ≡ is_some cell)
+-- NULL has no text, and bytes have that of a value that they are read as, which was appended
+abbrev pub HasText : Values → Content → Cell → Bool → List ℕ → List ℕ → Type 0
+HasText own ty None has_text old new = has_text ≡ false
+HasText own ty (Some bytes) has_text old new = (has_text ≡ true) × ShowsCell own ty bytes old new
+
+-- the framed cell at the front was taken, and its text appended
+abbrev pub TakesCell : Values → Content → List ℕ → Bool → List ℕ → List ℕ → List ℕ → Type 0
+TakesCell own ty old has_text new text longer =
+    (cell : Cell) × SpellsAll old (cell ∷ []) new × HasText own ty cell has_text text longer
 
 -- the framed cell at the front was taken, and its field appended
 abbrev pub TakesField : Column → List ℕ → List ℕ → List ℕ → List ℕ → Type 0

@@ -1,6 +1,9 @@
 //! The text of a cell, by the base name of its column.
 ghost use Rattle.std.specs.Prelude.{IfOk};
+ghost use Rattle.pg_copy.specs.Lines.{values_in};
 ghost use Rattle.pg_copy.specs.ReadingSteps.{TakesCell};
+ghost use Rattle.pg_copy.specs.Values.{arrays_of, in_form, values};
+ghost use Rattle.pg_types.specs.Content.{content};
 
 use crate::columns::Column;
 use named_types::{Base, base_names};
@@ -43,7 +46,8 @@ pub fn push_cell(
     row: &mut &[u8],
     text: &mut Vec<u8>,
 ) -> Result<bool, Fault>
-    ensures { IfOk result (λ has_text. TakesCell row.old.now has_text row.new.now) }
+    ensures { IfOk result (λ has_text. TakesCell (values_in column.now) (content column.now.ty)
+        row.old.now has_text row.new.now text.old.items text.new.items) }
 {
     base_names!(push(alloc, column, row, text))
 }
@@ -55,7 +59,8 @@ fn push_as<'a, T: FromSql<'a> + ToText>(
     row: &mut &'a [u8],
     text: &mut Vec<u8>,
 ) -> Result<bool, Fault>
-    ensures { IfOk result (λ has_text. TakesCell row.old.now has_text row.new.now) }
+    ensures { IfOk result (λ has_text. TakesCell (in_form column.now.is_array (values T.reads T.shows)) (content column.now.ty)
+        row.old.now has_text row.new.now text.old.items text.new.items) }
 {
     if column.is_array {
         return push_array_as::<T>(alloc, &column.ty, row, text);
@@ -78,7 +83,8 @@ fn push_array_as<'a, T: FromSql<'a> + ToText>(
     row: &mut &'a [u8],
     text: &mut Vec<u8>,
 ) -> Result<bool, Fault>
-    ensures { IfOk result (λ has_text. TakesCell row.old.now has_text row.new.now) }
+    ensures { IfOk result (λ has_text. TakesCell (arrays_of (values T.reads T.shows)) (content ty.now)
+        row.old.now has_text row.new.now text.old.items text.new.items) }
 {
     let is_accepted = <Option<Vec<Option<T>>> as FromSql<'a>>::accepts(ty);
     check_type(is_accepted, ty, "Option")?;

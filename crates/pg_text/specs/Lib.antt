@@ -1,1 +1,2 @@
--- This crate states no definition of its own.
+-- The words of this crate's contracts.
+pub mod Texts

@@ -1,4 +1,7 @@
 //! Bytes.
+ghost use Rattle.std.specs.Prelude.{◌≡◌, ◌++◌, OnOk};
+ghost use Rattle.hex.specs.Hex.{encode_lower};
+ghost use Rattle.pg_text.specs.Texts.{Shows, bytes_text};
 
 use crate::{FromText, ToText, no_value};
 use hex::FromHexError;
@@ -7,6 +10,8 @@ use std::alloc::{AllocError, Global};
 
 /// `\x` and two hexadecimal digits a byte (`byteaout`, with bytea_output hex).
 impl ToText for &[u8] {
+    ghost shows = { Shows (λ s. bytes_text s.now) };
+
     fn to_text(&self, _alloc: Global, out: &mut Vec<u8>) -> Result<(), AllocError> {
         out.extend_from_slice(b"\\x")?;
         push_hex(self, out)
@@ -14,7 +19,9 @@ impl ToText for &[u8] {
 }
 
 /// Appends two hexadecimal digits a byte.
-fn push_hex(bytes: &[u8], out: &mut Vec<u8>) -> Result<(), AllocError> {
+fn push_hex(bytes: &[u8], out: &mut Vec<u8>) -> Result<(), AllocError>
+    ensures { OnOk result (out.new.items ≡ out.old.items ++ encode_lower bytes.now) }
+{
     let start = out.len();
     if bytes.len() > (usize::MAX - start) / 2 {
         return Err(AllocError);

@@ -1,12 +1,14 @@
 //! Numbers in decimal digits.
 
-ghost use Rattle.std.specs.Prelude.{◌<◌};
+ghost use Rattle.std.specs.Prelude.{◌≡◌, ◌<◌, ◌++◌, OnOk};
 
 use itoa::{Buffer, Integer};
 use std::alloc::AllocError;
 
 /// Appends the number.
-pub fn push_number<I: Integer>(number: I, out: &mut Vec<u8>) -> Result<(), AllocError> {
+pub fn push_number<I: Integer>(number: I, out: &mut Vec<u8>) -> Result<(), AllocError>
+    ensures { OnOk result (out.new.items ≡ out.old.items ++ I.text number) }
+{
     let mut buffer = Buffer::new();
     out.extend_from_slice(buffer.format(number).as_bytes())
 }

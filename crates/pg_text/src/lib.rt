@@ -2,6 +2,9 @@
 //! UTC and IntervalStyle postgres, and what its input functions read of that.
 #![tactic(auto)]
 
+ghost use Rattle.std.specs.Prelude.{ℕ, List, OnOk};
+ghost use Rattle.pg_text.specs.Texts.{AnyText};
+
 pub mod arrays;
 mod bits;
 mod bytea;
@@ -26,8 +29,13 @@ use std::alloc::{AllocError, Global};
 
 /// A type whose values have a text.
 pub trait ToText {
+    /// The value's text stands after what was there. An implementation that says nothing claims
+    /// nothing of its text.
+    ghost shows: { Self → List ℕ → List ℕ → Type 0 } = { AnyText };
+
     /// Appends the value's text. Out of memory, a part of it may stand there.
-    fn to_text(&self, alloc: Global, out: &mut Vec<u8>) -> Result<(), AllocError>;
+    fn to_text(&self, alloc: Global, out: &mut Vec<u8>) -> Result<(), AllocError>
+        ensures { OnOk result (shows self.now out.old.items out.new.items) };
 }
 
 /// A type that is read from a text.

@@ -1,4 +1,7 @@
 //! Numbers, booleans and `"char"`.
+ghost use Rattle.std.specs.Fmt.{signed_decimal};
+ghost use Rattle.std.specs.Prelude.{decimal};
+ghost use Rattle.pg_text.specs.Texts.{Shows, bool_text, char_text};
 
 use crate::digits::push_number;
 use crate::{FromText, ToText, no_value};
@@ -7,6 +10,8 @@ use std::alloc::{AllocError, Global};
 
 /// `t` or `f` (`boolout`).
 impl ToText for bool {
+    ghost shows = { Shows bool_text };
+
     fn to_text(&self, _alloc: Global, out: &mut Vec<u8>) -> Result<(), AllocError> {
         out.extend_from_slice(if *self { b"t" } else { b"f" })
     }
@@ -25,6 +30,8 @@ impl FromText for bool {
 /// No byte for 0, a backslash and three octal digits for a negative one, and otherwise the byte
 /// itself (`charout`).
 impl ToText for i8 {
+    ghost shows = { Shows char_text };
+
     fn to_text(&self, _alloc: Global, out: &mut Vec<u8>) -> Result<(), AllocError> {
         let byte = self.cast_unsigned();
         match byte {
@@ -66,6 +73,8 @@ fn octal(high: u8, middle: u8, low: u8) -> Option<u8> {
 
 /// Decimal digits (`int2out`).
 impl ToText for i16 {
+    ghost shows = { Shows signed_decimal };
+
     fn to_text(&self, _alloc: Global, out: &mut Vec<u8>) -> Result<(), AllocError> {
         push_number(*self, out)
     }
@@ -79,6 +88,8 @@ impl FromText for i16 {
 
 /// Decimal digits (`int4out`).
 impl ToText for i32 {
+    ghost shows = { Shows signed_decimal };
+
     fn to_text(&self, _alloc: Global, out: &mut Vec<u8>) -> Result<(), AllocError> {
         push_number(*self, out)
     }
@@ -92,6 +103,8 @@ impl FromText for i32 {
 
 /// Decimal digits (`int8out`).
 impl ToText for i64 {
+    ghost shows = { Shows signed_decimal };
+
     fn to_text(&self, _alloc: Global, out: &mut Vec<u8>) -> Result<(), AllocError> {
         push_number(*self, out)
     }
@@ -105,6 +118,8 @@ impl FromText for i64 {
 
 /// Decimal digits (`oidout`).
 impl ToText for u32 {
+    ghost shows = { Shows decimal };
+
     fn to_text(&self, _alloc: Global, out: &mut Vec<u8>) -> Result<(), AllocError> {
         push_number(*self, out)
     }

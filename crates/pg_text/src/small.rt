@@ -1,4 +1,7 @@
 //! Identifiers, log positions, labels and domains.
+ghost use Rattle.pg_record.specs.Moods.{label};
+ghost use Rattle.pg_text.specs.Texts.{Shows, bytes_text};
+ghost use Rattle.uuid.specs.Text.{hyphenated_text, lower};
 
 use crate::digits::push_hex_number;
 use crate::{FromText, ToText, no_value};
@@ -9,6 +12,8 @@ use uuid::Uuid;
 
 /// Hexadecimal digits in five groups (`uuid_out`).
 impl ToText for Uuid {
+    ghost shows = { Shows (hyphenated_text lower) };
+
     fn to_text(&self, _alloc: Global, out: &mut Vec<u8>) -> Result<(), AllocError> {
         let mut buffer = Uuid::encode_buffer();
         let text = self.hyphenated().encode_lower(&mut buffer);
@@ -40,6 +45,8 @@ impl FromText for PgLsn {
 
 /// The label (`enum_out`).
 impl ToText for Mood {
+    ghost shows = { Shows label };
+
     fn to_text(&self, _alloc: Global, out: &mut Vec<u8>) -> Result<(), AllocError> {
         let label = match self {
             Mood::Sad => "Sad",
@@ -63,6 +70,8 @@ impl FromText for Mood {
 
 /// The text of its bytes.
 impl ToText for SessionId {
+    ghost shows = { Shows (λ v. bytes_text v.0.items) };
+
     fn to_text(&self, alloc: Global, out: &mut Vec<u8>) -> Result<(), AllocError> {
         self.0.as_slice().to_text(alloc, out)
     }

@@ -1,4 +1,5 @@
 //! Texts.
+ghost use Rattle.pg_text.specs.Texts.{Shows};
 
 use crate::{FromText, ToText};
 use postgres_types::Fault;
@@ -6,6 +7,8 @@ use std::alloc::{AllocError, Global};
 
 /// Itself (`textout`).
 impl ToText for &str {
+    ghost shows = { Shows (λ s. s.now) };
+
     fn to_text(&self, _alloc: Global, out: &mut Vec<u8>) -> Result<(), AllocError> {
         out.extend_from_slice(self.as_bytes())
     }
