@@ -8,6 +8,7 @@ mod levels;
 mod moods;
 mod nulls;
 mod percentages;
+mod positions;
 mod refusals;
 mod refused_fields;
 mod session_ids;

@@ -73,7 +73,7 @@ fn composite(alloc: Global, name: &str, oid: u32, fields: &[(&str, Type)]) -> Re
 }
 
 /// A field of a composite type.
-fn field(alloc: Global, name: &str, ty: Type) -> Result<Field, Fault> {
+pub fn field(alloc: Global, name: &str, ty: Type) -> Result<Field, Fault> {
     Ok(Field::new(String::from_str(alloc, name)?, ty))
 }
 
@@ -124,7 +124,7 @@ fn purchase_type(alloc: Global) -> Result<Type, Fault> {
     composite(alloc, "purchase", 0x4005, &fields)
 }
 
-fn address(alloc: Global, street: &str, city: &str) -> Result<Composite<Address>, Fault> {
+pub fn address(alloc: Global, street: &str, city: &str) -> Result<Composite<Address>, Fault> {
     Ok(Composite(Address {
         street: String::from_str(alloc, street)?,
         city: String::from_str(alloc, city)?,

@@ -3,6 +3,8 @@ ghost use Rattle.std.specs.Prelude.{[], ◌∷◌};
 ghost use Rattle.postgres_types.specs.CompositeFields.{and4, and8, end};
 ghost use Rattle.postgres_types.specs.Conversion.{ap, codes, refl};
 
+use super::composites::{address, field};
+use super::workers::domain;
 use own_types::domain::{Email, Percentage};
 use own_types::enumerated::Level;
 use own_types::nested_composite::Address;
@@ -134,16 +136,6 @@ impl Record for Survey {
     }
 }
 
-/// A field of that name and type.
-fn field(alloc: Global, name: &str, ty: Type) -> Result<Field, Fault> {
-    Ok(Field::new(String::from_str(alloc, name)?, ty))
-}
-
-/// A domain of that name and OID.
-fn domain(alloc: Global, name: &str, oid: u32, underlying: Type) -> Result<Type, Fault> {
-    user_type(alloc, name, oid, Kind::Domain(underlying), "public")
-}
-
 /// The type `address`, whose OID is 0x400f.
 fn address_type(alloc: Global) -> Result<Type, Fault> {
     let fields = vec![in alloc;
@@ -190,12 +182,6 @@ fn survey_type(alloc: Global) -> Result<Type, Fault> {
     fields.push(field(alloc, "stops", addresses)?)?;
     fields.push(field(alloc, "former", super::levels::level(alloc)?)?)?;
     user_type(alloc, "survey", 0x4012, Kind::Composite(fields), "public")
-}
-
-fn address(alloc: Global, street: &str, city: &str) -> Result<Composite<Address>, Fault> {
-    let street = String::from_str(alloc, street)?;
-    let city = String::from_str(alloc, city)?;
-    Ok(Composite(Address { street, city }))
 }
 
 /// A survey with NULL in each field that can be NULL.

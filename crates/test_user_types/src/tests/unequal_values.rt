@@ -1,10 +1,10 @@
 //! Values that differ are not equal, so that the comparisons of the other tests say something.
 
+use super::composites::address;
 use own_types::domain::{Email, Percentage};
 use own_types::enumerated::Level;
-use own_types::nested_composite::Address;
 use pg_record::{InventoryItem, Mood, SessionId};
-use postgres_types::composite::{And, And4, And8, Composite, End};
+use postgres_types::composite::{And, And4, And8, End};
 use postgres_types::enums::Enum;
 use postgres_types::newtype::{Domain, Transparent};
 use postgres_types::odd::{Gap, Moment, Picky, Short};
@@ -66,12 +66,6 @@ fn items_differ(rt: HostRuntime) -> Result<(), Fail> {
     let free = item(rt.alloc(), "nut", 7, Some(0))?;
     let dear = item(rt.alloc(), "nut", 7, Some(1))?;
     differ(&[nut, bolt, of_another, free, dear])
-}
-
-fn address(alloc: Global, street: &str, city: &str) -> Result<Composite<Address>, AllocError> {
-    let street = String::from_str(alloc, street)?;
-    let city = String::from_str(alloc, city)?;
-    Ok(Composite(Address { street, city }))
 }
 
 #[test]

@@ -3,6 +3,7 @@ ghost use Rattle.std.specs.Prelude.{[], ◌∷◌};
 ghost use Rattle.postgres_types.specs.CompositeFields.{and4, end};
 ghost use Rattle.postgres_types.specs.Conversion.{ap, codes, refl};
 
+use super::composites::field;
 use own_types::domain::{Email, Percentage};
 use own_types::enumerated::Level;
 use postgres_types::composite::{And4, Composite, End, FieldRefs, Record};
@@ -59,13 +60,8 @@ impl Record for Worker {
 }
 
 /// A domain of that name and OID.
-fn domain(alloc: Global, name: &str, oid: u32, underlying: Type) -> Result<Type, Fault> {
+pub fn domain(alloc: Global, name: &str, oid: u32, underlying: Type) -> Result<Type, Fault> {
     user_type(alloc, name, oid, Kind::Domain(underlying), "public")
-}
-
-/// A field of that name and type.
-fn field(alloc: Global, name: &str, ty: Type) -> Result<Field, Fault> {
-    Ok(Field::new(String::from_str(alloc, name)?, ty))
 }
 
 /// The type `worker`, with the OIDs of the server whose cells stand below: of `level` 0x4001, of
