@@ -1,13 +1,16 @@
 -- What each step of a run keeps.
 use Rattle.std.proofs.Common.{◌≡◌, ◌++◌, [], ℕ, List, Option, None, Some, Result, Ok, Err, OnOk, OnErr, length}
-use Rattle.std.proofs.Common.{take, sym, ap, subst, ◌∙◌, append_assoc, append-nil}
+use Rattle.std.proofs.Common.{take, sym, ap, subst, ◌∙◌, append_assoc, append-nil, refl, ◌∷◌}
 use Rattle.std.proofs.Math.Seq.{take-append_seam}
 use Rattle.std.specs.Io.KnownBytes.{Appends, Consumes, Keeps, IsAtEnd}
 use Rattle.std.proofs.KnownBytes.{Appends-kept}
 use Rattle.streams.specs.Lines.{lines_of}
-use Rattle.streams.specs.Answers.{Answering, WritesAnswers, WritesPart, AnswersAll, AnswersSome, AnswersPart, Splits}
-use Rattle.streams.specs.Answers.{TakesLines, TakesSome, IsUnderWay}
-use Rattle.streams.proofs.Answers.{gained, writes_more, writes_part}
+use Rattle.streams.specs.declared.lines.RunFault.{RunFault}
+use Rattle.streams.specs.declared.lines.RunFault.TheVariants.{Read, Write, Refused}
+use Rattle.streams.specs.Answers.{Answering, Saying, Within, WritesAnswers, WritesPart, AnswersAll, AnswersSome}
+use Rattle.streams.specs.Answers.{AnswersBefore, AnswersPart, Splits, TakesLines, TakesSome, TakesBefore, IsUnderWay}
+use Rattle.streams.specs.Answers.{EndsBy, IfRefused}
+use Rattle.streams.proofs.Answers.{gained, gains-within, writes_more, writes_part}
 use Rattle.streams.proofs.LineLaws.{takes_some}
 
 pub under_way-kept : (A : Answering) (a b d o n : Option (List ℕ)) (line : List ℕ)
@@ -154,3 +157,77 @@ under_way-end_partial A (Some x) (Some y) (Some z) o n m line u k end w =
     answers_part A x (u.0 ++ lines_of line) [] o m
     (at_end x line y z u.0 (whole x (line ++ y) u.0 u.1) k end ∙ sym (append-nil _))
     (writes_part A u.0 (lines_of line) o n m u.2 w)
+
+-- by what answers at first
+pub takes_lines-within : (A B : Answering) (xs line old new : List ℕ) → Within A B → TakesLines A xs line old new
+    → TakesLines B xs line old new
+takes_lines-within A B xs line old new w t = (t.0, t.1, gains-within A B t.0 old new w t.2)
+
+pub takes_some-within : (A B : Answering) (xs old new : List ℕ) → Within A B → TakesSome A xs old new
+    → TakesSome B xs old new
+takes_some-within A B xs old new w t = (t.0, t.1, gains-within A B t.0 old new w t.2)
+
+pub takes_before-within : {F : Type 0} (A B : Answering) (Q R : Saying F) (fault : F) (xs old new : List ℕ)
+    → Within A B → Within Q R → TakesBefore A Q fault xs old new → TakesBefore B R fault xs old new
+takes_before-within A B Q R fault xs old new w v t =
+    (t.0, t.1, t.2, gains-within A B t.0 old new w t.3, v t.1 fault t.4)
+
+module _ {F : Type 0} (R : Saying F) (A : Answering) where
+  -- a line of the block is refused
+  pub under_way-before : (fault : F) (a b d o n m : Option (List ℕ)) (line block old new : List ℕ)
+      → IsUnderWay A a b o n line → Consumes b d block → TakesBefore A R fault (line ++ block) old new → old ≡ []
+      → Appends n m new → AnswersBefore A R fault a o m
+  under_way-before fault None b d o n m line block old new u k t none w = tt
+  under_way-before fault (Some x) None d o n m line block old new u k t none w = absurd u
+  under_way-before fault (Some x) (Some y) None o n m line block old new u k t none w = absurd k
+  under_way-before fault (Some x) (Some y) (Some z) o n m line block old new u k t none w =
+      let next : (u.0 ++ (t.0 ++ t.1 ∷ [])) ++ (t.2 z).0 ≡ (u.0 ++ t.0) ++ t.1 ∷ (t.2 z).0 = simp append_assoc in
+      record {
+        done = u.0 ++ t.0;
+        line = t.1;
+        rest = (t.2 z).0;
+        are =
+            lines_begun x line y block z u.0 (t.0 ++ t.1 ∷ []) (t.2 z).0 (whole x (line ++ y) u.0 u.1) k (t.2 z).1
+            ∙ next;
+        answered = writes_more A u.0 t.0 o n m u.2 (new, gained A t.0 old new t.3 none, w);
+        refused = t.4;
+      }
+
+  -- the last line is refused
+  pub under_way-last : (fault : F) (a b d o n m : Option (List ℕ)) (line : List ℕ) → IsUnderWay A a b o n line
+      → Consumes b d [] → IsAtEnd d → lines_of line ≡ line ∷ [] → Keeps n m → R line fault
+      → AnswersBefore A R fault a o m
+  under_way-last fault None b d o n m line u k end one w r = tt
+  under_way-last fault (Some x) None d o n m line u k end one w r = absurd u
+  under_way-last fault (Some x) (Some y) None o n m line u k end one w r = absurd k
+  under_way-last fault (Some x) (Some y) (Some z) o n m line u k end one w r = record {
+    done = u.0;
+    line = line;
+    rest = [];
+    are =
+        at_end x line y z u.0 (whole x (line ++ y) u.0 u.1) k end ∙ ap (λ (l : List (List ℕ)). u.0 ++ l) one;
+    answered = (u.2.0, u.2.1, Appends-kept o n m _ u.2.2 w);
+    refused = r;
+  }
+
+  -- what is known of a fault at the last line
+  pub ends_kept : (line : List ℕ) (o n : Option (List ℕ)) (e : RunFault F) → EndsBy A R line o n e
+      → (e ≡ Write → ⊥) → Keeps o n
+  ends_kept line o n Read p h = absurd p
+  ends_kept line o n Write p h = absurd (h refl)
+  ends_kept line o n (Refused fault) p h = p.1
+
+  pub ends_unread : (line : List ℕ) (o n : Option (List ℕ)) (e : RunFault F) → EndsBy A R line o n e
+      → e ≡ Read → ⊥
+  ends_unread line o n e p is = let bad : EndsBy A R line o n Read = subst (EndsBy A R line o n) is p in bad
+
+  pub ends_part : (line : List ℕ) (o n : Option (List ℕ)) (e : RunFault F) → EndsBy A R line o n e
+      → e ≡ Write → WritesPart A (lines_of line) o n
+  ends_part line o n e p is = let part : EndsBy A R line o n Write = subst (EndsBy A R line o n) is p in part
+
+  pub ends_refused : (P : F → Type 0) (line : List ℕ) (o n : Option (List ℕ)) (e : RunFault F)
+      → EndsBy A R line o n e → ((fault : F) → lines_of line ≡ line ∷ [] → Keeps o n → R line fault → P fault)
+      → IfRefused e P
+  ends_refused P line o n Read p f = tt
+  ends_refused P line o n Write p f = tt
+  ends_refused P line o n (Refused fault) p f = f fault p.0 p.1 p.2

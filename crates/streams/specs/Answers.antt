@@ -1,26 +1,42 @@
 -- What lines are answered, and what a run leaves in its writer, where the reader's and the writer's bytes are known.
 use Rattle.std.specs.Prelude.{◌≡◌, ℕ, List, [], ◌∷◌, ◌++◌, take, IfSome, Option, None, Some}
-use Rattle.std.specs.Io.KnownBytes.{Appends}
+use Rattle.std.specs.Io.KnownBytes.{Appends, Keeps}
 use Rattle.streams.specs.Lines.{lines_of, IsOneLine}
+use Rattle.streams.specs.declared.lines.RunFault.{RunFault}
+use Rattle.streams.specs.declared.lines.RunFault.TheVariants.{Read, Write, Refused}
+
+-- which texts answer a line, or which faults it is refused by
+abbrev pub Saying : Type 0 → Type 1
+Saying A = List ℕ → A → Type 0
 
 -- which texts answer a line
 abbrev pub Answering : Type 1
-Answering = List ℕ → List ℕ → Type 0
+Answering = Saying (List ℕ)
 
--- the text is an answer to the line, byte 10, and then the rest, which is as it says
+-- what the first says of a line the second says too
+abbrev pub Within : {A : Type 0} → Saying A → Saying A → Type 0
+Within {A} P Q = (line : List ℕ) (x : A) → P line x → Q line x
+
+-- of a fault by which a line was refused
+abbrev pub IfRefused : {F : Type 0} → RunFault F → (F → Type 0) → Type 0
+IfRefused Read P = Unit {0}
+IfRefused Write P = Unit {0}
+IfRefused (Refused fault) P = P fault
+
+-- the text is an answer to the line, and then the rest, which is as it says
 pub record AnswerAndRest (Answer : Answering) (line : List ℕ) (Rest : List ℕ → Type 0) (text : List ℕ) : Type 0 where
   -- the answer
   pub answer : List ℕ
-  -- what comes after it and byte 10
+  -- what comes after it
   pub rest : List ℕ
   -- it answers the line
   pub answers : Answer line answer
   -- they follow one another
-  pub is : text ≡ answer ++ 10 ∷ rest
+  pub is : text ≡ answer ++ rest
   -- and the rest is so
   pub rest_answers : Rest rest
 
--- the text is an answer to each of these lines, in their order, each with byte 10 after it, and nothing else
+-- the text is an answer to each of these lines, in their order, and nothing else
 abbrev pub Answered : Answering → List (List ℕ) → List ℕ → Type 0
 Answered Answer [] text = text ≡ []
 Answered Answer (line ∷ lines) text = AnswerAndRest Answer line (λ rest. Answered Answer lines rest) text
@@ -53,6 +69,28 @@ abbrev pub AnswersSome : Answering → Option (List ℕ) → Option (List ℕ) �
 AnswersSome Answer input old new = IfSome input (λ bytes. (k : ℕ)
     × WritesAnswers Answer (take k (lines_of bytes)) old new)
 
+-- the lines of the input before one are answered, each by a whole answer, and that one is refused by the fault
+pub record StopsAt {F : Type 0} (Answer : Answering) (Refuses : Saying F) (fault : F) (input : List ℕ)
+    (old new : Option (List ℕ)) : Type 0 where
+  -- the lines before it
+  pub done : List (List ℕ)
+  -- the line
+  pub line : List ℕ
+  -- the lines after it
+  pub rest : List (List ℕ)
+  -- they are the lines of the input
+  pub are : lines_of input ≡ done ++ line ∷ rest
+  -- the lines before it are answered
+  pub answered : WritesAnswers Answer done old new
+  -- and it is refused
+  pub refused : Refuses line fault
+
+-- the lines of a known input before one that the fault refuses are answered
+abbrev pub AnswersBefore : {F : Type 0} → Answering → Saying F → F → Option (List ℕ) → Option (List ℕ)
+    → Option (List ℕ) → Type 0
+AnswersBefore Answer Refuses fault input old new =
+    IfSome input (λ bytes. StopsAt Answer Refuses fault bytes old new)
+
 -- a beginning of the answers to some first lines of the input is written
 abbrev pub AnswersPart : Answering → Option (List ℕ) → Option (List ℕ) → Option (List ℕ) → Type 0
 AnswersPart Answer input old new = IfSome input (λ bytes. (k : ℕ) × WritesPart Answer (take k (lines_of bytes)) old new)
@@ -72,6 +110,21 @@ TakesLines Answer xs line old new = (done : List (List ℕ)) × Splits xs done l
 -- some first lines of xs were answered after what was pending
 abbrev pub TakesSome : Answering → List ℕ → List ℕ → List ℕ → Type 0
 TakesSome Answer xs old new = (done : List (List ℕ)) × Begins xs done × GainsAnswers Answer done old new
+
+-- what a run leaves by its fault at a last line: where the line is refused nothing is written, and where a write
+-- failed a beginning of the answer
+abbrev pub EndsBy : {F : Type 0} → Answering → Saying F → List ℕ → Option (List ℕ) → Option (List ℕ) → RunFault F
+    → Type 0
+EndsBy Answer Refuses line old new Read = ⊥
+EndsBy Answer Refuses line old new Write = WritesPart Answer (lines_of line) old new
+EndsBy Answer Refuses line old new (Refused fault) =
+    (lines_of line ≡ line ∷ []) × Keeps old new × Refuses line fault
+
+-- some first lines of xs were answered after what was pending, and the next one is refused by the fault
+abbrev pub TakesBefore : {F : Type 0} → Answering → Saying F → F → List ℕ → List ℕ → List ℕ → Type 0
+TakesBefore Answer Refuses fault xs old new =
+    (done : List (List ℕ)) × (line : List ℕ) × Begins xs (done ++ line ∷ []) × GainsAnswers Answer done old new
+    × Refuses line fault
 
 -- so far the writer has answered the lines before line and what the reader has left, which begin the others, whatever
 -- comes after the input
