@@ -1,6 +1,9 @@
 -- The lemmas of this crate's proofs.
-mod CopyLaws
+mod WrittenLaws
 mod EscapeLaws
 mod LineLaws
 mod OutputLaws
+mod RowLaws
+mod TextLaws
 mod TupleLaws
+pub mod Wires

@@ -2,4 +2,6 @@
 pub mod Escapes
 pub mod Lines
 pub mod Outputs
+pub mod TextLines
 pub mod Tuples
+pub mod WrittenRows

@@ -1,5 +1,5 @@
 -- What lines are answered, and what a run leaves in its writer, where the reader's and the writer's bytes are known.
-use Rattle.std.specs.Prelude.{◌≡◌, ℕ, List, [], ◌∷◌, ◌++◌, take, IfSome, Option, None, Some}
+use Rattle.std.specs.Prelude.{◌≡◌, ℕ, List, [], ◌∷◌, ◌++◌, take, Option, None, Some}
 use Rattle.std.specs.Io.KnownBytes.{Appends, Keeps}
 use Rattle.streams.specs.Lines.{lines_of, IsOneLine}
 use Rattle.streams.specs.declared.lines.RunFault.{RunFault}
@@ -60,40 +60,31 @@ pub record WritesPart (Answer : Answering) (lines : List (List ℕ)) (old new : 
   -- and so many of its bytes were put after what was there
   pub appends : Appends old new (take written text)
 
+-- these are the lines of the input, where it is known
+abbrev pub LinesAre : Option (List ℕ) → List (List ℕ) → Type 0
+LinesAre None lines = Unit {0}
+LinesAre (Some bytes) lines = lines_of bytes ≡ lines
+
 -- each line of the input is answered, and nothing else is written
 abbrev pub AnswersAll : Answering → Option (List ℕ) → Option (List ℕ) → Option (List ℕ) → Type 0
-AnswersAll Answer input old new = IfSome input (λ bytes. WritesAnswers Answer (lines_of bytes) old new)
+AnswersAll Answer input old new = (lines : List (List ℕ)) × LinesAre input lines × WritesAnswers Answer lines old new
 
--- a first number of lines of the input are answered, each by a whole answer
+-- some first lines of the input are answered, each by a whole answer
 abbrev pub AnswersSome : Answering → Option (List ℕ) → Option (List ℕ) → Option (List ℕ) → Type 0
-AnswersSome Answer input old new = IfSome input (λ bytes. (k : ℕ)
-    × WritesAnswers Answer (take k (lines_of bytes)) old new)
+AnswersSome Answer input old new =
+    (done rest : List (List ℕ)) × LinesAre input (done ++ rest) × WritesAnswers Answer done old new
 
 -- the lines of the input before one are answered, each by a whole answer, and that one is refused by the fault
-pub record StopsAt {F : Type 0} (Answer : Answering) (Refuses : Saying F) (fault : F) (input : List ℕ)
-    (old new : Option (List ℕ)) : Type 0 where
-  -- the lines before it
-  pub done : List (List ℕ)
-  -- the line
-  pub line : List ℕ
-  -- the lines after it
-  pub rest : List (List ℕ)
-  -- they are the lines of the input
-  pub are : lines_of input ≡ done ++ line ∷ rest
-  -- the lines before it are answered
-  pub answered : WritesAnswers Answer done old new
-  -- and it is refused
-  pub refused : Refuses line fault
-
--- the lines of a known input before one that the fault refuses are answered
 abbrev pub AnswersBefore : {F : Type 0} → Answering → Saying F → F → Option (List ℕ) → Option (List ℕ)
     → Option (List ℕ) → Type 0
 AnswersBefore Answer Refuses fault input old new =
-    IfSome input (λ bytes. StopsAt Answer Refuses fault bytes old new)
+    (done : List (List ℕ)) × (line : List ℕ) × (rest : List (List ℕ)) × LinesAre input (done ++ line ∷ rest)
+    × WritesAnswers Answer done old new × Refuses line fault
 
 -- a beginning of the answers to some first lines of the input is written
 abbrev pub AnswersPart : Answering → Option (List ℕ) → Option (List ℕ) → Option (List ℕ) → Type 0
-AnswersPart Answer input old new = IfSome input (λ bytes. (k : ℕ) × WritesPart Answer (take k (lines_of bytes)) old new)
+AnswersPart Answer input old new =
+    (done rest : List (List ℕ)) × LinesAre input (done ++ rest) × WritesPart Answer done old new
 
 -- done are the first lines of xs, whatever comes after it, and line stands before that
 abbrev pub Splits : List ℕ → List (List ℕ) → List ℕ → Type 0
@@ -126,14 +117,18 @@ TakesBefore Answer Refuses fault xs old new =
     (done : List (List ℕ)) × (line : List ℕ) × Begins xs (done ++ line ∷ []) × GainsAnswers Answer done old new
     × Refuses line fault
 
--- so far the writer has answered the lines before line and what the reader has left, which begin the others, whatever
+-- done are the lines of the input before line and what the reader has left of it, which begin the others, whatever
 -- comes after the input
+abbrev pub IsDone : Option (List ℕ) → Option (List ℕ) → List ℕ → List (List ℕ) → Type 0
+IsDone None left line done = Unit {0}
+IsDone (Some bytes) None line done = ⊥
+IsDone (Some bytes) (Some left) line done = Splits bytes done (line ++ left)
+
+-- so far the writer has answered the lines before line and what the reader has left
 abbrev pub IsUnderWay : Answering → Option (List ℕ) → Option (List ℕ) → Option (List ℕ) → Option (List ℕ) → List ℕ
     → Type 0
-IsUnderWay Answer None left old new line = Unit {0}
-IsUnderWay Answer (Some bytes) None old new line = ⊥
-IsUnderWay Answer (Some bytes) (Some left) old new line =
-    (done : List (List ℕ)) × Splits bytes done (line ++ left) × WritesAnswers Answer done old new
+IsUnderWay Answer input left old new line =
+    (done : List (List ℕ)) × IsDone input left line done × WritesAnswers Answer done old new
 
 -- each line that ends in what was read is answered: what was read after them is the beginning of one line
 abbrev pub AnswersGiven : Answering → Option (List ℕ) → Option (List ℕ) → Option (List ℕ) → Option (List ℕ) → Type 0

@@ -1,14 +1,13 @@
--- What the proof of `AnswerLine::answer` of `Answerer` answers by hand.
+-- What the proof of `Answerer::append_answer` answers by hand.
 use Rattle.std.proofs.Common.{◌≡◌, ◌++◌, ℕ, List, None, Some, refl, codes}
 use Rattle.postgres_types.specs.Lsn.{lsn_of}
-use Rattle.streams.proofs.Outcomes.{on_ok}
 use Rattle.streams.proofs.Outcomes.{ok_weaker}
 use Rattle.pgcell.proofs.Requests.{answers_line}
 use Rattle.pgcell.specs.Answer.{AnswersType, lsn_answer}
 use Rattle.pgcell.specs.Norm.{AnswersNorm}
 use Rattle.postgres_types.specs.Cells.{cell_of}
 use Rattle.pgcell.specs.Request.{norm, type_of, lsn}
-use Rattle.pgcell.proofs.answer.AnswererAnswerLine.answer.Goals as goal
+use Rattle.pgcell.proofs.answer.Answerer.append_answer.Goals as goal
 
 pub returns-in-None-clause-ok : goal.returns-in-None-clause-ok
 returns-in-None-clause-ok c =
@@ -17,7 +16,7 @@ returns-in-None-clause-ok c =
     let asked = rw c.in-None.is at c.in_ok-parse.ensures in
     ok_weaker {P = new ≡ old ++ codes "bad line"} c.extend_from_slice.result
     (λ answer_text. (codes "bad line", answers_line c.args.line.now None _ asked refl, answer_text))
-    (on_ok c.extend_from_slice.result _ old new c.extend_from_slice.ensures.items)
+    c.extend_from_slice.ensures.ok
 
 pub returns-in-Some-Norm-clause-ok : goal.returns-in-Some-Norm-clause-ok
 returns-in-Some-Norm-clause-ok c =
