@@ -1,5 +1,4 @@
 -- The lemmas of this crate's proofs.
-mod WrittenLaws
 mod EscapeLaws
 mod LineLaws
 mod OutputLaws
@@ -7,3 +6,4 @@ mod RowLaws
 mod TextLaws
 mod TupleLaws
 pub mod Wires
+mod WrittenLaws
