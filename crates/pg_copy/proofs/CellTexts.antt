@@ -1,5 +1,5 @@
 -- What is known of a framed cell that was read as an option.
-use Rattle.std.proofs.Common.{◌≡◌, ◌≤◌, ℕ, List, [], ◌∷◌, Option, Some, None, Ok, length, arith, subst, sym}
+use Rattle.std.proofs.Common.{◌≤◌, ℕ, List, [], ◌∷◌, Some, None, Ok, length, arith, subst, sym}
 use Rattle.pg_base.specs.Cells.{Cell, SpellsAll}
 use Rattle.postgres_types.specs.Faults.{Outcome}
 use Rattle.postgres_types.specs.FrameReading.{ReadsFirst, ReadsFrame}

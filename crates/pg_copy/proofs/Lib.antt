@@ -1,10 +1,12 @@
 -- The lemmas of this crate's proofs.
 mod CellTexts
-mod CopyLaws
 mod EscapeLaws
 mod HeaderLaws
 mod LineLaws
-mod OutputLaws
 mod ReadingLaws
 mod ReadingRuns
+mod RowLaws
+mod TextLaws
 mod TupleLaws
+pub mod Wires
+mod WrittenLaws

@@ -4,5 +4,7 @@ pub mod Lines
 pub mod Outputs
 pub mod ReadingSteps
 pub mod Rows
+pub mod TextLines
 pub mod Tuples
 pub mod Values
+pub mod WrittenRows

@@ -1,11 +1,6 @@
--- What is written of an output that is made of rows.
+-- What is written of an output, or appended to a buffer.
 use Rattle.std.specs.Prelude.{◌≡◌, ℕ, List, ◌++◌, Option, take}
-use Rattle.std.specs.List.{AllByRecursion, concat}
 use Rattle.std.specs.Io.KnownBytes.{Appends}
-
--- the bytes are rows, one after another
-abbrev pub AreRows : (List ℕ → Type 0) → List ℕ → Type 0
-AreRows Row bytes = (rows : List (List ℕ)) × AllByRecursion Row rows × (bytes ≡ concat rows)
 
 -- such bytes were written
 abbrev pub WritesWhole : (List ℕ → Type 0) → Option (List ℕ) → Option (List ℕ) → Type 0

@@ -3,7 +3,7 @@ use Rattle.std.specs.Fmt.{signed_decimal}
 use Rattle.std.specs.Global.{Global}
 use Rattle.std.specs.HashMap.{HashMap}
 use Rattle.std.specs.Int.{w8, w16, w32, w64}
-use Rattle.std.specs.Prelude.{ℕ, Bool, true, false, List, Option, Some, None, Ok, String, Vec, decimal}
+use Rattle.std.specs.Prelude.{ℕ, Bool, true, false, List, Option, Some, Ok, String, Vec, decimal}
 use Rattle.std.specs.Borrow.{Bor}
 use Rattle.std.specs.declared.hash.BuildHasherDefault.{BuildHasherDefault}
 use Rattle.std.specs.declared.hash.FoldHasher.{FoldHasher}

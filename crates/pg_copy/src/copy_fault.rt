@@ -1,4 +1,7 @@
 //! Why a COPY stopped.
+ghost use Rattle.std.specs.Prelude.{◌≡◌};
+ghost use Rattle.pg_copy.specs.WrittenRows.{ValueFault};
+ghost use Rattle.pg_copy.specs.declared.copy_fault.CopyFault.TheVariants.{Memory};
 
 use postgres_types::Fault;
 use std::alloc::{AllocError, AllocFailed};
@@ -94,6 +97,8 @@ impl fmt::Display for CopyFault {
 impl Error for CopyFault {}
 
 impl From<AllocError> for CopyFault {
+    ghost from_gives = { λ _ fault. fault ≡ Memory };
+
     fn from(_error: AllocError) -> CopyFault {
         CopyFault::Memory
     }
@@ -106,7 +111,9 @@ impl<T: Drop> From<AllocFailed<T>> for CopyFault {
 }
 
 /// The fault of a value in that row and column; out of memory is no value's.
-pub fn value_fault(row: Row, column: usize, fault: Fault) -> CopyFault {
+pub fn value_fault(row: Row, column: usize, fault: Fault) -> CopyFault
+    ensures { ValueFault column result }
+{
     match fault {
         Fault::Memory => CopyFault::Memory,
         fault => CopyFault::Value { row, column, fault },

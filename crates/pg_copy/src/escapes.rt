@@ -1,7 +1,8 @@
 //! The escapes of COPY's text format.
-ghost use Rattle.std.specs.Prelude.{◌≡◌, ◌++◌, OnOk, OnErr};
+ghost use Rattle.std.specs.Prelude.{◌≡◌, ◌++◌, IfOk, OnOk, OnErr};
 ghost use Rattle.pg_copy.specs.Escapes.{escaped, escaped_byte, letter_of};
 ghost use Rattle.pg_copy.specs.Outputs.{Extends};
+ghost use Rattle.pg_copy.specs.TextLines.{Unescapes, is_refused_byte, letter_byte};
 
 use std::alloc::AllocError;
 
@@ -22,7 +23,9 @@ fn escape_of(byte: u8) -> Option<u8>
 }
 
 /// The byte that the letter stands for after a backslash; any other is the byte itself.
-fn escaped_by(letter: u8) -> u8 {
+fn escaped_by(letter: u8) -> u8
+    ensures { result ≡ letter_byte letter }
+{
     match letter {
         b'b' => 0x08,
         b't' => b'\t',
@@ -60,14 +63,23 @@ fn push_escaped(byte: u8, out: &mut Vec<u8>) -> Result<(), AllocError>
     }
 }
 
+/// Whether the byte is not taken after a backslash: a digit of an octal number, the x of a
+/// hexadecimal one, or the period, which ends the data. The server writes none of them.
+fn is_refused(byte: u8) -> bool
+    ensures { result ≡ is_refused_byte byte }
+{
+    matches!(byte, b'0'..=b'7' | b'x' | b'.')
+}
+
 /// Appends what the escaped text says, and answers whether it is one. A backslash at its end escapes
-/// nothing, and a carriage return is always escaped; an octal or a hexadecimal number and a period,
-/// which ends the data, are not read after a backslash. The server writes none of them.
-pub fn unescape(text: &[u8], out: &mut Vec<u8>) -> Result<bool, AllocError> {
+/// nothing, and a carriage return is always escaped.
+pub fn unescape(text: &[u8], out: &mut Vec<u8>) -> Result<bool, AllocError>
+    ensures { IfOk result (Unescapes text.now out.old.items out.new.items) }
+{
     let mut is_escaped = false;
-    for byte in text {
+    'bytes: for byte in text {
         if is_escaped {
-            if matches!(*byte, b'0'..=b'7' | b'x' | b'.') {
+            if is_refused(*byte) {
                 return Ok(false);
             }
             out.push(escaped_by(*byte))?;

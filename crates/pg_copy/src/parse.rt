@@ -1,14 +1,15 @@
 //! The cell of a text, by the base name of its column.
 ghost use Rattle.std.specs.Prelude.{◌≡◌, OnErr, OnOk};
 ghost use Rattle.pg_copy.specs.Outputs.{Gains};
-ghost use Rattle.pg_copy.specs.Tuples.{IsFrame};
+ghost use Rattle.pg_copy.specs.WrittenRows.{FrameOf, NeverNull, text_of};
+ghost use Rattle.postgres_types.specs.Content.{Content};
 
 use crate::columns::Column;
 use named_types::{Base, base_names};
 use pg_text::FromText;
 use pg_text::arrays::parse_array;
 use postgres_types::private::BytesMut;
-use postgres_types::{Fault, ToSql, Type, frame_value};
+use postgres_types::{Fault, ToSql, frame_value};
 use std::alloc::Global;
 
 /// A text, of which `None` is NULL.
@@ -39,32 +40,37 @@ macro_rules! push_row {
 /// Appends the frame of the cell that the value of the text is written as. A text that is no value
 /// of the column's type is the fault `User`; another fault is that of writing. Either leaves the
 /// buffer's bytes as they were.
+#[tactic(auto, using(crate::proofs::Wires::never_null))]
 pub fn push_frame(
     alloc: Global,
     column: &Column,
     text: Text<'_>,
     out: &mut BytesMut,
 ) -> Result<(), Fault>
-    ensures ok { OnOk result (Gains IsFrame out.old.items out.new.items) }
+    ensures ok { OnOk result (Gains (FrameOf column.now (text_of text.entry)) out.old.items out.new.items) }
     ensures err { OnErr result (out.new.items ≡ out.old.items) }
 {
     base_names!(push(alloc, column, text, out))
 }
 
 /// The same as a text, which is written where it lies, or as a list of them.
+#[tactic(auto, using(crate::proofs::Wires::never_null))]
 fn push_text(
     alloc: Global,
     column: &Column,
     text: Text<'_>,
     out: &mut BytesMut,
 ) -> Result<(), Fault>
-    ensures ok { OnOk result (Gains IsFrame out.old.items out.new.items) }
+    ensures ok { OnOk result (Gains (FrameOf column.now (text_of text.entry)) out.old.items out.new.items) }
     ensures err { OnErr result (out.new.items ≡ out.old.items) }
 {
     if column.is_array {
-        return push_array_as::<String>(alloc, &column.ty, text, out);
+        return push_array_as::<String>(alloc, column, text, out);
     }
-    frame_value(alloc, &text, &column.ty, out)
+    match text {
+        None => frame_value(alloc, &None::<&str>, &column.ty, out),
+        Some(text) => frame_value(alloc, &text, &column.ty, out),
+    }
 }
 
 /// The same as a `T`, or as a list of them.
@@ -74,32 +80,34 @@ fn push_as<T: FromText + ToSql>(
     text: Text<'_>,
     out: &mut BytesMut,
 ) -> Result<(), Fault>
-    ensures ok { OnOk result (Gains IsFrame out.old.items out.new.items) }
+    requires { (ty : Content) (value : T) → NeverNull (T.wire ty value) }
+    ensures ok { OnOk result (Gains (FrameOf column.now (text_of text.entry)) out.old.items out.new.items) }
     ensures err { OnErr result (out.new.items ≡ out.old.items) }
 {
     if column.is_array {
-        return push_array_as::<T>(alloc, &column.ty, text, out);
+        return push_array_as::<T>(alloc, column, text, out);
     }
-    let value: Option<T> = match text {
-        None => None,
-        Some(text) => Some(T::from_text(alloc, text)?),
-    };
-    frame_value(alloc, &value, &column.ty, out)
+    match text {
+        None => frame_value(alloc, &None::<T>, &column.ty, out),
+        Some(text) => frame_value(alloc, &T::from_text(alloc, text)?, &column.ty, out),
+    }
 }
 
 /// The same as a list of `T`s.
 fn push_array_as<T: FromText + ToSql>(
     alloc: Global,
-    ty: &Type,
+    column: &Column,
     text: Text<'_>,
     out: &mut BytesMut,
 ) -> Result<(), Fault>
-    ensures ok { OnOk result (Gains IsFrame out.old.items out.new.items) }
+    ensures ok { OnOk result (Gains (FrameOf column.now (text_of text.entry)) out.old.items out.new.items) }
     ensures err { OnErr result (out.new.items ≡ out.old.items) }
 {
-    let elements: Option<Vec<Option<T>>> = match text {
-        None => None,
-        Some(text) => Some(parse_array(alloc, text)?),
-    };
-    frame_value(alloc, &elements, ty, out)
+    match text {
+        None => frame_value(alloc, &None::<Vec<Option<T>>>, &column.ty, out),
+        Some(text) => {
+            let elements: Vec<Option<T>> = parse_array(alloc, text)?;
+            frame_value(alloc, &elements, &column.ty, out)
+        }
+    }
 }

@@ -1,10 +1,12 @@
 //! From lines of text to a binary COPY.
-ghost use Rattle.std.specs.Prelude.{◌≡◌, ◌≢◌, ◌<◌, pos, [], OnOk, OnErr, IfErr, length};
+ghost use Rattle.std.specs.Prelude.{◌≡◌, ◌∷◌, pos, ℕ, List, Some, IfErr, OnOk, OnErr, length};
 ghost use Rattle.std.specs.Int.{w16};
 ghost use Rattle.pg_base.specs.Cells.{be};
-ghost use Rattle.pg_copy.specs.Outputs.{AreRows, Extends, Gains, WritesPart, WritesWhole};
-ghost use Rattle.std.specs.Io.KnownBytes.{Keeps};
-ghost use Rattle.pg_copy.specs.Tuples.{HasBegun, HasTrailer, IsCopy, IsFrame, IsTuple};
+ghost use Rattle.streams.specs.Answers.{LinesAre};
+ghost use Rattle.pg_copy.specs.Outputs.{Extends, Gains, WritesWhole};
+ghost use Rattle.pg_copy.specs.TextLines.{fields_left, fields_of};
+ghost use Rattle.pg_copy.specs.WrittenRows.{CopyOf, CountFault, FieldFrame, FrameOf, LineFault, Stops, TupleOf};
+ghost use Rattle.pg_copy.specs.WrittenRows.{fault_of, text_of};
 
 use crate::columns::Column;
 use crate::copy_fault::{CopyFault, Row, value_fault};
@@ -16,46 +18,31 @@ use postgres_types::Fault;
 use postgres_types::private::BytesMut;
 use std::alloc::Global;
 use std::io::{Read, Write};
-use streams::blocks::{BLOCK, read_block, write_whole};
+use streams::blocks::write_whole;
+use streams::lines::{AnswerLine, RunFault, answer_lines};
 use streams::split::split_once;
 
 /// What a binary COPY begins with: the signature, no flag, and a header extension of no byte.
 const HEADER: &[u8; 19] = b"PGCOPY\n\xff\r\n\0\0\0\0\0\0\0\0\0";
 
-/// Lines that are being written.
-#[derive(Drop)]
-struct Writing<'a> {
-    alloc: Global,
-    columns: &'a [Column],
-    /// The number of columns in two bytes, with which each row begins.
-    count: [u8; 2],
-    /// How many lines were taken.
-    line: u64,
-    /// What was read of a line that has not ended.
-    held: Vec<u8>,
-    /// What an escaped field says, which is kept for its memory.
-    field: Vec<u8>,
-    /// What is to be written.
-    out: BytesMut,
-}
+/// What a binary COPY ends with: the number of columns -1.
+const TRAILER: &[u8; 2] = b"\xff\xff";
 
-/// Reads lines of these columns in COPY's text format, and writes a binary COPY of a row for each.
+/// Reads lines of these columns in COPY's text format, and writes a binary COPY of a tuple for each.
 /// A last line counts without a line feed, where it is not empty.
 ///
-/// A fault leaves the header and whole rows written, those of the lines before it, but that of
+/// A fault leaves the header and whole tuples written, those of the lines before it, but that of
 /// writing a beginning of them; the trailer is written at the end of the lines alone. No more is held
-/// than the longest line, a block of input and its rows.
+/// than the longest line, a block of input and its tuples.
 pub fn write<R: Read, W: Write>(
     alloc: Global,
     columns: &[Column],
     input: &mut R,
     output: &mut W,
 ) -> Result<(), CopyFault>
-    ensures ok { OnOk result (WritesWhole (IsCopy (length columns.now))
-        (W.contents output.old) (W.contents output.new)) }
-    ensures whole { IfErr result (λ e. e ≢ CopyFault.Write → WritesWhole (HasBegun (length columns.now))
-        (W.contents output.old) (W.contents output.new)) }
-    ensures part { OnErr result (WritesPart (IsCopy (length columns.now))
+    ensures ok { OnOk result ((lines : List (List ℕ)) × LinesAre (R.remaining input.old) lines
+        × WritesWhole (CopyOf columns.now lines) (W.contents output.old) (W.contents output.new)) }
+    ensures err { IfErr result (Stops columns.now (R.remaining input.old) (R.remaining input.new)
         (W.contents output.old) (W.contents output.new)) }
 {
     let Ok(count) = i16::try_from(columns.len()) else {
@@ -64,125 +51,102 @@ pub fn write<R: Read, W: Write>(
     if write_whole(output, HEADER).is_err() {
         return Err(CopyFault::Write);
     }
-    let mut writing = Writing {
-        alloc,
+    let mut tuples = TupleWriter {
         columns,
         count: count.to_be_bytes(),
         line: 0,
-        held: Vec::new(alloc),
-        field: Vec::new(alloc),
-        out: BytesMut::new(alloc),
+        text: Vec::new(alloc),
     };
-    let mut block = [0; BLOCK];
-    'reads: for _ in 0..u64::MAX {
-        let Ok(len) = read_block(input, &mut block) else {
-            return Err(CopyFault::Read);
-        };
-        if len == 0 {
-            return writing.finish(output);
-        }
-        let taken = writing.take(&block[..len]);
-        if write_whole(output, writing.out.as_slice()).is_err() {
-            return Err(CopyFault::Write);
-        }
-        taken?;
-        writing.out.clear();
+    answer_lines(alloc, &mut tuples, input, output)?;
+    match write_whole(output, TRAILER) {
+        Ok(()) => Ok(()),
+        Err(_) => Err(CopyFault::Write),
     }
-    Err(CopyFault::Read)
 }
 
-impl Writing<'_> {
-    /// Appends the rows of the lines that end in the block, and keeps what comes after them.
-    fn take(&mut self, block: &[u8]) -> Result<(), CopyFault>
-        requires { self.old.count ≡ be w16 (pos (length self.old.columns.now)) }
-        ensures columns { self.new.columns.now ≡ self.old.columns.now }
-        ensures count { self.new.count ≡ self.old.count }
-        ensures rows { Gains (AreRows (IsTuple (length self.old.columns.now))) self.old.out.items self.new.out.items }
-    {
-        let mut rest = block;
-        // Of lines there are no more than bytes.
-        'lines: for _ in 0..block.len() {
-            let Some((last, after)) = split_once(rest, b'\n') else {
-                break;
-            };
-            self.end_line(last)?;
-            rest = after;
+impl From<RunFault<CopyFault>> for CopyFault {
+    ghost from_gives = { λ run fault. fault ≡ fault_of run };
+
+    fn from(fault: RunFault<CopyFault>) -> CopyFault {
+        match fault {
+            RunFault::Read => CopyFault::Read,
+            RunFault::Write => CopyFault::Write,
+            RunFault::Refused(fault) => fault,
         }
-        Ok(self.held.extend_from_slice(rest)?)
     }
+}
 
-    /// Appends the row of the line whose last bytes these are.
-    fn end_line(&mut self, last: &[u8]) -> Result<(), CopyFault>
-        requires { self.old.count ≡ be w16 (pos (length self.old.columns.now)) }
-        ensures columns { self.new.columns.now ≡ self.old.columns.now }
-        ensures count { self.new.count ≡ self.old.count }
-        ensures ok { OnOk result (Gains (IsTuple (length self.old.columns.now)) self.old.out.items self.new.out.items) }
-        ensures err { OnErr result (self.new.out.items ≡ self.old.out.items) }
-    {
-        // A line that lies whole in a block is taken where it lies.
-        if self.held.is_empty() {
-            return self.take_line(last);
-        }
-        self.held.extend_from_slice(last)?;
-        self.end_held()
-    }
+/// Writes the tuples of lines.
+#[derive(Drop)]
+struct TupleWriter<'a> {
+    columns: &'a [Column],
+    /// The number of columns in two bytes, with which each tuple begins.
+    count: [u8; 2],
+    /// How many lines were taken.
+    line: u64,
+    /// What an escaped field says, which is kept for its memory.
+    text: Vec<u8>,
+    ghost counted: { count ≡ be w16 (pos (length columns.now)) },
+}
 
-    /// Appends the row of the line that is held.
-    fn end_held(&mut self) -> Result<(), CopyFault>
-        requires { self.old.count ≡ be w16 (pos (length self.old.columns.now)) }
-        ensures columns { self.new.columns.now ≡ self.old.columns.now }
-        ensures count { self.new.count ≡ self.old.count }
-        ensures ok { OnOk result (Gains (IsTuple (length self.old.columns.now)) self.old.out.items self.new.out.items) }
-        ensures err { OnErr result (self.new.out.items ≡ self.old.out.items) }
-    {
-        let held = std::mem::replace(&mut self.held, Vec::new(self.alloc));
-        let outcome = self.take_line(held.as_slice());
-        self.held = held;
-        self.held.clear();
-        outcome
-    }
+impl AnswerLine for TupleWriter<'_> {
+    type Fault = CopyFault;
 
-    /// Appends the row of the line. A fault leaves what is to be written as it was.
-    fn take_line(&mut self, line: &[u8]) -> Result<(), CopyFault>
-        requires { self.old.count ≡ be w16 (pos (length self.old.columns.now)) }
-        ensures columns { self.new.columns.now ≡ self.old.columns.now }
-        ensures count { self.new.count ≡ self.old.count }
-        ensures ok { OnOk result (Gains (IsTuple (length self.old.columns.now)) self.old.out.items self.new.out.items) }
-        ensures err { OnErr result (self.new.out.items ≡ self.old.out.items) }
-    {
+    ghost answers = { λ s. TupleOf s.columns.now };
+
+    ghost refuses = { λ s. LineFault s.columns.now };
+
+    fn answer(
+        &mut self,
+        alloc: Global,
+        line: &[u8],
+        pending: &mut BytesMut,
+    ) -> Result<(), CopyFault> {
         self.line = self.line.saturating_add(1);
-        let start = self.out.len();
-        let outcome = self.push_row(line);
+        let start = pending.len();
+        let outcome = self.push_tuple(alloc, line, pending);
         if outcome.is_err() {
-            self.out.truncate(start);
+            pending.truncate(start);
         }
         outcome
     }
+}
 
-    /// Appends the row of the line. A fault leaves a part of it.
-    fn push_row(&mut self, line: &[u8]) -> Result<(), CopyFault>
-        requires { self.old.count ≡ be w16 (pos (length self.old.columns.now)) }
+impl TupleWriter<'_> {
+    /// Appends the tuple of the line. A fault leaves a part of it.
+    fn push_tuple(
+        &mut self,
+        alloc: Global,
+        line: &[u8],
+        pending: &mut BytesMut,
+    ) -> Result<(), CopyFault>
         ensures columns { self.new.columns.now ≡ self.old.columns.now }
-        ensures count { self.new.count ≡ self.old.count }
-        ensures ok { OnOk result (Gains (IsTuple (length self.old.columns.now)) self.old.out.items self.new.out.items) }
-        ensures err { OnErr result (Extends self.old.out.items self.new.out.items) }
+        ensures ok { OnOk result (Gains (TupleOf self.old.columns.now line.now) pending.old.items pending.new.items) }
+        ensures err { OnErr result (Extends pending.old.items pending.new.items) }
+        ensures refused { IfErr result (LineFault self.old.columns.now line.now) }
     {
-        self.out.extend_from_slice(&self.count)?;
-        let mut fields = line.split(|byte| *byte == b'\t');
-        'columns: for place in 0..self.columns.len() {
-            let Some(field) = fields.next() else {
+        pending.extend_from_slice(&self.count)?;
+        let mut rest = Some(line);
+        for (place, column) in self.columns.iter().enumerate() {
+            let Some(fields) = rest else {
                 return Err(self.count_fault(line));
             };
-            self.push_field(place, field)?;
+            let (field, after) = split_field(fields);
+            if let Err(fault) = push_field(alloc, column, field, &mut self.text, pending) {
+                return Err(value_fault(Row::Line(self.line), place + 1, fault));
+            }
+            rest = after;
         }
-        match fields.next() {
+        match rest {
             Some(_) => Err(self.count_fault(line)),
             None => Ok(()),
         }
     }
 
-    /// The fault of a line of another number of columns.
-    fn count_fault(&self, line: &[u8]) -> CopyFault {
+    /// The fault of a line of another number of fields.
+    fn count_fault(&self, line: &[u8]) -> CopyFault
+        ensures { CountFault (length self.now.columns.now) (length (fields_of line.now)) result }
+    {
         let tabs = line.iter().filter(|byte| **byte == b'\t').count();
         CopyFault::Columns {
             row: Row::Line(self.line),
@@ -190,83 +154,47 @@ impl Writing<'_> {
             got: i64::try_from(tabs).unwrap_or(i64::MAX).saturating_add(1),
         }
     }
+}
 
-    /// Appends the frame of the field's cell, by the column at that place.
-    fn push_field(&mut self, place: usize, field: &[u8]) -> Result<(), CopyFault>
-        requires { place < length self.old.columns.now }
-        ensures columns { self.new.columns.now ≡ self.old.columns.now }
-        ensures count { self.new.count ≡ self.old.count }
-        ensures ok { OnOk result (Gains IsFrame self.old.out.items self.new.out.items) }
-        ensures err { OnErr result (self.new.out.items ≡ self.old.out.items) }
-    {
-        match self.push_text(place, field) {
-            Ok(()) => Ok(()),
-            Err(fault) => {
-                let row = Row::Line(self.line);
-                Err(value_fault(row, place.saturating_add(1), fault))
-            }
-        }
+/// The first of the fields, and those after it, where there are some.
+fn split_field(fields: &[u8]) -> (&[u8], Option<&[u8]>)
+    ensures { fields_of fields.now ≡ result.0.now ∷ fields_left (text_of result.1) }
+{
+    match split_once(fields, b'\t') {
+        Some((field, after)) => (field, Some(after)),
+        None => (fields, None),
     }
+}
 
-    /// The same, with the fault of the value alone.
-    fn push_text(&mut self, place: usize, field: &[u8]) -> Result<(), Fault>
-        requires { place < length self.old.columns.now }
-        ensures columns { self.new.columns.now ≡ self.old.columns.now }
-        ensures count { self.new.count ≡ self.old.count }
-        ensures ok { OnOk result (Gains IsFrame self.old.out.items self.new.out.items) }
-        ensures err { OnErr result (self.new.out.items ≡ self.old.out.items) }
-    {
-        let column = &self.columns[place];
-        if field == b"\\N".as_slice() {
-            return push_frame(self.alloc, column, None, &mut self.out);
-        }
-        // Most fields have no escape, and say what they are.
-        if memchr2(b'\\', b'\r', field).is_none() {
-            return push_utf8(self.alloc, column, field, &mut self.out);
-        }
-        self.field.clear();
-        if !unescape(field, &mut self.field)? {
-            return Err(no_value());
-        }
-        push_utf8(self.alloc, column, self.field.as_slice(), &mut self.out)
+/// Appends the frame of the field's cell. The text of an escaped field is put into `text`, in place
+/// of what is there.
+fn push_field(
+    alloc: Global,
+    column: &Column,
+    field: &[u8],
+    text: &mut Vec<u8>,
+    out: &mut BytesMut,
+) -> Result<(), Fault>
+    ensures ok { OnOk result (Gains (FieldFrame column.now field.now) out.old.items out.new.items) }
+    ensures err { OnErr result (out.new.items ≡ out.old.items) }
+{
+    if field == b"\\N".as_slice() {
+        return push_frame(alloc, column, None, out);
     }
-
-    /// Appends the row of a last line without a line feed, where there is one.
-    fn end_rest(&mut self) -> Result<(), CopyFault>
-        requires { self.old.count ≡ be w16 (pos (length self.old.columns.now)) }
-        ensures { OnOk result (Gains (AreRows (IsTuple (length self.old.columns.now)))
-            self.old.out.items self.new.out.items) }
-    {
-        if self.held.is_empty() {
-            return Ok(());
-        }
-        self.end_held()?;
-        Ok(())
+    // Most fields have no escape, and say what they are.
+    if memchr2(b'\\', b'\r', field).is_none() {
+        return push_utf8(alloc, column, field, out);
     }
-
-    /// Writes the row of a last line without a line feed, and the trailer.
-    fn finish<W: Write>(&mut self, output: &mut W) -> Result<(), CopyFault>
-        requires count { self.old.count ≡ be w16 (pos (length self.old.columns.now)) }
-        requires empty { self.old.out.items ≡ [] }
-        ensures ok { OnOk result (WritesWhole (HasTrailer (length self.old.columns.now))
-            (W.contents output.old) (W.contents output.new)) }
-        ensures whole { IfErr result (λ e. e ≢ CopyFault.Write →
-            Keeps (W.contents output.old) (W.contents output.new)) }
-        ensures part { OnErr result (WritesPart (HasTrailer (length self.old.columns.now))
-            (W.contents output.old) (W.contents output.new)) }
-    {
-        self.end_rest()?;
-        self.out.extend_from_slice(&[0xff, 0xff])?;
-        match write_whole(output, self.out.as_slice()) {
-            Ok(()) => Ok(()),
-            Err(_) => Err(CopyFault::Write),
-        }
+    text.clear();
+    if !unescape(field, text)? {
+        return Err(no_value());
     }
+    push_utf8(alloc, column, text.as_slice(), out)
 }
 
 /// Appends the frame of the text's cell.
 fn push_utf8(alloc: Global, column: &Column, text: &[u8], out: &mut BytesMut) -> Result<(), Fault>
-    ensures ok { OnOk result (Gains IsFrame out.old.items out.new.items) }
+    ensures ok { OnOk result (Gains (FrameOf column.now (Some text.now)) out.old.items out.new.items) }
     ensures err { OnErr result (out.new.items ≡ out.old.items) }
 {
     match str::from_utf8(text) {

@@ -1,5 +1,5 @@
 -- What a line is answered.
-use Rattle.std.specs.Prelude.{◌≡◌, ◌≢◌, ℕ, ◌++◌, List, Option, Some, None, ◌⊎◌, codes}
+use Rattle.std.specs.Prelude.{◌≡◌, ◌≢◌, ℕ, ◌++◌, List, [], ◌∷◌, Option, Some, None, ◌⊎◌, codes}
 use Rattle.postgres_types.specs.BuiltInRows.{row_oid}
 use Rattle.postgres_types.specs.Content.{Content, IsBuiltIn, oid_of, type_text}
 use Rattle.postgres_types.specs.Lsn.{lsn_of, lsn_text}
@@ -27,3 +27,7 @@ AnswersRequest (Some (lsn position)) text = text ≡ lsn_answer (lsn_of position
 -- the text answers the line
 unfoldable pub Answer : List ℕ → List ℕ → Type 0
 Answer line text = AnswersRequest (request_of line) text
+
+-- the text is an answer to the line, and byte 10
+abbrev pub AnswersLine : List ℕ → List ℕ → Type 0
+AnswersLine line text = (answer : List ℕ) × Answer line answer × (text ≡ answer ++ 10 ∷ [])

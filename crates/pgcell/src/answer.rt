@@ -1,10 +1,11 @@
 //! The answer to a line.
 ghost use Rattle.std.specs.Prelude.{◌≡◌, ◌++◌, ℕ, List, OnOk, OnErr};
 ghost use Rattle.postgres_types.specs.Lsn.{lsn_of};
-ghost use Rattle.pgcell.specs.Answer.{Answer, AnswersType, lsn_answer};
+ghost use Rattle.pgcell.specs.Answer.{Answer, AnswersLine, AnswersType, lsn_answer};
 
 use crate::norm::Rewriter;
 use crate::request::Request;
+use bytes::BytesMut;
 use postgres_types::{Oid, PgLsn, Type};
 use std::alloc::{AllocError, Global};
 use std::fmt::Write;
@@ -28,17 +29,19 @@ impl Answerer {
             rewriter: Rewriter::new(alloc),
         }
     }
-}
 
-impl AnswerLine for Answerer {
-    ghost answers = { Answer };
-
-    fn answer(
+    /// Appends the answer to a line, without a byte 10.
+    fn append_answer(
         &mut self,
         alloc: Global,
         line: &[u8],
-        pending: &mut Vec<u8>,
-    ) -> Result<(), AllocError> {
+        pending: &mut BytesMut,
+    ) -> Result<(), AllocError>
+        ensures ok { OnOk result ((text : List ℕ)
+            × Answer line.now text
+            × (pending.new.items ≡ pending.old.items ++ text)) }
+        ensures err { OnErr result (pending.new.items ≡ pending.old.items) }
+    {
         match Request::parse(line, &mut self.bytes)? {
             None => pending.extend_from_slice(b"bad line"),
             Some(Request::Norm(name, cell)) => self.rewriter.norm(alloc, name, cell, pending),
@@ -48,8 +51,31 @@ impl AnswerLine for Answerer {
     }
 }
 
+impl AnswerLine for Answerer {
+    type Fault = AllocError;
+
+    ghost answers = { λ _. AnswersLine };
+
+    ghost refuses = { λ _ _ _. Unit {0} };
+
+    fn answer(
+        &mut self,
+        alloc: Global,
+        line: &[u8],
+        pending: &mut BytesMut,
+    ) -> Result<(), AllocError> {
+        let start = pending.len();
+        self.append_answer(alloc, line, pending)?;
+        if pending.extend_from_slice(b"\n").is_err() {
+            pending.truncate(start);
+            return Err(AllocError);
+        }
+        Ok(())
+    }
+}
+
 /// Appends the answer to `type OID`.
-fn append_type(oid: Oid, text: &mut String, pending: &mut Vec<u8>) -> Result<(), AllocError>
+fn append_type(oid: Oid, text: &mut String, pending: &mut BytesMut) -> Result<(), AllocError>
     ensures ok { OnOk result ((text : List ℕ)
         × AnswersType oid text
         × (pending.new.items ≡ pending.old.items ++ text)) }
@@ -64,7 +90,7 @@ fn append_type(oid: Oid, text: &mut String, pending: &mut Vec<u8>) -> Result<(),
 }
 
 /// Appends the answer to `lsn TEXT`.
-fn append_lsn(lsn: &str, text: &mut String, pending: &mut Vec<u8>) -> Result<(), AllocError>
+fn append_lsn(lsn: &str, text: &mut String, pending: &mut BytesMut) -> Result<(), AllocError>
     ensures ok { OnOk result (pending.new.items ≡ pending.old.items ++ lsn_answer (lsn_of lsn.now)) }
     ensures err { OnErr result (pending.new.items ≡ pending.old.items) }
 {

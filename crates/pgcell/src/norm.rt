@@ -91,7 +91,7 @@ impl Rewriter {
         alloc: Global,
         name: Name,
         cell: Option<&[u8]>,
-        pending: &mut Vec<u8>,
+        pending: &mut BytesMut,
     ) -> Result<(), AllocError>
         ensures ok { OnOk result ((text : List ℕ)
             × AnswersNorm name (cell_of cell.entry) text
@@ -109,7 +109,7 @@ impl Rewriter {
         own: Type,
         arrays: Option<Type>,
         cell: Option<&'a [u8]>,
-        pending: &mut Vec<u8>,
+        pending: &mut BytesMut,
     ) -> Result<(), AllocError>
         requires own_type { IsTrue (T.FromSql.accepted (content own)) }
         requires array_type { IfSome (option_map content arrays)
@@ -161,7 +161,7 @@ fn rewrite_as<'a, T: Paired<'a>>(
 }
 
 /// Appends the answer of a written cell.
-fn append_bytes(bytes: &[u8], pending: &mut Vec<u8>) -> Result<(), AllocError>
+fn append_bytes(bytes: &[u8], pending: &mut BytesMut) -> Result<(), AllocError>
     ensures ok { OnOk result (pending.new.items ≡ pending.old.items ++ norm_text (Ok (Some bytes.now))) }
     ensures err { OnErr result (pending.new.items ≡ pending.old.items) }
 {
@@ -178,7 +178,7 @@ fn append_bytes(bytes: &[u8], pending: &mut Vec<u8>) -> Result<(), AllocError>
 }
 
 /// Appends the bytes in hexadecimal, written where they stay.
-fn append_digits(bytes: &[u8], text: &mut Vec<u8>) -> Result<(), AllocError>
+fn append_digits(bytes: &[u8], text: &mut BytesMut) -> Result<(), AllocError>
     ensures ok { OnOk result (text.new.items ≡ text.old.items ++ encode_lower bytes.now) }
     ensures err { OnErr result (text.new.items ≡ text.old.items) }
 {
@@ -194,7 +194,7 @@ fn append_digits(bytes: &[u8], text: &mut Vec<u8>) -> Result<(), AllocError>
 }
 
 /// Appends the answer of a refusal, which has its number. Out of memory is no refusal, and is passed on.
-fn append_fault(alloc: Global, fault: &Fault, pending: &mut Vec<u8>) -> Result<(), AllocError>
+fn append_fault(alloc: Global, fault: &Fault, pending: &mut BytesMut) -> Result<(), AllocError>
     ensures ok { OnOk result (AppendsRefusal (refusal_of fault.now) pending.old.items pending.new.items) }
     ensures err { OnErr result (pending.new.items ≡ pending.old.items) }
 {

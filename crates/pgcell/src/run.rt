@@ -1,22 +1,26 @@
 //! Runs over lines: what the program does.
 ghost use Rattle.std.specs.Prelude.{◌≡◌, ◌≢◌, OnOk, IfErr};
-ghost use Rattle.pgcell.specs.Answer.{Answer};
+ghost use Rattle.pgcell.specs.Answer.{AnswersLine};
 ghost use Rattle.streams.specs.Answers.{AnswersAll, AnswersGiven, AnswersPart, AnswersSome};
 
 use crate::answer::Answerer;
-use std::alloc::Global;
+use std::alloc::{AllocError, Global};
 use std::io::{Read, Write};
 use streams::lines::{RunFault, answer_lines};
 
 /// Answers each line of the input, as `answer_lines` does.
-pub fn run<R: Read, W: Write>(alloc: Global, input: &mut R, output: &mut W) -> Result<(), RunFault>
-    ensures ok { OnOk result (AnswersAll Answer (R.remaining input.old)
+pub fn run<R: Read, W: Write>(
+    alloc: Global,
+    input: &mut R,
+    output: &mut W,
+) -> Result<(), RunFault<AllocError>>
+    ensures ok { OnOk result (AnswersAll AnswersLine (R.remaining input.old)
         (W.contents output.old) (W.contents output.new)) }
-    ensures whole { IfErr result (λ e. e ≢ RunFault.Write → AnswersSome Answer (R.remaining input.old)
+    ensures whole { IfErr result (λ e. e ≢ RunFault.Write → AnswersSome AnswersLine (R.remaining input.old)
         (W.contents output.old) (W.contents output.new)) }
-    ensures read { IfErr result (λ e. e ≡ RunFault.Read → AnswersGiven Answer (R.remaining input.old)
+    ensures read { IfErr result (λ e. e ≡ RunFault.Read → AnswersGiven AnswersLine (R.remaining input.old)
         (R.remaining input.new) (W.contents output.old) (W.contents output.new)) }
-    ensures partial { IfErr result (λ e. e ≡ RunFault.Write → AnswersPart Answer (R.remaining input.old)
+    ensures partial { IfErr result (λ e. e ≡ RunFault.Write → AnswersPart AnswersLine (R.remaining input.old)
         (W.contents output.old) (W.contents output.new)) }
 {
     let mut answerer = Answerer::new(alloc);

@@ -1,9 +1,9 @@
 -- Answers after answers.
-use Rattle.std.proofs.Common.{◌≡◌, ℕ, List, Option, [], ◌∷◌, ◌++◌, ◌+◌, length, refl, sym, ap, subst, ◌∙◌, append_assoc}
+use Rattle.std.proofs.Common.{◌≡◌, ℕ, List, Option, [], ◌∷◌, ◌++◌, ◌+◌, length, refl, sym, ap, subst, ◌∙◌, append_assoc, append-nil}
 use Rattle.std.proofs.Math.Seq.{take-append-add}
 use Rattle.std.specs.Io.KnownBytes.{Appends}
 use Rattle.std.proofs.KnownBytes.{Appends-nil, Appends-trans}
-use Rattle.streams.specs.Answers.{Answering, Answered, GainsAnswers, WritesAnswers, WritesPart}
+use Rattle.streams.specs.Answers.{Answering, Within, Answered, GainsAnswers, WritesAnswers, WritesPart}
 
 pub answered-append : (A : Answering) (a b : List (List ℕ)) (x y : List ℕ) → Answered A a x
     → Answered A b y → Answered A (a ++ b) (x ++ y)
@@ -12,19 +12,45 @@ answered-append A (line ∷ a) b x y p q = record {
   answer = p.answer;
   rest = p.rest ++ y;
   answers = p.answers;
-  is = ap (λ (l : List ℕ). l ++ y) p.is ∙ append_assoc p.answer (10 ∷ p.rest) y;
+  is = ap (λ (l : List ℕ). l ++ y) p.is ∙ append_assoc p.answer p.rest y;
   rest_answers = answered-append A a b p.rest y p.rest_answers q;
 }
 
--- an answer and byte 10 were put after what was there
-pub gains_one : (A : Answering) (line answer old mid new : List ℕ) → A line answer
-    → mid ≡ old ++ answer → new ≡ mid ++ 10 ∷ []
+pub answered-within : (A B : Answering) (lines : List (List ℕ)) (text : List ℕ) → Within A B → Answered A lines text
+    → Answered B lines text
+answered-within A B [] text w p = p
+answered-within A B (line ∷ lines) text w p = record {
+  answer = p.answer;
+  rest = p.rest;
+  answers = w line p.answer p.answers;
+  is = p.is;
+  rest_answers = answered-within A B lines p.rest w p.rest_answers;
+}
+
+pub gains-within : (A B : Answering) (lines : List (List ℕ)) (old new : List ℕ) → Within A B
+    → GainsAnswers A lines old new → GainsAnswers B lines old new
+gains-within A B lines old new w p = (p.0, answered-within A B lines p.0 w p.1, p.2)
+
+pub writes-within : (A B : Answering) (lines : List (List ℕ)) (o n : Option (List ℕ)) → Within A B
+    → WritesAnswers A lines o n → WritesAnswers B lines o n
+writes-within A B lines o n w p = (p.0, answered-within A B lines p.0 w p.1, p.2)
+
+pub part-within : (A B : Answering) (lines : List (List ℕ)) (o n : Option (List ℕ)) → Within A B
+    → WritesPart A lines o n → WritesPart B lines o n
+part-within A B lines o n w p = record {
+  text = p.text;
+  written = p.written;
+  answers = answered-within A B lines p.text w p.answers;
+  appends = p.appends;
+}
+
+-- an answer was put after what was there
+pub gains_one : (A : Answering) (line answer old new : List ℕ) → A line answer → new ≡ old ++ answer
     → GainsAnswers A (line ∷ []) old new
-gains_one A line answer old mid new p e f = (
-  answer ++ 10 ∷ [],
-  record { answer = answer; rest = []; answers = p; is = refl; rest_answers = refl },
-  f ∙ ap (λ (l : List ℕ). l ++ 10 ∷ []) e
-      ∙ append_assoc old answer (10 ∷ []),
+gains_one A line answer old new p e = (
+  answer,
+  record { answer = answer; rest = []; answers = p; is = sym (append-nil answer); rest_answers = refl },
+  e,
 )
 
 pub gains_more : (A : Answering) (a b : List (List ℕ)) (old mid new : List ℕ)

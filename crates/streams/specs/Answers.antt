@@ -1,26 +1,42 @@
 -- What lines are answered, and what a run leaves in its writer, where the reader's and the writer's bytes are known.
-use Rattle.std.specs.Prelude.{◌≡◌, ℕ, List, [], ◌∷◌, ◌++◌, take, IfSome, Option, None, Some}
-use Rattle.std.specs.Io.KnownBytes.{Appends}
+use Rattle.std.specs.Prelude.{◌≡◌, ℕ, List, [], ◌∷◌, ◌++◌, take, Option, None, Some}
+use Rattle.std.specs.Io.KnownBytes.{Appends, Keeps}
 use Rattle.streams.specs.Lines.{lines_of, IsOneLine}
+use Rattle.streams.specs.declared.lines.RunFault.{RunFault}
+use Rattle.streams.specs.declared.lines.RunFault.TheVariants.{Read, Write, Refused}
+
+-- which texts answer a line, or which faults it is refused by
+abbrev pub Saying : Type 0 → Type 1
+Saying A = List ℕ → A → Type 0
 
 -- which texts answer a line
 abbrev pub Answering : Type 1
-Answering = List ℕ → List ℕ → Type 0
+Answering = Saying (List ℕ)
 
--- the text is an answer to the line, byte 10, and then the rest, which is as it says
+-- what the first says of a line the second says too
+abbrev pub Within : {A : Type 0} → Saying A → Saying A → Type 0
+Within {A} P Q = (line : List ℕ) (x : A) → P line x → Q line x
+
+-- of a fault by which a line was refused
+abbrev pub IfRefused : {F : Type 0} → RunFault F → (F → Type 0) → Type 0
+IfRefused Read P = Unit {0}
+IfRefused Write P = Unit {0}
+IfRefused (Refused fault) P = P fault
+
+-- the text is an answer to the line, and then the rest, which is as it says
 pub record AnswerAndRest (Answer : Answering) (line : List ℕ) (Rest : List ℕ → Type 0) (text : List ℕ) : Type 0 where
   -- the answer
   pub answer : List ℕ
-  -- what comes after it and byte 10
+  -- what comes after it
   pub rest : List ℕ
   -- it answers the line
   pub answers : Answer line answer
   -- they follow one another
-  pub is : text ≡ answer ++ 10 ∷ rest
+  pub is : text ≡ answer ++ rest
   -- and the rest is so
   pub rest_answers : Rest rest
 
--- the text is an answer to each of these lines, in their order, each with byte 10 after it, and nothing else
+-- the text is an answer to each of these lines, in their order, and nothing else
 abbrev pub Answered : Answering → List (List ℕ) → List ℕ → Type 0
 Answered Answer [] text = text ≡ []
 Answered Answer (line ∷ lines) text = AnswerAndRest Answer line (λ rest. Answered Answer lines rest) text
@@ -44,18 +60,31 @@ pub record WritesPart (Answer : Answering) (lines : List (List ℕ)) (old new : 
   -- and so many of its bytes were put after what was there
   pub appends : Appends old new (take written text)
 
+-- these are the lines of the input, where it is known
+abbrev pub LinesAre : Option (List ℕ) → List (List ℕ) → Type 0
+LinesAre None lines = Unit {0}
+LinesAre (Some bytes) lines = lines_of bytes ≡ lines
+
 -- each line of the input is answered, and nothing else is written
 abbrev pub AnswersAll : Answering → Option (List ℕ) → Option (List ℕ) → Option (List ℕ) → Type 0
-AnswersAll Answer input old new = IfSome input (λ bytes. WritesAnswers Answer (lines_of bytes) old new)
+AnswersAll Answer input old new = (lines : List (List ℕ)) × LinesAre input lines × WritesAnswers Answer lines old new
 
--- a first number of lines of the input are answered, each by a whole answer
+-- some first lines of the input are answered, each by a whole answer
 abbrev pub AnswersSome : Answering → Option (List ℕ) → Option (List ℕ) → Option (List ℕ) → Type 0
-AnswersSome Answer input old new = IfSome input (λ bytes. (k : ℕ)
-    × WritesAnswers Answer (take k (lines_of bytes)) old new)
+AnswersSome Answer input old new =
+    (done rest : List (List ℕ)) × LinesAre input (done ++ rest) × WritesAnswers Answer done old new
+
+-- the lines of the input before one are answered, each by a whole answer, and that one is refused by the fault
+abbrev pub AnswersBefore : {F : Type 0} → Answering → Saying F → F → Option (List ℕ) → Option (List ℕ)
+    → Option (List ℕ) → Type 0
+AnswersBefore Answer Refuses fault input old new =
+    (done : List (List ℕ)) × (line : List ℕ) × (rest : List (List ℕ)) × LinesAre input (done ++ line ∷ rest)
+    × WritesAnswers Answer done old new × Refuses line fault
 
 -- a beginning of the answers to some first lines of the input is written
 abbrev pub AnswersPart : Answering → Option (List ℕ) → Option (List ℕ) → Option (List ℕ) → Type 0
-AnswersPart Answer input old new = IfSome input (λ bytes. (k : ℕ) × WritesPart Answer (take k (lines_of bytes)) old new)
+AnswersPart Answer input old new =
+    (done rest : List (List ℕ)) × LinesAre input (done ++ rest) × WritesPart Answer done old new
 
 -- done are the first lines of xs, whatever comes after it, and line stands before that
 abbrev pub Splits : List ℕ → List (List ℕ) → List ℕ → Type 0
@@ -73,14 +102,33 @@ TakesLines Answer xs line old new = (done : List (List ℕ)) × Splits xs done l
 abbrev pub TakesSome : Answering → List ℕ → List ℕ → List ℕ → Type 0
 TakesSome Answer xs old new = (done : List (List ℕ)) × Begins xs done × GainsAnswers Answer done old new
 
--- so far the writer has answered the lines before line and what the reader has left, which begin the others, whatever
+-- what a run leaves by its fault at a last line: where the line is refused nothing is written, and where a write
+-- failed a beginning of the answer
+abbrev pub EndsBy : {F : Type 0} → Answering → Saying F → List ℕ → Option (List ℕ) → Option (List ℕ) → RunFault F
+    → Type 0
+EndsBy Answer Refuses line old new Read = ⊥
+EndsBy Answer Refuses line old new Write = WritesPart Answer (lines_of line) old new
+EndsBy Answer Refuses line old new (Refused fault) =
+    (lines_of line ≡ line ∷ []) × Keeps old new × Refuses line fault
+
+-- some first lines of xs were answered after what was pending, and the next one is refused by the fault
+abbrev pub TakesBefore : {F : Type 0} → Answering → Saying F → F → List ℕ → List ℕ → List ℕ → Type 0
+TakesBefore Answer Refuses fault xs old new =
+    (done : List (List ℕ)) × (line : List ℕ) × Begins xs (done ++ line ∷ []) × GainsAnswers Answer done old new
+    × Refuses line fault
+
+-- done are the lines of the input before line and what the reader has left of it, which begin the others, whatever
 -- comes after the input
+abbrev pub IsDone : Option (List ℕ) → Option (List ℕ) → List ℕ → List (List ℕ) → Type 0
+IsDone None left line done = Unit {0}
+IsDone (Some bytes) None line done = ⊥
+IsDone (Some bytes) (Some left) line done = Splits bytes done (line ++ left)
+
+-- so far the writer has answered the lines before line and what the reader has left
 abbrev pub IsUnderWay : Answering → Option (List ℕ) → Option (List ℕ) → Option (List ℕ) → Option (List ℕ) → List ℕ
     → Type 0
-IsUnderWay Answer None left old new line = Unit {0}
-IsUnderWay Answer (Some bytes) None old new line = ⊥
-IsUnderWay Answer (Some bytes) (Some left) old new line =
-    (done : List (List ℕ)) × Splits bytes done (line ++ left) × WritesAnswers Answer done old new
+IsUnderWay Answer input left old new line =
+    (done : List (List ℕ)) × IsDone input left line done × WritesAnswers Answer done old new
 
 -- each line that ends in what was read is answered: what was read after them is the beginning of one line
 abbrev pub AnswersGiven : Answering → Option (List ℕ) → Option (List ℕ) → Option (List ℕ) → Option (List ℕ) → Type 0

@@ -1,22 +1,38 @@
 //! Tests of runs over lines, by readers and writers that give, take or fail in pieces.
-ghost use Rattle.std.specs.Prelude.{◌≡◌};
+ghost use Rattle.std.specs.Prelude.{◌≡◌, ◌∷◌, ◌++◌, []};
 
 use super::fake_streams::{Blocked, Disturbed, Narrow, Pieces, ROOM, Stalled};
+use bytes::BytesMut;
 use std::alloc::{AllocError, Global};
 use std::test::Fail;
 use streams::blocks::BLOCK;
 use streams::lines::{AnswerLine, RunFault, answer_lines};
 use test_support::{hoard, holds, same};
 
-/// Answers each line by the line itself.
+/// Answers each line by the line itself, and byte 10.
 #[derive(Drop)]
 struct Echo;
 
 impl AnswerLine for Echo {
-    ghost answers = { λ line text. text ≡ line };
+    type Fault = AllocError;
 
-    fn answer(&mut self, _: Global, line: &[u8], pending: &mut Vec<u8>) -> Result<(), AllocError> {
-        pending.extend_from_slice(line)
+    ghost answers = { λ _ line text. text ≡ line ++ 10 ∷ [] };
+
+    ghost refuses = { λ _ _ _. Unit {0} };
+
+    fn answer(
+        &mut self,
+        _: Global,
+        line: &[u8],
+        pending: &mut BytesMut,
+    ) -> Result<(), AllocError> {
+        let start = pending.len();
+        pending.extend_from_slice(line)?;
+        if pending.extend_from_slice(b"\n").is_err() {
+            pending.truncate(start);
+            return Err(AllocError);
+        }
+        Ok(())
     }
 }
 
@@ -189,7 +205,7 @@ fn run_while_refused(
         output.room = ROOM;
         let mut input = text;
         match answer_lines(alloc, &mut Echo, &mut input, output) {
-            Err(RunFault::Memory) => {}
+            Err(RunFault::Refused(AllocError)) => {}
             Ok(()) => return Ok(refusals),
             Err(_) => return Err(Fail::from("a failed read or write")),
         }

@@ -1,87 +1,46 @@
 -- What the proof of `write` answers by hand.
-use Rattle.std.proofs.Common.{◌∙◌}
-use Rattle.std.specs.Io.KnownBytes.{Appends}
-use Rattle.pg_copy.specs.Tuples.{IsTuple}
-use Rattle.pg_copy.proofs.CopyLaws.{begins_part, ends, ends_part, has_begun, has_begun_kept, header_part}
-use Rattle.pg_copy.proofs.CopyLaws.{nothing_part, rows_next, rows_next_part}
-use Rattle.streams.proofs.Outcomes.{err_always, err_of, err_weaker, ok_of, ok_weaker, on_err, on_err_weaker}
-use Rattle.pg_copy.proofs.OutputLaws.{pending}
+use Rattle.std.proofs.Common.{List, [], append-nil, subst, sym}
+use Rattle.streams.specs.Answers.{LinesAre}
+use Rattle.streams.proofs.Outcomes.{err_known, err_of, ok_of}
+use Rattle.pg_copy.specs.WrittenRows.{Stops}
+use Rattle.pg_copy.specs.declared.columns.Column.{Column}
+use Rattle.pg_copy.proofs.WrittenLaws.{ends, header_part, some_lines, stops, trailer_part}
 use Rattle.pg_copy.proofs.write.write.Goals as goal
 
-pub returns-in_default-clause-part : goal.returns-in_default-clause-part
-returns-in_default-clause-part g c = nothing_part _ _
-
-pub returns-then-is_err-clause-part : goal.returns-then-is_err-clause-part
-returns-then-is_err-clause-part g c =
+pub returns-then-is_err-clause-err : goal.returns-then-is_err-clause-err
+returns-then-is_err-clause-err g c =
     let w = err_of c.write_whole.result _ c.write_whole.ensures.err c.if-is_err.ensures.value in
-    begins_part _ _ _ w.0 w.1 w.2
+    let rest = some_lines (g.R.Read.remaining c.args.input.now) in
+    ([], rest.0, rest.1, header_part c.args.columns.now _ _ w.0 w.1 w.2)
 
-pub returns-in_default-read_block-clause-whole : goal.returns-in_default-read_block-clause-whole
-returns-in_default-read_block-clause-whole g c = λ not_write. has_begun _ _ _ c.reads.invariant.3
+pub returns-in_err-answer_lines-clause-err : goal.returns-in_err-answer_lines-clause-err
+returns-in_err-answer_lines-clause-err g c =
+    let columns : List Column = c.args.columns.now in
+    let input = g.R.Read.remaining c.args.input.now in
+    let left = g.R.Read.remaining c.answer_lines.new.input in
+    let a = g.W.Write.contents c.args.output.now in
+    let b = g.W.Write.contents c.write_whole.new.output in
+    let d = g.W.Write.contents c.answer_lines.new.output in
+    let begun = ok_of c.write_whole.result _ c.write_whole.ensures.ok c.if-is_err.ensures.value in
+    let run = c.in_err-answer_lines.ensures in
+    err_known c.from_residual.result (λ fault is. subst (Stops columns input left a d) (sym is)
+    (stops columns input left a b d begun c.in_err-answer_lines.field-0.0 run.whole run.refused run.read run.partial))
+    c.from_residual.ensures.1
 
-pub returns-in_default-read_block-clause-part : goal.returns-in_default-read_block-clause-part
-returns-in_default-read_block-clause-part g c = header_part _ _ _ c.reads.invariant.3
+pub returns-in-Ok-write_whole-clause-ok : goal.returns-in-Ok-write_whole-clause-ok
+returns-in-Ok-write_whole-clause-ok g c =
+    let begun = ok_of c.write_whole.result _ c.write_whole.ensures.ok c.if-is_err.ensures.value in
+    let all = c.in_ok-answer_lines.ensures.ok in
+    (all.0, all.1, ends c.args.columns.now all.0 _ _ _ begun _ all.2 c.in-Ok-write_whole.ensures.ok)
 
-pub returns-then-len-eq0-clause-ok : goal.returns-then-len-eq0-clause-ok
-returns-then-len-eq0-clause-ok g c =
-    ok_weaker c.finish.result (λ w. ends _ _ _ _ c.reads.invariant.3 (rw c.reads.invariant.0 at w)) c.finish.ensures.ok
-
-pub returns-then-len-eq0-clause-whole : goal.returns-then-len-eq0-clause-whole
-returns-then-len-eq0-clause-whole g c =
-    err_weaker c.finish.result (λ e kept not_write. has_begun_kept _ _ _ _ c.reads.invariant.3 (kept not_write))
-    c.finish.ensures.whole
-
-pub returns-then-len-eq0-clause-part : goal.returns-then-len-eq0-clause-part
-returns-then-len-eq0-clause-part g c =
-    on_err_weaker c.finish.result (λ w. ends_part _ _ _ _ c.reads.invariant.3 (rw c.reads.invariant.0 at w))
-    c.finish.ensures.part
-
-pub returns-then-is_err-2-clause-part : goal.returns-then-is_err-2-clause-part
-returns-then-is_err-2-clause-part g c =
-    let rows = pending IsTuple c.args.columns.now _ _ _ c.reads.invariant.0 c.reads.invariant.2
-    c.take-taken.ensures.rows in
-    let failed = rw c.as_slice.ensures at c.write_whole-in-reads.ensures.err in
-    let w = err_of c.write_whole-in-reads.result _ failed c.if-is_err-2.ensures.value in
-    rows_next_part _ _ _ _ c.reads.invariant.3 _ w.0 w.1 rows w.2
-
-pub returns-in_err-taken-clause-whole : goal.returns-in_err-taken-clause-whole
-returns-in_err-taken-clause-whole g c =
-    let rows = pending IsTuple c.args.columns.now _ _ _ c.reads.invariant.0 c.reads.invariant.2
-    c.take-taken.ensures.rows in
-    let w : Appends (g.W.Write.contents c.reads.output) (g.W.Write.contents c.write_whole-in-reads.new.output)
-    c.take-taken.new.self.out.items
-    = rw c.as_slice.ensures at
-    (ok_of c.write_whole-in-reads.result _ c.write_whole-in-reads.ensures.ok c.if-is_err-2.ensures.value) in
-    err_always c.from_residual.result
-    (λ e not_write. has_begun _ _ _ (rows_next _ _ _ _ c.reads.invariant.3 _ rows w))
-
-pub returns-in_err-taken-clause-part : goal.returns-in_err-taken-clause-part
-returns-in_err-taken-clause-part g c =
-    let rows = pending IsTuple c.args.columns.now _ _ _ c.reads.invariant.0 c.reads.invariant.2
-    c.take-taken.ensures.rows in
-    let w : Appends (g.W.Write.contents c.reads.output) (g.W.Write.contents c.write_whole-in-reads.new.output)
-    c.take-taken.new.self.out.items
-    = rw c.as_slice.ensures at
-    (ok_of c.write_whole-in-reads.result _ c.write_whole-in-reads.ensures.ok c.if-is_err-2.ensures.value) in
-    on_err c.from_residual.result _
-    (header_part _ _ _ (rows_next _ _ _ _ c.reads.invariant.3 _ rows w))
-
-pub reads-preserved : goal.reads-preserved
-reads-preserved g c =
-    let rows = pending IsTuple c.args.columns.now _ _ _ c.reads.invariant.0 c.reads.invariant.2
-    c.take-taken.ensures.rows in
-    let w : Appends (g.W.Write.contents c.reads.output) (g.W.Write.contents c.write_whole-in-reads.new.output)
-    c.take-taken.new.self.out.items
-    = rw c.as_slice.ensures at
-    (ok_of c.write_whole-in-reads.result _ c.write_whole-in-reads.ensures.ok c.if-is_err-2.ensures.value) in (
-      c.take-taken.ensures.columns ∙ c.reads.invariant.0,
-      c.take-taken.ensures.count ∙ c.reads.invariant.1,
-      c.clear.ensures.items,
-      rows_next _ _ _ _ c.reads.invariant.3 _ rows w,
+pub returns-clause-err : goal.returns-clause-err
+returns-clause-err g c =
+    let input = g.R.Read.remaining c.args.input.now in
+    let begun = ok_of c.write_whole.result _ c.write_whole.ensures.ok c.if-is_err.ensures.value in
+    let all = c.in_ok-answer_lines.ensures.ok in
+    let t = c.in-Err.ensures.err in (
+      all.0,
+      [],
+      subst (LinesAre input) (sym (append-nil all.0)) all.1,
+      trailer_part c.args.columns.now all.0 _ _ _ begun _ all.2 t.0 t.2,
     )
-
-pub returns-clause-whole : goal.returns-clause-whole
-returns-clause-whole g c = λ not_write. has_begun _ _ _ c.reads.invariant.3
-
-pub returns-clause-part : goal.returns-clause-part
-returns-clause-part g c = header_part _ _ _ c.reads.invariant.3

@@ -1,0 +1,117 @@
+-- What a binary COPY is written of lines.
+use Rattle.std.specs.Prelude.{◌≡◌, ◌≢◌, ◌<◌, ◌≤◌, ℕ, pos, List, [], ◌∷◌, ◌++◌, length}
+use Rattle.std.specs.Prelude.{Option, Some, None, IsSome, option_map, Ok, Err}
+use Rattle.std.specs.Int.{w16}
+use Rattle.std.specs.Borrow.{Bor}
+use Rattle.std.specs.Io.KnownBytes.{Keeps}
+use Rattle.pg_base.specs.Appending.{Wire}
+use Rattle.pg_base.specs.Cells.{Cell, be, frame, frames}
+use Rattle.streams.specs.Answers.{Answered, LinesAre, IsDone}
+use Rattle.streams.specs.Lines.{IsOneLine}
+use Rattle.streams.specs.declared.lines.RunFault.{RunFault}
+use Rattle.streams.specs.declared.lines.RunFault.TheVariants as run
+use Rattle.pg_copy.specs.Outputs.{WritesWhole, WritesPart}
+use Rattle.pg_copy.specs.Rows.{trailer}
+use Rattle.pg_copy.specs.TextLines.{Says, fields_of}
+use Rattle.pg_copy.specs.Tuples.{header}
+use Rattle.pg_copy.specs.declared.columns.Column.{Column}
+use Rattle.pg_copy.specs.declared.copy_fault.CopyFault.{CopyFault}
+use Rattle.pg_copy.specs.declared.copy_fault.CopyFault.TheVariants.{Read, Write, Memory, TooManyColumns}
+use Rattle.pg_copy.specs.declared.copy_fault.CopyFault.TheVariants.{Columns, Value}
+
+-- the text that a call is handed, of which None is NULL
+abbrev pub text_of : Option (Bor (List ℕ)) → Option (List ℕ)
+text_of text = option_map (λ t. t.now) text
+
+-- the cell of a text in a column: NULL is NULL, and a text some bytes, of which nothing more is said here
+abbrev pub CellOf : Column → Option (List ℕ) → Cell → Type 0
+CellOf column None cell = cell ≡ None
+CellOf column (Some text) cell = IsSome cell
+
+-- the value is not written as NULL
+abbrev pub NeverNull : Wire → Type 0
+NeverNull (Ok None) = ⊥
+NeverNull (Ok (Some bytes)) = Unit {0}
+NeverNull (Err refusal) = Unit {0}
+
+-- the frame of the text's cell
+abbrev pub FrameOf : Column → Option (List ℕ) → List ℕ → Type 0
+FrameOf column text bytes = (cell : Cell) × CellOf column text cell × (frame cell ≡ Some bytes)
+
+-- the cell of a field in a column
+abbrev pub FieldCell : Column → List ℕ → Cell → Type 0
+FieldCell column field cell = (text : Option (List ℕ)) × Says field text × CellOf column text cell
+
+-- the frame of the field's cell
+abbrev pub FieldFrame : Column → List ℕ → List ℕ → Type 0
+FieldFrame column field bytes = (cell : Cell) × FieldCell column field cell × (frame cell ≡ Some bytes)
+
+-- the cells of fields in columns, of which there are as many
+abbrev pub FieldCells : List Column → List (List ℕ) → List Cell → Type 0
+FieldCells [] [] cells = cells ≡ []
+FieldCells [] (field ∷ fields) cells = ⊥
+FieldCells (column ∷ columns) [] cells = ⊥
+FieldCells (column ∷ columns) (field ∷ fields) [] = ⊥
+FieldCells (column ∷ columns) (field ∷ fields) (cell ∷ cells) =
+    FieldCell column field cell × FieldCells columns fields cells
+
+-- the tuple of a line: the number of columns in two bytes, and the frame of each field's cell
+abbrev pub TupleOf : List Column → List ℕ → List ℕ → Type 0
+TupleOf columns line tuple =
+    (cells : List Cell) × (bytes : List ℕ) × FieldCells columns (fields_of line) cells × (frames cells ≡ Some bytes)
+    × (tuple ≡ be w16 (pos (length columns)) ++ bytes)
+
+-- the header and the tuple of each line, in their order
+abbrev pub BeginsCopy : List Column → List (List ℕ) → List ℕ → Type 0
+BeginsCopy columns lines bytes = (tuples : List ℕ) × Answered (TupleOf columns) lines tuples × (bytes ≡ header ++ tuples)
+
+-- the binary COPY of lines: the header, the tuple of each line, in their order, and the trailer
+abbrev pub CopyOf : List Column → List (List ℕ) → List ℕ → Type 0
+CopyOf columns lines bytes =
+    (begun : List ℕ) × BeginsCopy columns lines begun × (bytes ≡ begun ++ trailer)
+
+-- the fault of a line with so many fields in place of so many columns
+abbrev pub CountFault : ℕ → ℕ → CopyFault → Type 0
+CountFault columns fields (Columns row expected got) =
+    expected ≡ columns
+CountFault columns fields fault = ⊥
+
+-- the fault of a value in the column of that number, or refused memory
+abbrev pub ValueFault : ℕ → CopyFault → Type 0
+ValueFault column Memory = Unit {0}
+ValueFault column (Value row at fault) = at ≡ column
+ValueFault column fault = ⊥
+
+-- the line has no tuple, by this fault: it has another number of fields than there are columns, the field of a column
+-- has no value, or memory was refused
+abbrev pub LineFault : List Column → List ℕ → CopyFault → Type 0
+LineFault columns line Memory = Unit {0}
+LineFault columns line (Columns row expected got) =
+    CountFault (length columns) (length (fields_of line)) (Columns row expected got)
+    × (length (fields_of line) ≢ length columns)
+LineFault columns line (Value row column fault) =
+    (0 < column) × (column ≤ length columns) × (column ≤ length (fields_of line))
+LineFault columns line fault = ⊥
+
+-- what is written where a COPY stops at a fault: the header and the tuples of some first lines, those before the line
+-- that is refused. Where reading failed these are the lines that end in what the reader gave; a write that failed
+-- leaves a beginning; and too many columns leave nothing
+abbrev pub Stops : List Column → Option (List ℕ) → Option (List ℕ) → Option (List ℕ) → Option (List ℕ) → CopyFault
+    → Type 0
+Stops columns input left old new TooManyColumns = Keeps old new
+Stops columns input left old new Read =
+    (line : List ℕ) × IsOneLine line × (done : List (List ℕ)) × IsDone input left line done
+    × WritesWhole (BeginsCopy columns done) old new
+Stops columns input left old new Write =
+    (done rest : List (List ℕ)) × LinesAre input (done ++ rest) × WritesPart (CopyOf columns done) old new
+Stops columns input left old new Memory =
+    (done rest : List (List ℕ)) × LinesAre input (done ++ rest) × WritesWhole (BeginsCopy columns done) old new
+Stops columns input left old new fault =
+    (done : List (List ℕ)) × (line : List ℕ) × (rest : List (List ℕ)) × LinesAre input (done ++ line ∷ rest)
+    × WritesWhole (BeginsCopy columns done) old new × LineFault columns line fault
+
+-- the fault of a run over lines
+abbrev pub fault_of : RunFault CopyFault → CopyFault
+fault_of run.Read = Read
+fault_of run.Write = Write
+fault_of (run.Refused fault) = fault
