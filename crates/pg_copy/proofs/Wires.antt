@@ -1,5 +1,5 @@
 -- Values that are never written as NULL, and the frames of their cells.
-use Rattle.std.proofs.Common.{ℕ, ℤ, Bool, true, false, List, Option, Some, None, Ok, Err, OnOk, refl}
+use Rattle.std.proofs.Common.{◌≡◌, ℕ, ℤ, Bool, true, false, List, Option, Some, None, Ok, Err, OnOk, refl}
 use Rattle.std.proofs.Common.{subst, if◌then◌else◌, IsSome, length}
 use Rattle.std.specs.Int.{Width}
 use Rattle.postgres_types.specs.Content.{Content, oid_of}
@@ -8,13 +8,14 @@ use Rattle.postgres_types.specs.Appending.{Wire, wire_of}
 use Rattle.postgres_types.specs.ArrayWriting.{element_cells, lower_bound_of, wire_array, wire_by_element}
 use Rattle.postgres_types.specs.Cells.{Cell, fits_prefix}
 use Rattle.postgres_types.specs.Numbers.{wire_bool}
+use Rattle.pg_write.specs.Writing.{checked}
 use Rattle.postgres_types.specs.ParamWriting.{AppendsFrame}
 use Rattle.postgres_types.specs.Records.{Bytes, bytes_cell}
 use Rattle.postgres_types.specs.Special.{Special, wire_special}
 use Rattle.pg_base.specs.Special.{pos_infinity, neg_infinity, value}
 use Rattle.pg_copy.specs.Outputs.{Gains}
-use Rattle.pg_copy.specs.WrittenRows.{FrameOf, NeverNull}
-use Rattle.pg_copy.specs.declared.columns.Column.{Column}
+use Rattle.pg_copy.specs.Values.{text_values}
+use Rattle.pg_copy.specs.WrittenRows.{FrameAs, NeverNull}
 
 pub bytes_or_fault : (c : Bool) (b : List ℕ) (r : Refusal) → NeverNull (if c then Ok (Some b) else Err r)
 bytes_or_fault true b r = tt
@@ -61,9 +62,18 @@ some_cell : (cell : Cell) → NeverNull (Ok cell) → IsSome cell
 some_cell None p = absurd p
 some_cell (Some b) p = refl
 
+-- a value whose type is accepted is written as its cell
+accepted_cell : (accepted : Bool) (w : Wire) (r : Refusal) (cell : Cell) → (if accepted then w else Err r) ≡ Ok cell
+    → w ≡ Ok cell
+accepted_cell true w r cell e = e
+accepted_cell false w r cell e = let bad : ⊥ = cc in absurd bad
+
 -- the frame of a value's cell
-pub value_frame : (column : Column) (text : List ℕ) (w : Wire) (old new : List ℕ) (r : _) → AppendsFrame w old new r
-    → NeverNull w → OnOk r (Gains (FrameOf column (Some text)) old new)
-value_frame column text w old new (Ok done) p n =
-    (p.bytes, (p.cell, some_cell p.cell (subst NeverNull p.cell_is n), p.frame_is), p.is)
-value_frame column text w old new (Err e) p n = tt
+module _ {A : Type 0} (says : List ℕ → A → Type 0) (accepted : Content → Bool) (name : List ℕ) (wire : Content → A → Wire)
+    (ty : Content) (text : List ℕ) (v : A) (said : says text v) (never : NeverNull (wire ty v)) where
+  pub value_frame : (old new : List ℕ) (r : _) → AppendsFrame (checked accepted name wire ty v) old new r
+      → OnOk r (Gains (FrameAs (text_values says wire) ty (Some text)) old new)
+  value_frame old new (Ok done) p =
+      let cell_is = accepted_cell (accepted ty) (wire ty v) _ p.cell p.cell_is in
+      (p.bytes, (p.cell, (some_cell p.cell (subst NeverNull cell_is never), (v, said, cell_is)), p.frame_is), p.is)
+  value_frame old new (Err e) p = tt

@@ -8,7 +8,7 @@ use Rattle.pg_copy.specs.declared.columns.Column.{Column}
 
 -- the values of a column's cells
 abbrev pub values_in : Column → Values
-values_in column = in_form column.is_array (values_of column.base)
+values_in column = in_form column.is_array (values_of column.base).0
 
 -- the field of a column's cell: \N of NULL, and of bytes the escaped text of a value that they are read as
 abbrev pub FieldOf : Column → Cell → List ℕ → Type 0

@@ -14,6 +14,8 @@ use Rattle.pg_copy.specs.Outputs.{WritesWhole, WritesPart}
 use Rattle.pg_copy.specs.Rows.{trailer}
 use Rattle.pg_copy.specs.TextLines.{Says, fields_of}
 use Rattle.pg_copy.specs.Tuples.{header}
+use Rattle.pg_copy.specs.Values.{TextValues, WritesText, text_in_form, values_of}
+use Rattle.postgres_types.specs.Content.{Content, content}
 use Rattle.pg_copy.specs.declared.columns.Column.{Column}
 use Rattle.pg_copy.specs.declared.copy_fault.CopyFault.{CopyFault}
 use Rattle.pg_copy.specs.declared.copy_fault.CopyFault.TheVariants.{Read, Write, Memory, TooManyColumns}
@@ -23,10 +25,22 @@ use Rattle.pg_copy.specs.declared.copy_fault.CopyFault.TheVariants.{Columns, Val
 abbrev pub text_of : Option (Bor (List ℕ)) → Option (List ℕ)
 text_of text = option_map (λ t. t.now) text
 
--- the cell of a text in a column: NULL is NULL, and a text some bytes, of which nothing more is said here
+-- the values of a column's texts
+abbrev pub texts_in : Column → TextValues
+texts_in column = text_in_form column.is_array (values_of column.base).1
+
+-- the cell of a text: NULL is NULL, and a text is some bytes, which a value that it says is written as
+abbrev pub CellAs : TextValues → Content → Option (List ℕ) → Cell → Type 0
+CellAs own ty None cell = cell ≡ None
+CellAs own ty (Some text) cell = IsSome cell × WritesText own ty text cell
+
+-- the frame of the text's cell
+abbrev pub FrameAs : TextValues → Content → Option (List ℕ) → List ℕ → Type 0
+FrameAs own ty text bytes = (cell : Cell) × CellAs own ty text cell × (frame cell ≡ Some bytes)
+
+-- the cell of a text in a column
 abbrev pub CellOf : Column → Option (List ℕ) → Cell → Type 0
-CellOf column None cell = cell ≡ None
-CellOf column (Some text) cell = IsSome cell
+CellOf column = CellAs (texts_in column) (content column.ty)
 
 -- the value is not written as NULL
 abbrev pub NeverNull : Wire → Type 0
@@ -36,7 +50,7 @@ NeverNull (Err refusal) = Unit {0}
 
 -- the frame of the text's cell
 abbrev pub FrameOf : Column → Option (List ℕ) → List ℕ → Type 0
-FrameOf column text bytes = (cell : Cell) × CellOf column text cell × (frame cell ≡ Some bytes)
+FrameOf column = FrameAs (texts_in column) (content column.ty)
 
 -- the cell of a field in a column
 abbrev pub FieldCell : Column → List ℕ → Cell → Type 0

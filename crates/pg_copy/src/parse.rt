@@ -1,8 +1,9 @@
 //! The cell of a text, by the base name of its column.
 ghost use Rattle.std.specs.Prelude.{◌≡◌, OnErr, OnOk};
 ghost use Rattle.pg_copy.specs.Outputs.{Gains};
-ghost use Rattle.pg_copy.specs.WrittenRows.{FrameOf, NeverNull, text_of};
-ghost use Rattle.postgres_types.specs.Content.{Content};
+ghost use Rattle.pg_copy.specs.Values.{text_arrays_of, text_in_form, text_values, texts};
+ghost use Rattle.pg_copy.specs.WrittenRows.{FrameAs, FrameOf, NeverNull, text_of};
+ghost use Rattle.postgres_types.specs.Content.{Content, content};
 
 use crate::columns::Column;
 use named_types::{Base, base_names};
@@ -61,7 +62,8 @@ fn push_text(
     text: Text<'_>,
     out: &mut BytesMut,
 ) -> Result<(), Fault>
-    ensures ok { OnOk result (Gains (FrameOf column.now (text_of text.entry)) out.old.items out.new.items) }
+    ensures ok { OnOk result (Gains (FrameAs (text_in_form column.now.is_array texts.1) (content column.now.ty) (text_of text.entry))
+        out.old.items out.new.items) }
     ensures err { OnErr result (out.new.items ≡ out.old.items) }
 {
     if column.is_array {
@@ -81,7 +83,8 @@ fn push_as<T: FromText + ToSql>(
     out: &mut BytesMut,
 ) -> Result<(), Fault>
     requires { (ty : Content) (value : T) → NeverNull (T.wire ty value) }
-    ensures ok { OnOk result (Gains (FrameOf column.now (text_of text.entry)) out.old.items out.new.items) }
+    ensures ok { OnOk result (Gains (FrameAs (text_in_form column.now.is_array (text_values T.says T.wire, text_values T.says T.wire))
+        (content column.now.ty) (text_of text.entry)) out.old.items out.new.items) }
     ensures err { OnErr result (out.new.items ≡ out.old.items) }
 {
     if column.is_array {
@@ -100,7 +103,8 @@ fn push_array_as<T: FromText + ToSql>(
     text: Text<'_>,
     out: &mut BytesMut,
 ) -> Result<(), Fault>
-    ensures ok { OnOk result (Gains (FrameOf column.now (text_of text.entry)) out.old.items out.new.items) }
+    ensures ok { OnOk result (Gains (FrameAs (text_arrays_of (text_values T.says T.wire)) (content column.now.ty)
+        (text_of text.entry)) out.old.items out.new.items) }
     ensures err { OnErr result (out.new.items ≡ out.old.items) }
 {
     match text {

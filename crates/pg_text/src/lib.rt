@@ -2,8 +2,8 @@
 //! UTC and IntervalStyle postgres, and what its input functions read of that.
 #![tactic(auto)]
 
-ghost use Rattle.std.specs.Prelude.{ℕ, List, OnOk};
-ghost use Rattle.pg_text.specs.Texts.{AnyText};
+ghost use Rattle.std.specs.Prelude.{ℕ, List, IfOk, OnOk};
+ghost use Rattle.pg_text.specs.Texts.{AnyText, AnyValue};
 
 pub mod arrays;
 mod bits;
@@ -40,9 +40,13 @@ pub trait ToText {
 
 /// A type that is read from a text.
 pub trait FromText: Sized + Drop {
+    /// The text says the value. An implementation that says nothing claims nothing of it.
+    ghost says: { List ℕ → Self → Type 0 } = { AnyValue };
+
     /// The value of the text, of which the server's output functions write one for each value; a
     /// text that is none is the fault `User`.
-    fn from_text(alloc: Global, text: &str) -> Result<Self, Fault>;
+    fn from_text(alloc: Global, text: &str) -> Result<Self, Fault>
+        ensures { IfOk result (λ value. says text.now value) };
 }
 
 /// The fault of a text that is no value of its type.

@@ -1,7 +1,7 @@
 //! Numbers, booleans and `"char"`.
 ghost use Rattle.std.specs.Fmt.{signed_decimal};
 ghost use Rattle.std.specs.Prelude.{decimal};
-ghost use Rattle.pg_text.specs.Texts.{Shows, bool_text, char_text};
+ghost use Rattle.pg_text.specs.Texts.{SaysBool, SaysSigned, SaysUnsigned, Shows, bool_text, char_text};
 
 use crate::digits::push_number;
 use crate::{FromText, ToText, no_value};
@@ -18,6 +18,8 @@ impl ToText for bool {
 }
 
 impl FromText for bool {
+    ghost says = { SaysBool };
+
     fn from_text(_alloc: Global, text: &str) -> Result<bool, Fault> {
         match text {
             "t" | "true" => Ok(true),
@@ -81,6 +83,8 @@ impl ToText for i16 {
 }
 
 impl FromText for i16 {
+    ghost says = { SaysSigned };
+
     fn from_text(_alloc: Global, text: &str) -> Result<i16, Fault> {
         text.parse().map_err(|_| no_value())
     }
@@ -96,6 +100,8 @@ impl ToText for i32 {
 }
 
 impl FromText for i32 {
+    ghost says = { SaysSigned };
+
     fn from_text(_alloc: Global, text: &str) -> Result<i32, Fault> {
         text.parse().map_err(|_| no_value())
     }
@@ -111,6 +117,8 @@ impl ToText for i64 {
 }
 
 impl FromText for i64 {
+    ghost says = { SaysSigned };
+
     fn from_text(_alloc: Global, text: &str) -> Result<i64, Fault> {
         text.parse().map_err(|_| no_value())
     }
@@ -126,6 +134,8 @@ impl ToText for u32 {
 }
 
 impl FromText for u32 {
+    ghost says = { SaysUnsigned };
+
     fn from_text(_alloc: Global, text: &str) -> Result<u32, Fault> {
         text.parse().map_err(|_| no_value())
     }

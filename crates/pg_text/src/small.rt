@@ -1,4 +1,5 @@
 //! Identifiers, log positions, labels and domains.
+ghost use Rattle.std.specs.Prelude.{◌≡◌};
 ghost use Rattle.pg_record.specs.Moods.{label};
 ghost use Rattle.pg_text.specs.Texts.{Shows, bytes_text};
 ghost use Rattle.uuid.specs.Text.{hyphenated_text, lower};
@@ -58,6 +59,8 @@ impl ToText for Mood {
 }
 
 impl FromText for Mood {
+    ghost says = { λ text v. text ≡ label v };
+
     fn from_text(_alloc: Global, text: &str) -> Result<Mood, Fault> {
         match text {
             "Sad" => Ok(Mood::Sad),

@@ -1,4 +1,5 @@
 //! Texts.
+ghost use Rattle.std.specs.Prelude.{◌≡◌, string_bytes};
 ghost use Rattle.pg_text.specs.Texts.{Shows};
 
 use crate::{FromText, ToText};
@@ -15,6 +16,8 @@ impl ToText for &str {
 }
 
 impl FromText for String {
+    ghost says = { λ text s. string_bytes s ≡ text };
+
     fn from_text(alloc: Global, text: &str) -> Result<String, Fault> {
         Ok(String::from_str(alloc, text)?)
     }

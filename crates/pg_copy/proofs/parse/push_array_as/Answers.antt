@@ -1,9 +1,17 @@
 -- What the proof of `push_array_as` answers by hand.
-use Rattle.pg_copy.proofs.Wires.{either_never_null, list_never_null, value_frame}
+use Rattle.std.specs.Prelude.{codes}
+use Rattle.pg_copy.proofs.Wires.{list_never_null, value_frame}
+use Rattle.pg_copy.specs.Values.{wire_vec}
+use Rattle.pg_text.specs.Texts.{AnyValue}
+use Rattle.postgres_types.specs.ArrayTypes.{accepted_list, element_of}
+use Rattle.postgres_types.specs.Content.{content}
+use Rattle.postgres_types.specs.OptionWriting.{wire_option}
 use Rattle.pg_copy.proofs.parse.push_array_as.Goals as goal
 
 pub returns-in_ok-elements-in-Some-clause-ok : goal.returns-in_ok-elements-in-Some-clause-ok
 returns-in_ok-elements-in-Some-clause-ok g c =
-    rw c.in-Some.is (value_frame c.args.column.now c.in-Some.text.now _ c.args.out.now.items
-    c.frame_value-in-Some.new.out.items c.frame_value-in-Some.result c.frame_value-in-Some.ensures.frame
-    (search (either_never_null, list_never_null)))
+    let wire = wire_vec (λ ty. wire_option (g.T.ToSql.wire ty)) in
+    rw c.in-Some.is (value_frame AnyValue (accepted_list g.T.ToSql.accepted) (codes "Vec") wire (content c.args.column.now.ty) c.in-Some.text.now
+    c.in_ok-elements-in-Some.elements tt (list_never_null (λ ty. wire_option (g.T.ToSql.wire ty)) (content c.args.column.now.ty)
+    (element_of (content c.args.column.now.ty)) c.in_ok-elements-in-Some.elements.items) c.args.out.now.items
+    c.frame_value-in-Some.new.out.items c.frame_value-in-Some.result c.frame_value-in-Some.ensures.frame)
