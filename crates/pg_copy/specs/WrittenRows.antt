@@ -62,7 +62,8 @@ TupleOf columns line tuple =
 
 -- the header and the tuple of each line, in their order
 abbrev pub BeginsCopy : List Column → List (List ℕ) → List ℕ → Type 0
-BeginsCopy columns lines bytes = (tuples : List ℕ) × Answered (TupleOf columns) lines tuples × (bytes ≡ header ++ tuples)
+BeginsCopy columns lines bytes =
+    (tuples : List ℕ) × Answered (TupleOf columns) lines tuples × (bytes ≡ header ++ tuples)
 
 -- the binary COPY of lines: the header, the tuple of each line, in their order, and the trailer
 abbrev pub CopyOf : List Column → List (List ℕ) → List ℕ → Type 0
