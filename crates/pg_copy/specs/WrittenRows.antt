@@ -1,5 +1,5 @@
 -- What a binary COPY is written of lines.
-use Rattle.std.specs.Prelude.{◌≡◌, ◌≢◌, ◌<◌, ◌≤◌, ℕ, pos, List, [], ◌∷◌, ◌++◌, length}
+use Rattle.std.specs.Prelude.{◌≡◌, ◌≢◌, ◌<◌, ◌≤◌, ◌^◌, ℕ, pos, List, [], ◌∷◌, ◌++◌, length}
 use Rattle.std.specs.Prelude.{Option, Some, None, IsSome, option_map, Ok, Err}
 use Rattle.std.specs.Int.{w16}
 use Rattle.std.specs.Borrow.{Bor}
@@ -95,10 +95,10 @@ LineFault columns line fault = ⊥
 
 -- what is written where a COPY stops at a fault: the header and the tuples of some first lines, those before the line
 -- that is refused. Where reading failed these are the lines that end in what the reader gave; a write that failed
--- leaves a beginning; and too many columns leave nothing
+-- leaves a beginning; and more columns than two bytes can say leave nothing
 abbrev pub Stops : List Column → Option (List ℕ) → Option (List ℕ) → Option (List ℕ) → Option (List ℕ) → CopyFault
     → Type 0
-Stops columns input left old new TooManyColumns = Keeps old new
+Stops columns input left old new TooManyColumns = (2 ^ 15 ≤ length columns) × Keeps old new
 Stops columns input left old new Read =
     (line : List ℕ) × IsOneLine line × (done : List (List ℕ)) × IsDone input left line done
     × WritesWhole (BeginsCopy columns done) old new
