@@ -1,6 +1,7 @@
 -- Laws of the tuples of lines.
 use Rattle.std.proofs.Common.{◌≡◌, ℕ, ◌+◌, ◌<◌, ◌≤◌, pos, List, [], ◌∷◌, ◌++◌, Option, Some, None, Result, Ok, Err}
-use Rattle.std.proofs.Common.{OnOk, length, take, get_or, refl, sym, ap, subst, ◌∙◌, append_assoc, append-nil, arith, add-one}
+use Rattle.std.proofs.Common.{OnOk, length, take, get_or, refl, sym, ap, subst, ◌∙◌, append_assoc, append-nil, arith}
+use Rattle.std.proofs.Common.{add-one}
 use Rattle.std.proofs.Common.{length-append}
 use Rattle.std.proofs.Math.Seq.{take-suc}
 use Rattle.std.proofs.lemmas.List.Splits.{length-slice_split}
@@ -74,7 +75,9 @@ so_far_next columns line fields field after n d column old mid new s within is s
       done = s.done ++ field ∷ [];
       cells = s.cells ++ cell ∷ [];
       bytes = s.bytes ++ g.0;
-      are = s.are ∙ ap (λ (l : List (List ℕ)). s.done ++ l) split ∙ sym (append_assoc s.done (field ∷ []) (fields_left after));
+      are =
+          s.are ∙ ap (λ (l : List (List ℕ)). s.done ++ l) split
+          ∙ sym (append_assoc s.done (field ∷ []) (fields_left after));
       so_many = (let sum = length-append s.done (field ∷ []) in omega (arith, sum, s.so_many));
       of =
           subst (λ (l : List Column). FieldCells l (s.done ++ field ∷ []) (s.cells ++ cell ∷ [])) (sym more)

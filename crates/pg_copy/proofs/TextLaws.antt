@@ -1,5 +1,6 @@
 -- Laws of the fields of a line and of the texts that they say.
-use Rattle.std.proofs.Common.{◌≡◌, ℕ, ◌+◌, ◌<◌, Bool, true, false, not, List, [], ◌∷◌, ◌++◌, length, drop, get_or, Option}
+use Rattle.std.proofs.Common.{◌≡◌, ℕ, ◌+◌, ◌<◌, Bool, true, false, not, List, [], ◌∷◌, ◌++◌, length, drop}
+use Rattle.std.proofs.Common.{get_or, Option}
 use Rattle.std.proofs.Common.{Some, None, option_map, refl, sym, ap, ◌∙◌, append_assoc, append-nil, arith, add-one}
 use Rattle.std.proofs.Common.{cond, drop-cons, if◌then◌else◌}
 use Rattle.std.specs.Prelude.{◌==◌, ◌||◌, is_some, suc}
@@ -91,7 +92,8 @@ nothing_after : (said : List ℕ) (old new text : List ℕ) (is_escaped : Bool) 
 nothing_after said old new text false e p = (said, p ∙ ap Some (append-nil said), e)
 nothing_after said old new text true e p = p
 
-pub so_far_all : (text old new : List ℕ) (is_escaped : Bool) (i : ℕ) → drop i text ≡ [] → SoFar text old new is_escaped i
+pub so_far_all : (text old new : List ℕ) (is_escaped : Bool) (i : ℕ) → drop i text ≡ []
+    → SoFar text old new is_escaped i
     → Unescapes text old new (not is_escaped)
 so_far_all text old new is_escaped i end p =
     nothing_after p.0 old new text is_escaped p.1
@@ -123,13 +125,15 @@ plain_text [] h = refl
 plain_text (byte ∷ text) h =
     let first = either_false (byte == 92) (byte == 13) (h 0 (omega arith)) in
     let rest : unescaped text ≡ Some text = plain_text text (λ k below. h (suc k) (omega (arith, below))) in
-    ap (λ (b : Bool). if b then unescaped_after true text else (if byte == 13 then None else prepend byte (unescaped text)))
+    ap (λ (b : Bool). if b then unescaped_after true text
+    else (if byte == 13 then None else prepend byte (unescaped text)))
     first.0
     ∙ ap (λ (b : Bool). if b then None else prepend byte (unescaped text)) first.1 ∙ ap (prepend byte) rest
 
 pub says_plain : (field : List ℕ) (place : Option ℕ) → (field ≡ 92 ∷ 78 ∷ [] → ⊥)
     → IsFirstByte (is_byte2 92 13) field place → is_some place ≡ false → Says field (Some field)
-says_plain field None not_null first e = (not_null, plain_text field (λ k below passes. first k (omega arith) below passes))
+says_plain field None not_null first e =
+    (not_null, plain_text field (λ k below passes. first k (omega arith) below passes))
 says_plain field (Some k) not_null first e = let bad : ⊥ = cc in absurd bad
 
 pub says_unescaped : (field new : List ℕ) (is_text : Bool) → (field ≡ 92 ∷ 78 ∷ [] → ⊥)

@@ -39,7 +39,8 @@ special_never_null w wire pos_infinity p = tt
 special_never_null w wire neg_infinity p = tt
 special_never_null w wire (value v) p = p v
 
-array_never_null : (lower_bound : ℤ) (oid : ℕ) (cells : Outcome (List Cell)) → NeverNull (wire_array lower_bound oid cells)
+array_never_null : (lower_bound : ℤ) (oid : ℕ) (cells : Outcome (List Cell))
+    → NeverNull (wire_array lower_bound oid cells)
 array_never_null lower_bound oid (Ok cells) = option_never_null _
 array_never_null lower_bound oid (Err r) = tt
 

@@ -1,5 +1,6 @@
 -- Laws of what is written of a binary COPY.
-use Rattle.std.proofs.Common.{◌≡◌, ◌≢◌, ◌≤◌, ◌+◌, ℕ, zero, suc, List, [], ◌∷◌, ◌++◌, Option, None, Some, length, take, refl}
+use Rattle.std.proofs.Common.{◌≡◌, ◌≢◌, ◌≤◌, ◌+◌, ℕ, zero, suc, List, [], ◌∷◌, ◌++◌, Option, None, Some, length}
+use Rattle.std.proofs.Common.{take, refl}
 use Rattle.std.proofs.Common.{ap, sym, ◌∙◌, append_assoc, subst, ◌⊎◌, inl, inr}
 use Rattle.std.proofs.Math.Seq.{take-append-add}
 use Rattle.std.proofs.lemmas.List.{take-append-le}

@@ -12,8 +12,8 @@ abbrev pub fields_left : Option (List ℕ) → List (List ℕ)
 fields_left None = []
 fields_left (Some rest) = fields_of rest
 
--- whether a byte after a backslash is not taken: a digit of an octal number, the x of a hexadecimal one, or the period,
--- which ends the data
+-- whether a byte after a backslash is not taken: a digit of an octal number, the x of a hexadecimal one, or the
+-- period, which ends the data
 abbrev pub is_refused_byte : ℕ → Bool
 is_refused_byte byte = (nat_le 48 byte && nat_le byte 55) || (byte == 120) || (byte == 46)
 

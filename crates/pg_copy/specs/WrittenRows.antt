@@ -1,5 +1,5 @@
 -- What a binary COPY is written of lines.
-use Rattle.std.specs.Prelude.{◌≡◌, ◌≢◌, ◌<◌, ◌≤◌, ℕ, pos, List, [], ◌∷◌, ◌++◌, length}
+use Rattle.std.specs.Prelude.{◌≡◌, ◌≢◌, ◌<◌, ◌≤◌, ◌^◌, ℕ, pos, List, [], ◌∷◌, ◌++◌, length}
 use Rattle.std.specs.Prelude.{Option, Some, None, IsSome, option_map, Ok, Err}
 use Rattle.std.specs.Int.{w16}
 use Rattle.std.specs.Borrow.{Bor}
@@ -77,7 +77,8 @@ TupleOf columns line tuple =
 
 -- the header and the tuple of each line, in their order
 abbrev pub BeginsCopy : List Column → List (List ℕ) → List ℕ → Type 0
-BeginsCopy columns lines bytes = (tuples : List ℕ) × Answered (TupleOf columns) lines tuples × (bytes ≡ header ++ tuples)
+BeginsCopy columns lines bytes =
+    (tuples : List ℕ) × Answered (TupleOf columns) lines tuples × (bytes ≡ header ++ tuples)
 
 -- the binary COPY of lines: the header, the tuple of each line, in their order, and the trailer
 abbrev pub CopyOf : List Column → List (List ℕ) → List ℕ → Type 0
@@ -109,10 +110,10 @@ LineFault columns line fault = ⊥
 
 -- what is written where a COPY stops at a fault: the header and the tuples of some first lines, those before the line
 -- that is refused. Where reading failed these are the lines that end in what the reader gave; a write that failed
--- leaves a beginning; and too many columns leave nothing
+-- leaves a beginning; and more columns than two bytes can say leave nothing
 abbrev pub Stops : List Column → Option (List ℕ) → Option (List ℕ) → Option (List ℕ) → Option (List ℕ) → CopyFault
     → Type 0
-Stops columns input left old new TooManyColumns = Keeps old new
+Stops columns input left old new TooManyColumns = (2 ^ 15 ≤ length columns) × Keeps old new
 Stops columns input left old new Read =
     (line : List ℕ) × IsOneLine line × (done : List (List ℕ)) × IsDone input left line done
     × WritesWhole (BeginsCopy columns done) old new

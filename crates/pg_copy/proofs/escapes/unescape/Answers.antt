@@ -26,10 +26,12 @@ bytes-preserved c =
           rw w.is_escaped-is (so_far_letter text old mid i byte c.bytes-test.true refl _ before taken more)
       | else-is_escaped+in-92 w ↦
           let before : SoFar text old mid false i = rw w.if-is_escaped.false at c.bytes.invariant in
-          rw (w.is_escaped-is, w.out-is) (so_far_backslash text old mid i byte c.bytes-test.true refl before w.in-92.is)
+          rw (w.is_escaped-is, w.out-is)
+          (so_far_backslash text old mid i byte c.bytes-test.true refl before w.in-92.is)
       | else-is_escaped+in_default+in_ok-push-in_default w ↦
           let before : SoFar text old mid false i = rw w.if-is_escaped.false at c.bytes.invariant in
-          let more : c.if-is_escaped.out.items ≡ mid ++ byte ∷ [] = rw w.out-is w.in_ok-push-in_default.ensures.items in
+          let more : c.if-is_escaped.out.items ≡ mid ++ byte ∷ [] =
+          rw w.out-is w.in_ok-push-in_default.ensures.items in
           let no_backslash : byte ≡ 92 → ⊥ = omega arith in
           let no_return : byte ≡ 13 → ⊥ = omega arith in
           let closed : c.if-is_escaped.is_escaped ≡ false = w.is_escaped-is ∙ w.if-is_escaped.false in

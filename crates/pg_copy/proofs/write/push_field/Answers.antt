@@ -28,6 +28,7 @@ returns-clause-ok c =
     c.push_utf8-2.new.out.items)
     = subst (λ (t : List ℕ). OnOk c.push_utf8-2.result (Gains (FrameOf c.args.column.now (Some t)) c.args.out.now.items
     c.push_utf8-2.new.out.items)) c.as_slice-2.ensures.value c.push_utf8-2.ensures.ok in
-    gains_field c.args.column.now field (Some text) c.args.out.now.items c.push_utf8-2.new.out.items c.push_utf8-2.result
+    gains_field c.args.column.now field (Some text) c.args.out.now.items c.push_utf8-2.new.out.items
+    c.push_utf8-2.result
     (says_unescaped field text c.in_ok-unescape.field-0 not_null said c.if-not-branch.false)
     framed

@@ -6,7 +6,8 @@ use Rattle.pg_copy.proofs.write.split_field.Goals as goal
 
 pub returns-in-Some : goal.returns-in-Some
 returns-in-Some c =
-    ap fields_of c.in-Some.ensures.some.1 ∙ first_field c.in-Some.field.now c.in-Some.after.now c.in-Some.ensures.some.0
+    ap fields_of c.in-Some.ensures.some.1
+    ∙ first_field c.in-Some.field.now c.in-Some.after.now c.in-Some.ensures.some.0
 
 pub returns-in-None : goal.returns-in-None
 returns-in-None c = last_field c.args.fields.now c.in-None.ensures.none

@@ -5,7 +5,8 @@ use Rattle.streams.specs.Answers.{Answering, EndsBy}
 use Rattle.streams.specs.Lines.{lines_of}
 use Rattle.streams.proofs.Answers.{part-within, writes-within}
 use Rattle.streams.proofs.Outcomes.{err_of, err_weaker, ok_of, ok_weaker}
-use Rattle.streams.proofs.Steps.{takes_either, takes_before-within, takes_lines-within, takes_some-within, under_way-kept, under_way-some}
+use Rattle.streams.proofs.Steps.{takes_either, takes_before-within, takes_lines-within, takes_some-within}
+use Rattle.streams.proofs.Steps.{under_way-kept, under_way-some}
 use Rattle.streams.proofs.Steps.{under_way-all, under_way-taken, under_way-before, under_way-last, ends_kept}
 use Rattle.streams.proofs.Steps.{ends_unread, ends_part, ends_refused}
 use Rattle.streams.proofs.Steps.{under_way-stopped, under_way-partial, under_way-unfinished, under_way-end_partial}
@@ -37,7 +38,8 @@ returns-then-n-eq0-clause-ok g c =
 pub returns-then-n-eq0-clause-whole : goal.returns-then-n-eq0-clause-whole
 returns-then-n-eq0-clause-whole g c =
     err_weaker c.finish.result (λ e p not_write. under_way-unfinished _ _ _ _ _ _ _ c.reads.invariant.2
-    (ends_kept (g.A.AnswerLine.refuses c.reads.answerer) (g.A.AnswerLine.answers c.reads.answerer) _ _ _ e p not_write))
+    (ends_kept (g.A.AnswerLine.refuses c.reads.answerer) (g.A.AnswerLine.answers c.reads.answerer) _ _ _ e p
+    not_write))
     c.finish.ensures.err
 
 pub returns-then-n-eq0-clause-refused : goal.returns-then-n-eq0-clause-refused

@@ -41,7 +41,8 @@ returns-in-Some-rest-clause-refused c =
     let s : SoFar columns line place (Some c.in-Some-rest.field-0.now) start mid
     = subst (λ (rest : _). SoFar columns line place (text_of rest) start mid) {y = Some c.in-Some-rest.field-0}
     c.in-Some-rest.is c.loop-place.invariant.1 in
-    let more : place + 1 ≤ length (fields_of line) = has_more columns line c.in-Some-rest.field-0.now place start mid s in
+    let more : place + 1 ≤ length (fields_of line) =
+    has_more columns line c.in-Some-rest.field-0.now place start mid s in
     count_refused columns line c.count_fault-in-Some-rest.result
     (subst (λ (l : List Column). CountFault (length l) (length (fields_of line)) c.count_fault-in-Some-rest.result)
     c.loop-place.invariant.0 c.count_fault-in-Some-rest.ensures) (λ e. omega arith)
