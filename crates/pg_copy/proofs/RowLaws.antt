@@ -127,6 +127,6 @@ count_refused columns line fault p other = absurd p
 pub value_refused : (columns : List Column) (line : List ℕ) (column : ℕ) (fault : CopyFault) → ValueFault column fault
     → 0 < column → column ≤ length columns → column ≤ length (fields_of line) → LineFault columns line fault
 value_refused columns line column Memory p low high fields = tt
-value_refused columns line column (Value row at fault) p low high fields =
+value_refused columns line column (Value row at base is_array fault) p low high fields =
     (omega (arith, p), omega (arith, p), omega (arith, p))
 value_refused columns line column fault p low high fields = absurd p

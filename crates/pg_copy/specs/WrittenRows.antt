@@ -94,7 +94,7 @@ CountFault columns fields fault = ⊥
 -- the fault of a value in the column of that number, or refused memory
 abbrev pub ValueFault : ℕ → CopyFault → Type 0
 ValueFault column Memory = Unit {0}
-ValueFault column (Value row at fault) = at ≡ column
+ValueFault column (Value row at base is_array fault) = at ≡ column
 ValueFault column fault = ⊥
 
 -- the line has no tuple, by this fault: it has another number of fields than there are columns, the field of a column
@@ -104,7 +104,7 @@ LineFault columns line Memory = Unit {0}
 LineFault columns line (Columns row expected got) =
     CountFault (length columns) (length (fields_of line)) (Columns row expected got)
     × (length (fields_of line) ≢ length columns)
-LineFault columns line (Value row column fault) =
+LineFault columns line (Value row column base is_array fault) =
     (0 < column) × (column ≤ length columns) × (column ≤ length (fields_of line))
 LineFault columns line fault = ⊥
 

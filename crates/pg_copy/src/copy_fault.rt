@@ -3,6 +3,8 @@ ghost use Rattle.std.specs.Prelude.{◌≡◌};
 ghost use Rattle.pg_copy.specs.WrittenRows.{ValueFault};
 ghost use Rattle.pg_copy.specs.declared.copy_fault.CopyFault.TheVariants.{Memory};
 
+use crate::columns::Column;
+use named_types::Base;
 use postgres_types::Fault;
 use std::alloc::{AllocError, AllocFailed};
 use std::error::Error;
@@ -60,10 +62,12 @@ pub enum CopyFault {
         row: Row,
         column: usize,
     },
-    /// A value is refused.
+    /// A value is refused, of a column with values of that base name or arrays of them.
     Value {
         row: Row,
         column: usize,
+        base: Base,
+        is_array: bool,
         fault: Fault,
     },
 }
@@ -87,8 +91,16 @@ impl fmt::Display for CopyFault {
             CopyFault::Length { row, column } => {
                 write!(f, "{row}, column {column}: negative length")
             }
-            CopyFault::Value { row, column, fault } => {
-                write!(f, "{row}, column {column}: {fault}")
+            CopyFault::Value {
+                row,
+                column,
+                base,
+                is_array,
+                fault,
+            } => {
+                let name = base.name();
+                let form = if *is_array { "[]" } else { "" };
+                write!(f, "{row}, column {column} ({name}{form}): {fault}")
             }
         }
     }
@@ -110,12 +122,19 @@ impl<T: Drop> From<AllocFailed<T>> for CopyFault {
     }
 }
 
-/// The fault of a value in that row and column; out of memory is no value's.
-pub fn value_fault(row: Row, column: usize, fault: Fault) -> CopyFault
-    ensures { ValueFault column result }
+/// The fault of a value in that row, and in that column, which is the one of that number; out of
+/// memory is no value's.
+pub fn value_fault(row: Row, number: usize, column: &Column, fault: Fault) -> CopyFault
+    ensures { ValueFault number result }
 {
     match fault {
         Fault::Memory => CopyFault::Memory,
-        fault => CopyFault::Value { row, column, fault },
+        fault => CopyFault::Value {
+            row,
+            column: number,
+            base: column.base,
+            is_array: column.is_array,
+            fault,
+        },
     }
 }

@@ -272,7 +272,7 @@ impl Reading<'_> {
             Ok(false) => Ok(self.lines.extend_from_slice(b"\\N")?),
             Err(fault) => {
                 let row = Row::Tuple(self.row);
-                Err(value_fault(row, place.saturating_add(1), fault))
+                Err(value_fault(row, place.saturating_add(1), column, fault))
             }
         }
     }

@@ -133,7 +133,7 @@ impl TupleWriter<'_> {
             };
             let (field, after) = split_field(fields);
             if let Err(fault) = push_field(alloc, column, field, &mut self.text, pending) {
-                return Err(value_fault(Row::Line(self.line), place + 1, fault));
+                return Err(value_fault(Row::Line(self.line), place + 1, column, fault));
             }
             rest = after;
         }

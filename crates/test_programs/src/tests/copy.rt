@@ -161,7 +161,8 @@ fn have_no_values(alloc: Global, rows: &[(&str, &[u8])]) -> Result<(), Fail> {
     for (name, text) in rows {
         let line = line_of(alloc, text)?;
         let outcome = writing(alloc, &[*name], line.as_slice())?;
-        outcome.is(HEADER, "line 1, column 1: no value of its type")?;
+        let fault = format!(in alloc; "line 1, column 1 ({name}): no value of its type")?;
+        outcome.is(HEADER, fault.as_str())?;
     }
     Ok(())
 }

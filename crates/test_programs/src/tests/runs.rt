@@ -20,12 +20,7 @@ impl AnswerLine for Echo {
 
     ghost refuses = { λ _ _ _. Unit {0} };
 
-    fn answer(
-        &mut self,
-        _: Global,
-        line: &[u8],
-        pending: &mut BytesMut,
-    ) -> Result<(), AllocError> {
+    fn answer(&mut self, _: Global, line: &[u8], pending: &mut BytesMut) -> Result<(), AllocError> {
         let start = pending.len();
         pending.extend_from_slice(line)?;
         if pending.extend_from_slice(b"\n").is_err() {

@@ -57,7 +57,11 @@ fn another_number_of_columns_is_named_with_its_line(rt: HostRuntime) -> Result<(
             "line 2: 3 columns in place of 2",
         ),
         // An empty line is one empty column, which is looked at first.
-        (b"1\ta\n\n", FIRST, "line 2, column 1: no value of its type"),
+        (
+            b"1\ta\n\n",
+            FIRST,
+            "line 2, column 1 (int4): no value of its type",
+        ),
     ];
     refuses(rt.alloc(), &rows)
 }
@@ -68,19 +72,19 @@ fn no_value_is_named_with_its_line_and_column(rt: HostRuntime) -> Result<(), Fai
         (
             b"1\ta\nx\tb\n",
             FIRST,
-            "line 2, column 1: no value of its type",
+            "line 2, column 1 (int4): no value of its type",
         ),
         (
             b"1\ta\n2147483648\tb\n",
             FIRST,
-            "line 2, column 1: no value of its type",
+            "line 2, column 1 (int4): no value of its type",
         ),
         (
             b"1\ta\n\tb\n",
             FIRST,
-            "line 2, column 1: no value of its type",
+            "line 2, column 1 (int4): no value of its type",
         ),
-        (b"1\t\xff\n", b"", "line 1, column 2: invalid UTF-8"),
+        (b"1\t\xff\n", b"", "line 1, column 2 (text): invalid UTF-8"),
     ];
     refuses(rt.alloc(), &rows)
 }
@@ -98,7 +102,7 @@ const NO_ESCAPES: [&[u8]; 6] = [
 #[test]
 fn other_escapes_are_refused(rt: HostRuntime) -> Result<(), Fail> {
     for line in NO_ESCAPES {
-        let fault = "line 1, column 2: no value of its type";
+        let fault = "line 1, column 2 (text): no value of its type";
         writing(rt.alloc(), NAMES, line)?.is(HEADER, fault)?;
     }
     Ok(())
@@ -125,16 +129,20 @@ fn texts_that_are_no_arrays_are_refused(rt: HostRuntime) -> Result<(), Fail> {
 
 /// Texts that a conversion refuses, with its fault.
 const REFUSED: [(&str, &[u8], &str); 3] = [
-    ("inet", b"1.2.3.4/33\n", "line 1, column 1: invalid netmask"),
+    (
+        "inet",
+        b"1.2.3.4/33\n",
+        "line 1, column 1 (inet): invalid netmask",
+    ),
     (
         "cidr",
         b"1.2.3.4/8\n",
-        "line 1, column 1: host bits are set",
+        "line 1, column 1 (cidr): host bits are set",
     ),
     (
         "json",
         b"1.5\n",
-        "line 1, column 1: JSON number is not a whole number",
+        "line 1, column 1 (json): JSON number is not a whole number",
     ),
 ];
 

@@ -74,12 +74,12 @@ const TUPLES: [(&[&[u8]], &[u8], &str); 10] = [
     (
         &[ROWS, b"\0\x02\0\0\0\x04\0\0\0\x03\0\0\0\x01\xff", TRAILER],
         LINES,
-        "row 3, column 2: invalid UTF-8",
+        "row 3, column 2 (text): invalid UTF-8",
     ),
     (
         &[b"\0\x02\0\0\0\x03\0\0\x01\0\0\0\0", TRAILER],
         b"",
-        "row 1, column 1: invalid buffer size",
+        "row 1, column 1 (int4): invalid buffer size",
     ),
 ];
 
@@ -180,33 +180,33 @@ const REFUSED: [(&str, &[u8], &str); 6] = [
     (
         "date",
         b"\x7f\xff\xff\xff",
-        "row 1, column 1: value too large to decode",
+        "row 1, column 1 (date): value too large to decode",
     ),
     (
         "date",
         b"\0\x2c\x95\xd4",
-        "row 1, column 1: value too large to decode",
+        "row 1, column 1 (date): value too large to decode",
     ),
     (
         "time",
         b"\0\0\0\x14\x1d\xd7\x60\0",
-        "row 1, column 1: value too large to decode",
+        "row 1, column 1 (time): value too large to decode",
     ),
     // {{1}} and [0:0]={1}
     (
         "int4[]",
         b"\0\0\0\x02\0\0\0\0\0\0\0\x17\0\0\0\x01\0\0\0\x01\0\0\0\x01\0\0\0\x01\0\0\0\x04\0\0\0\x01",
-        "row 1, column 1: array contains too many dimensions",
+        "row 1, column 1 (int4[]): array contains too many dimensions",
     ),
     (
         "int4[]",
         b"\0\0\0\x01\0\0\0\0\0\0\0\x17\0\0\0\x01\0\0\0\0\0\0\0\x04\0\0\0\x01",
-        "row 1, column 1: array with a lower bound other than 1",
+        "row 1, column 1 (int4[]): array with a lower bound other than 1",
     ),
     (
         "json",
         b"1.5",
-        "row 1, column 1: JSON number is not a whole number",
+        "row 1, column 1 (json): JSON number is not a whole number",
     ),
 ];
 
