@@ -3,8 +3,6 @@ use Rattle.std.specs.Prelude.{ℕ, ◌==◌, Bool, true, false, List, [], ◌∷
 use Rattle.std.specs.Cmp.Lexicographic.{pointwise}
 use Rattle.named_types.specs.declared.base.Base.{Base}
 use Rattle.named_types.specs.declared.base.Base.TheVariants as base
-use Rattle.named_types.specs.declared.base.Program.{Program}
-use Rattle.named_types.specs.declared.base.Program.TheVariants.{Pgcell, Copy}
 
 -- the name of each
 abbrev pub base_name : Base → List ℕ
@@ -25,8 +23,6 @@ base_name base.Int4 = codes "int4"
 base_name base.Int8 = codes "int8"
 base_name base.Interval = codes "interval"
 base_name base.Item = codes "item"
-base_name base.Json = codes "json"
-base_name base.Jsonb = codes "jsonb"
 base_name base.Ltree = codes "ltree"
 base_name base.Macaddr = codes "macaddr"
 base_name base.Mood = codes "mood"
@@ -49,7 +45,7 @@ base_name base.Varchar = codes "varchar"
 
 -- all of them
 abbrev pub bases : List Base
-bases = base.Addr ∷ base.Bit ∷ base.Bool ∷ base.Bpchar ∷ base.Bytea ∷ base.Char ∷ base.Cidr ∷ base.Date ∷ base.DateInf ∷ base.Hstore ∷ base.Inet ∷ base.Int2 ∷ base.Int2Vector ∷ base.Int4 ∷ base.Int8 ∷ base.Interval ∷ base.Item ∷ base.Json ∷ base.Jsonb ∷ base.Ltree ∷ base.Macaddr ∷ base.Mood ∷ base.Name ∷ base.Oid ∷ base.OidVector ∷ base.PgLsn ∷ base.Session ∷ base.Text ∷ base.Time ∷ base.Timestamp ∷ base.TimestampInf ∷ base.Timestamptz ∷ base.Unix ∷ base.UnixInf ∷ base.Unknown ∷ base.Uuid ∷ base.Varbit ∷ base.Varchar ∷ []
+bases = base.Addr ∷ base.Bit ∷ base.Bool ∷ base.Bpchar ∷ base.Bytea ∷ base.Char ∷ base.Cidr ∷ base.Date ∷ base.DateInf ∷ base.Hstore ∷ base.Inet ∷ base.Int2 ∷ base.Int2Vector ∷ base.Int4 ∷ base.Int8 ∷ base.Interval ∷ base.Item ∷ base.Ltree ∷ base.Macaddr ∷ base.Mood ∷ base.Name ∷ base.Oid ∷ base.OidVector ∷ base.PgLsn ∷ base.Session ∷ base.Text ∷ base.Time ∷ base.Timestamp ∷ base.TimestampInf ∷ base.Timestamptz ∷ base.Unix ∷ base.UnixInf ∷ base.Unknown ∷ base.Uuid ∷ base.Varbit ∷ base.Varchar ∷ []
 
 -- the first of some base names that has that name
 abbrev pub named : List Base → List ℕ → Option Base
@@ -70,10 +66,3 @@ has_arrays base.OidVector = false
 has_arrays base.Session = false
 has_arrays base.Unknown = false
 has_arrays other = true
-
--- whether a program knows a base name
-abbrev pub knows : Program → Base → Bool
-knows Pgcell base.Json = false
-knows Pgcell base.Jsonb = false
-knows Copy base.Unknown = false
-knows program other = true

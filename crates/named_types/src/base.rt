@@ -1,13 +1,12 @@
 //! The table of base names.
 ghost use Rattle.std.specs.Prelude.{◌≡◌};
-ghost use Rattle.named_types.specs.BaseNames.{base_name, base_of, has_arrays, knows};
+ghost use Rattle.named_types.specs.BaseNames.{base_name, base_of, has_arrays};
 
 /// The table of the base names, in alphabetical order and by their first letters: of each its
 /// member of [`Base`], the name, its Rust type, its Postgres type and, where it has arrays, their
-/// Postgres type; and, where one program alone knows it, which. A Postgres type is a constant of
-/// `Type`, or of a user-defined type `user`, the function of `pg_record::types` that makes it, its
-/// OID, and its name where the function is told it. `$rows` is the macro that is called with all
-/// rows, after the arguments.
+/// Postgres type. A Postgres type is a constant of `Type`, or of a user-defined type `user`, the
+/// function of `pg_record::types` that makes it, its OID, and its name where the function is told
+/// it. `$rows` is the macro that is called with all rows, after the arguments.
 #[macro_export]
 macro_rules! base_names {
     ($rows:ident $args:tt) => {
@@ -42,10 +41,6 @@ macro_rules! base_names {
                 Item "item"
                     [pg_record::InventoryItem, user(item_type 100_003), user(item_array_type 100_004)],
             }
-            b'j' {
-                Json "json" [serde_json::Value, JSON, JSON_ARRAY] only Copy,
-                Jsonb "jsonb" [serde_json::Value, JSONB, JSONB_ARRAY] only Copy,
-            }
             b'l' {
                 Ltree "ltree" [String, user(simple_type 100_001 "ltree")],
             }
@@ -77,7 +72,7 @@ macro_rules! base_names {
             b'u' {
                 Unix "unix" [postgres_types::UnixTime, TIMESTAMP, TIMESTAMP_ARRAY],
                 UnixInf "unix_inf" [postgres_types::Timestamp<postgres_types::UnixTime>, TIMESTAMP, TIMESTAMP_ARRAY],
-                Unknown "unknown" [String, UNKNOWN] only Pgcell,
+                Unknown "unknown" [String, UNKNOWN],
                 Uuid "uuid" [uuid::Uuid, UUID, UUID_ARRAY],
             }
             b'v' {
@@ -86,15 +81,6 @@ macro_rules! base_names {
             }
         }
     };
-}
-
-/// A program that knows base names.
-#[derive(Debug, Clone, Copy, PartialEq, Eq)]
-pub enum Program {
-    /// pgcell.
-    Pgcell,
-    /// copy_read and copy_write.
-    Copy,
 }
 
 /// A base name.
@@ -117,8 +103,6 @@ pub enum Base {
     Int8,
     Interval,
     Item,
-    Json,
-    Jsonb,
     Ltree,
     Macaddr,
     Mood,
@@ -142,7 +126,7 @@ pub enum Base {
 
 // The base names that begin with the first letter of the bytes are compared with them.
 macro_rules! found {
-    (($bytes:ident) $($letter:literal { $($base:ident $name:literal $types:tt $(only $program:ident)?,)* })*) => {
+    (($bytes:ident) $($letter:literal { $($base:ident $name:literal $types:tt,)* })*) => {
         match $bytes {
             $([$letter, ..] => match $bytes {
                 $(_ if $bytes == $name.as_bytes() => Some(Base::$base),)*
@@ -155,14 +139,14 @@ macro_rules! found {
 
 // All base names.
 macro_rules! all {
-    (() $($letter:literal { $($base:ident $name:literal $types:tt $(only $program:ident)?,)* })*) => {
+    (() $($letter:literal { $($base:ident $name:literal $types:tt,)* })*) => {
         [$($(Base::$base,)*)*]
     };
 }
 
 // The name of a base name.
 macro_rules! name_of {
-    (($of:expr) $($letter:literal { $($base:ident $name:literal $types:tt $(only $program:ident)?,)* })*) => {
+    (($of:expr) $($letter:literal { $($base:ident $name:literal $types:tt,)* })*) => {
         match $of {
             $($(Base::$base => $name,)*)*
         }
@@ -171,7 +155,7 @@ macro_rules! name_of {
 
 // Whether a base name has arrays: whether two Postgres types stand in its row.
 macro_rules! has_arrays {
-    (($of:expr) $($letter:literal { $($base:ident $name:literal $types:tt $(only $program:ident)?,)* })*) => {
+    (($of:expr) $($letter:literal { $($base:ident $name:literal $types:tt,)* })*) => {
         match $of {
             $($(Base::$base => has_arrays!($types),)*)*
         }
@@ -185,33 +169,6 @@ macro_rules! has_arrays {
     ([$rust:ty, $($types:tt)*]) => {
         true
     };
-}
-
-// Whether the program knows a base name.
-macro_rules! knows {
-    (
-        ($program:expr, $of:expr)
-        $($letter:literal { $($base:ident $name:literal $types:tt $(only $only:ident)?,)* })*
-    ) => {
-        match $of {
-            $($(Base::$base => knows!($program $(, $only)?),)*)*
-        }
-    };
-    ($program:expr) => {
-        true
-    };
-    ($program:expr, $only:ident) => {
-        matches!($program, Program::$only)
-    };
-}
-
-impl Program {
-    /// Whether the program knows the base name.
-    pub fn knows(self, base: Base) -> bool
-        ensures { result ≡ knows self base }
-    {
-        base_names!(knows(self, base))
-    }
 }
 
 impl Base {

@@ -79,7 +79,7 @@ abbrev pub RewrittenItem : Rewriting
 RewrittenItem =
     RewrittenAs (λ ty. reads_item (fields_of_kind (kind_of ty))) (λ ty. wire_item (fields_of_kind (kind_of ty)))
 
--- the entry of a base name; json and jsonb have none, since serde_json::Value has no law of reading back
+-- the entry of a base name
 abbrev pub entry_of : Base → Entry
 entry_of base.Addr = built_in row.Inet row.InetArray (RewrittenPlain ReadsAddress wire_address)
 entry_of base.Bit = built_in row.Bit row.BitArray (RewrittenPlain (ReadsBits (λ v. v)) wire_bits)
@@ -102,8 +102,6 @@ entry_of base.Int4 = built_in row.Int4 row.Int4Array (RewrittenPlain (ReadsSigne
 entry_of base.Int8 = built_in row.Int8 row.Int8Array (RewrittenPlain (ReadsSigned w64) (wire_signed w64))
 entry_of base.Interval = built_in row.Interval row.IntervalArray (RewrittenPlain ReadsInterval wire_interval)
 entry_of base.Item = user_defined (user_types base.Item) RewrittenItem
-entry_of base.Json = no_entry
-entry_of base.Jsonb = no_entry
 entry_of base.Ltree = user_defined (user_types base.Ltree) RewrittenText
 entry_of base.Macaddr =
     built_in row.Macaddr row.MacaddrArray (RewrittenPlain (ReadsFixedBytes 6) (wire_fixed_bytes 6))

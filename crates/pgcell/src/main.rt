@@ -12,7 +12,7 @@ mod request;
 mod run;
 mod user_types;
 
-use named_types::{Base, Program};
+use named_types::Base;
 use run::run;
 use std::env;
 use std::io::{self, Write};
@@ -33,12 +33,9 @@ fn main(rt: HostRuntime) -> ExitCode {
     }
 }
 
-/// Prints the names of each base name that pgcell knows.
+/// Prints the names of each base name.
 fn print_names<W: Write>(output: &mut W) -> io::Result<()> {
     for &base in Base::ALL {
-        if !Program::Pgcell.knows(base) {
-            continue;
-        }
         let name = base.name();
         write!(output, "{name} {name}?")?;
         if base.has_arrays() {

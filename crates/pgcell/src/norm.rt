@@ -15,15 +15,15 @@ use named_types::{Base, Form, Name, base_names};
 use postgres_types::{Fault, IsNull, Paired, Type, rewrite};
 use std::alloc::{AllocError, Global};
 
-// A cell is rewritten by the row of its base name, where pgcell knows it.
+// A cell is rewritten by the row of its base name.
 macro_rules! norm {
     (
         ($this:ident, $alloc:ident, $name:ident, $cell:ident, $pending:ident)
-        $($letter:literal { $($base:ident $text:literal $types:tt $(only $program:ident)?,)* })*
+        $($letter:literal { $($base:ident $text:literal $types:tt,)* })*
     ) => {
         match $name.base {
             $($(Base::$base => norm_as!(
-                ($this, $alloc, $name, $cell, $pending) $types $($program)?
+                ($this, $alloc, $name, $cell, $pending) $types
             ),)*)*
         }
     };
@@ -31,12 +31,6 @@ macro_rules! norm {
 
 // The same by the types of a row.
 macro_rules! norm_as {
-    (
-        ($this:ident, $alloc:ident, $name:ident, $cell:ident, $pending:ident)
-        $types:tt Copy
-    ) => {
-        $pending.extend_from_slice(b"bad line")
-    };
     (
         ($this:ident, $alloc:ident, $name:ident, $cell:ident, $pending:ident)
         [$rust:ty, user $($types:tt)*]
@@ -48,7 +42,7 @@ macro_rules! norm_as {
     }};
     (
         ($this:ident, $alloc:ident, $name:ident, $cell:ident, $pending:ident)
-        [$rust:ty, $own:ident] $($program:ident)?
+        [$rust:ty, $own:ident]
     ) => {
         $this.norm_as::<$rust>($alloc, $name.form, Type::$own, None, $cell, $pending)
     };

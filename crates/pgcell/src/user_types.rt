@@ -15,7 +15,7 @@ pub type Types = (Type, Option<Type>);
 macro_rules! made {
     (
         ($alloc:ident, $of:ident)
-        $($letter:literal { $($base:ident $name:literal $types:tt $(only $program:ident)?,)* })*
+        $($letter:literal { $($base:ident $name:literal $types:tt,)* })*
     ) => {
         match $of {
             $($(Base::$base => row_made!(($alloc) $types),)*)*
