@@ -1,10 +1,11 @@
 -- The texts of values, as PostgreSQL's output functions write them.
-use Rattle.std.specs.Prelude.{◌≡◌, ◌⊎◌, ◌==◌, ◌+◌, ◌/◌, ◌%◌, ℕ, ℤ, List, [], ◌∷◌, ◌++◌, Bool, true, false, codes, nat_lt}
-use Rattle.std.specs.Prelude.{if◌then◌else◌}
+use Rattle.std.specs.Prelude.{◌≡◌, ◌⊎◌, ◌==◌, ◌+◌, ◌/◌, ◌%◌, ℕ, ℤ, List, [], ◌∷◌, ◌++◌, Bool, true, false, codes}
+use Rattle.std.specs.Prelude.{nat_lt, if◌then◌else◌, Ok, length, map}
 use Rattle.std.specs.Int.{cast_unsigned, w8}
 use Rattle.std.specs.Str.Parse.{IsNumeral, digits_value, signed_digits_value, without_leading_plus}
 use Rattle.std.specs.Str.Parse.{without_leading_sign}
-use Rattle.hex.specs.Hex.{encode_lower}
+use Rattle.std.specs.List.{AllZip, join_with_byte}
+use Rattle.hex.specs.Hex.{decode_of, encode_lower}
 
 -- the value's text stands after what was there
 abbrev pub Shows : {A : Type 0} → (A → List ℕ) → A → List ℕ → List ℕ → Type 0
@@ -32,6 +33,10 @@ SaysBool text false = (text ≡ codes "f") ⊎ (text ≡ codes "false")
 abbrev pub bytes_text : List ℕ → List ℕ
 bytes_text bytes = codes "\\x" ++ encode_lower bytes
 
+-- and what byteain takes of the hexadecimal form: digits of either case
+abbrev pub SaysBytes : List ℕ → List ℕ → Type 0
+SaysBytes text bytes = (digits : List ℕ) × (text ≡ codes "\\x" ++ digits) × (decode_of digits ≡ Ok bytes)
+
 -- INT2, INT4, INT8, OID: the value of the decimal digits, after a sign if there is one
 abbrev pub SaysSigned : List ℕ → ℤ → Type 0
 SaysSigned text value = IsNumeral 10 (without_leading_sign text) × (value ≡ signed_digits_value 10 text)
@@ -49,3 +54,26 @@ byte_text byte =
 
 abbrev pub char_text : ℤ → List ℕ
 char_text value = byte_text (cast_unsigned w8 value)
+
+-- BIT, VARBIT (bit_out, varbit_out): a digit 1 or 0 for each bit
+abbrev pub bit_digit : Bool → ℕ
+bit_digit bit = if bit then 49 else 48
+
+abbrev pub bits_text : List Bool → List ℕ
+bits_text bits = map bit_digit bits
+
+-- MACADDR (macaddr_out): two hexadecimal digits for each byte, with a colon between
+abbrev pub macaddr_text : List ℕ → List ℕ
+macaddr_text bytes = join_with_byte 58 (map (λ byte. encode_lower (byte ∷ [])) bytes)
+
+-- the text begins with the two hexadecimal digits of this byte, and so it goes on
+abbrev pub TakesPair : List ℕ → ℕ → List ℕ → Type 0
+TakesPair text byte rest = (pair : List ℕ) × (decode_of pair ≡ Ok (byte ∷ [])) × (text ≡ pair ++ rest)
+
+-- and what is read of macaddr_in's forms: six pairs of hexadecimal digits of either case, with a colon between
+abbrev pub SaysMacaddr : List ℕ → List ℕ → Type 0
+SaysMacaddr text bytes =
+    (pairs : List (List ℕ))
+    × (text ≡ join_with_byte 58 pairs)
+    × AllZip (λ pair byte. decode_of pair ≡ Ok (byte ∷ [])) pairs bytes
+    × (length bytes ≡ 6)

@@ -1,38 +1,62 @@
 //! Arrays of one dimension, and vectors of numbers.
+ghost use Rattle.std.specs.Fmt.{signed_decimal};
+ghost use Rattle.std.specs.Prelude.{◌≡◌, ◌||◌, ◌==◌, ◌++◌, ℕ, List, IfOk, OnOk, decimal, length};
+ghost use Rattle.std.specs.List.{list_any};
+ghost use Rattle.pg_text.specs.Lists.{SaysVector, ShowsArray, ShowsElement, vector_text};
+ghost use Rattle.pg_text.specs.Quotes.{element_text, is_array_sign, is_null_word};
+ghost use Rattle.pg_text.specs.Texts.{SaysSigned, SaysUnsigned, Shows};
 
+use crate::digits::push_number;
 use crate::items::Items;
-use crate::quotes::{Escape, is_space, push_quoted};
+use crate::quotes::{Escape, is_escaped, is_space, push_quoted};
+use crate::separators::push_separator;
 use crate::{FromText, ToText, no_value};
+use itoa::Integer;
 use postgres_types::Fault;
 use std::alloc::{AllocError, Global};
 
-/// Appends the elements in braces, with commas between (`array_out`). An element is in quotes where
-/// it is empty, spells NULL, or holds white space, a comma, a brace, a quote or a backslash.
+/// Appends the elements in braces, with commas between (`array_out`).
 pub fn push_array<T: ToText>(
     alloc: Global,
     elements: &[Option<T>],
     out: &mut Vec<u8>,
-) -> Result<(), AllocError> {
+) -> Result<(), AllocError>
+    ensures { OnOk result (ShowsArray T.shows elements.now out.old.items out.new.items) }
+{
     let mut text = Vec::new(alloc);
     out.push(b'{')?;
     for (place, element) in elements.iter().enumerate() {
-        if place > 0 {
-            out.push(b',')?;
-        }
-        match element {
-            None => out.extend_from_slice(b"NULL")?,
-            Some(value) => {
-                text.clear();
-                value.to_text(alloc, &mut text)?;
-                push_element(text.as_slice(), out)?;
-            }
-        }
+        push_separator(place, b',', out)?;
+        push_item(alloc, element, &mut text, out)?;
     }
     Ok(out.push(b'}')?)
 }
 
-/// Appends an element's text, in quotes where it needs them.
-fn push_element(text: &[u8], out: &mut Vec<u8>) -> Result<(), AllocError> {
+/// Appends an element, or NULL; its own text is written to `text` first.
+fn push_item<T: ToText>(
+    alloc: Global,
+    element: &Option<T>,
+    text: &mut Vec<u8>,
+    out: &mut Vec<u8>,
+) -> Result<(), AllocError>
+    ensures { OnOk result ((item : List ℕ) × ShowsElement T.shows element.now item
+        × (out.new.items ≡ out.old.items ++ item)) }
+{
+    match element {
+        None => out.extend_from_slice(b"NULL"),
+        Some(value) => {
+            text.clear();
+            value.to_text(alloc, text)?;
+            push_element(text.as_slice(), out)
+        }
+    }
+}
+
+/// Appends an element's text, in quotes where it is empty, spells NULL, or holds white space, a comma, a brace, a quote
+/// or a backslash.
+pub fn push_element(text: &[u8], out: &mut Vec<u8>) -> Result<(), AllocError>
+    ensures { OnOk result (out.new.items ≡ out.old.items ++ element_text text.now) }
+{
     if needs_quotes(text) {
         push_quoted(text, Escape::Backslash, out)
     } else {
@@ -41,12 +65,31 @@ fn push_element(text: &[u8], out: &mut Vec<u8>) -> Result<(), AllocError> {
 }
 
 /// Whether the text is not an element without quotes.
-fn needs_quotes(text: &[u8]) -> bool {
-    text.is_empty()
-        || text.eq_ignore_ascii_case(b"null")
-        || text.iter().any(|byte| {
-            matches!(*byte, b'"' | b'\\' | b'{' | b'}' | b',') || is_space(*byte)
-        })
+fn needs_quotes(text: &[u8]) -> bool
+    ensures { result ≡ (length text.now == 0 || is_null_word text.now || list_any is_array_sign text.now) }
+{
+    text.is_empty() || is_null_word(text) || has_array_sign(text)
+}
+
+/// Whether the text is the word NULL.
+fn is_null_word(text: &[u8]) -> bool
+    ensures { result ≡ is_null_word text.now }
+{
+    text.eq_ignore_ascii_case(b"null")
+}
+
+/// Whether a byte stands in no element without quotes.
+fn has_array_sign(text: &[u8]) -> bool
+    ensures { result ≡ list_any is_array_sign text.now }
+{
+    text.iter().any(|byte| is_array_sign(*byte))
+}
+
+/// Whether the byte stands in no element without quotes.
+fn is_array_sign(byte: u8) -> bool
+    ensures { result ≡ is_array_sign byte }
+{
+    is_escaped(byte) || byte == b'{' || byte == b'}' || byte == b',' || is_space(byte)
 }
 
 /// The elements of the array that the text says. An array of several dimensions or with lower bounds
@@ -88,22 +131,20 @@ fn parse_element<T: FromText>(
 }
 
 /// Appends the numbers with spaces between.
-fn push_vector<T: ToText>(
-    alloc: Global,
-    numbers: &[T],
-    out: &mut Vec<u8>,
-) -> Result<(), AllocError> {
+fn push_vector<I: Integer>(numbers: &[I], out: &mut Vec<u8>) -> Result<(), AllocError>
+    ensures { OnOk result (out.new.items ≡ out.old.items ++ vector_text I.text numbers.now) }
+{
     for (place, number) in numbers.iter().enumerate() {
-        if place > 0 {
-            out.push(b' ')?;
-        }
-        number.to_text(alloc, out)?;
+        push_separator(place, b' ', out)?;
+        push_number(*number, out)?;
     }
     Ok(())
 }
 
 /// The numbers of a text.
-fn parse_vector<T: FromText>(alloc: Global, text: &str) -> Result<Vec<T>, Fault> {
+fn parse_vector<T: FromText>(alloc: Global, text: &str) -> Result<Vec<T>, Fault>
+    ensures { IfOk result (λ v. SaysVector T.says text.now v.items) }
+{
     let mut numbers = Vec::new(alloc);
     if text.is_empty() {
         return Ok(numbers);
@@ -116,12 +157,16 @@ fn parse_vector<T: FromText>(alloc: Global, text: &str) -> Result<Vec<T>, Fault>
 
 /// Numbers with spaces between (`int2vectorout`).
 impl ToText for Vec<i16> {
-    fn to_text(&self, alloc: Global, out: &mut Vec<u8>) -> Result<(), AllocError> {
-        push_vector(alloc, self.as_slice(), out)
+    ghost shows = { Shows (λ v. vector_text signed_decimal v.items) };
+
+    fn to_text(&self, _alloc: Global, out: &mut Vec<u8>) -> Result<(), AllocError> {
+        push_vector(self.as_slice(), out)
     }
 }
 
 impl FromText for Vec<i16> {
+    ghost says = { λ text v. SaysVector SaysSigned text v.items };
+
     fn from_text(alloc: Global, text: &str) -> Result<Vec<i16>, Fault> {
         parse_vector(alloc, text)
     }
@@ -129,12 +174,16 @@ impl FromText for Vec<i16> {
 
 /// Numbers with spaces between (`oidvectorout`).
 impl ToText for Vec<u32> {
-    fn to_text(&self, alloc: Global, out: &mut Vec<u8>) -> Result<(), AllocError> {
-        push_vector(alloc, self.as_slice(), out)
+    ghost shows = { Shows (λ v. vector_text decimal v.items) };
+
+    fn to_text(&self, _alloc: Global, out: &mut Vec<u8>) -> Result<(), AllocError> {
+        push_vector(self.as_slice(), out)
     }
 }
 
 impl FromText for Vec<u32> {
+    ghost says = { λ text v. SaysVector SaysUnsigned text v.items };
+
     fn from_text(alloc: Global, text: &str) -> Result<Vec<u32>, Fault> {
         parse_vector(alloc, text)
     }

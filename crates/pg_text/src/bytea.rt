@@ -1,7 +1,7 @@
 //! Bytes.
 ghost use Rattle.std.specs.Prelude.{◌≡◌, ◌++◌, OnOk};
 ghost use Rattle.hex.specs.Hex.{encode_lower};
-ghost use Rattle.pg_text.specs.Texts.{Shows, bytes_text};
+ghost use Rattle.pg_text.specs.Texts.{SaysBytes, Shows, bytes_text};
 
 use crate::{FromText, ToText, no_value};
 use hex::FromHexError;
@@ -19,7 +19,7 @@ impl ToText for &[u8] {
 }
 
 /// Appends two hexadecimal digits a byte.
-fn push_hex(bytes: &[u8], out: &mut Vec<u8>) -> Result<(), AllocError>
+pub fn push_hex(bytes: &[u8], out: &mut Vec<u8>) -> Result<(), AllocError>
     ensures { OnOk result (out.new.items ≡ out.old.items ++ encode_lower bytes.now) }
 {
     let start = out.len();
@@ -34,6 +34,8 @@ fn push_hex(bytes: &[u8], out: &mut Vec<u8>) -> Result<(), AllocError>
 }
 
 impl FromText for Vec<u8> {
+    ghost says = { λ text v. SaysBytes text v.items };
+
     fn from_text(alloc: Global, text: &str) -> Result<Vec<u8>, Fault> {
         let Some(digits) = text.strip_prefix("\\x") else {
             return Err(no_value());

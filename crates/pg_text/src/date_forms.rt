@@ -1,5 +1,7 @@
 //! The texts that dates, times of day and timestamps are made of.
-ghost use Rattle.std.specs.Prelude.{◌<◌};
+ghost use Rattle.std.specs.Prelude.{◌≡◌, ◌<◌, ◌++◌, [], ℕ, ℤ, List, IfSome, OnOk};
+ghost use Rattle.pg_text.specs.Scans.{TakesClock, TakesDay, TakesEra};
+ghost use Rattle.pg_text.specs.Times.{clock_text, day_text, era_text, timestamp_text, year_of_era};
 
 use crate::calendar::Civil;
 use crate::digits::{push_fraction, push_padded};
@@ -76,21 +78,31 @@ impl DateTime {
 }
 
 /// Appends the date without its era. Years before year 1 are counted from 1 back.
-pub fn push_date(date: Civil, out: &mut Vec<u8>) -> Result<(), AllocError> {
-    let year = if date.year > 0 {
-        date.year.unsigned_abs()
-    } else {
-        date.year.unsigned_abs().saturating_add(1)
-    };
-    push_padded(year, 4, out)?;
+pub fn push_date(date: Civil, out: &mut Vec<u8>) -> Result<(), AllocError>
+    ensures { OnOk result (out.new.items ≡ out.old.items ++ day_text date.year date.month date.day) }
+{
+    push_padded(year_of_era(date.year), 4, out)?;
     out.push(b'-')?;
     push_padded(u64::from(date.month), 2, out)?;
     out.push(b'-')?;
     push_padded(u64::from(date.day), 2, out)
 }
 
+/// The number of a year in its era.
+fn year_of_era(year: i64) -> u64
+    ensures { result ≡ year_of_era year }
+{
+    if year > 0 {
+        year.unsigned_abs()
+    } else {
+        year.unsigned_abs() + 1
+    }
+}
+
 /// Appends the era of a year before year 1, and nothing for another.
-pub fn push_era(date: Civil, out: &mut Vec<u8>) -> Result<(), AllocError> {
+pub fn push_era(date: Civil, out: &mut Vec<u8>) -> Result<(), AllocError>
+    ensures { OnOk result (out.new.items ≡ out.old.items ++ era_text date.year) }
+{
     if date.year > 0 {
         return Ok(());
     }
@@ -98,7 +110,10 @@ pub fn push_era(date: Civil, out: &mut Vec<u8>) -> Result<(), AllocError> {
 }
 
 /// Appends the time of day, with a fraction of the second where there is one.
-pub fn push_clock(clock: Clock, out: &mut Vec<u8>) -> Result<(), AllocError> {
+pub fn push_clock(clock: Clock, out: &mut Vec<u8>) -> Result<(), AllocError>
+    ensures { OnOk result (out.new.items ≡ out.old.items
+        ++ clock_text clock.hour clock.minute clock.second clock.micros) }
+{
     push_padded(u64::from(clock.hour), 2, out)?;
     out.push(b':')?;
     push_padded(u64::from(clock.minute), 2, out)?;
@@ -108,7 +123,11 @@ pub fn push_clock(clock: Clock, out: &mut Vec<u8>) -> Result<(), AllocError> {
 }
 
 /// Appends the date, the time of day, the zone and the era.
-pub fn push_datetime(datetime: DateTime, zone: &[u8], out: &mut Vec<u8>) -> Result<(), AllocError> {
+pub fn push_datetime(datetime: DateTime, zone: &[u8], out: &mut Vec<u8>) -> Result<(), AllocError>
+    ensures { OnOk result (out.new.items ≡ out.old.items
+        ++ timestamp_text datetime.date.year datetime.date.month datetime.date.day
+        (clock_text datetime.clock.hour datetime.clock.minute datetime.clock.second datetime.clock.micros) zone.now) }
+{
     push_date(datetime.date, out)?;
     out.push(b' ')?;
     push_clock(datetime.clock, out)?;
@@ -117,7 +136,9 @@ pub fn push_datetime(datetime: DateTime, zone: &[u8], out: &mut Vec<u8>) -> Resu
 }
 
 /// Takes a date without its era.
-fn take_date(scanner: &mut Scanner<'_>) -> Option<Civil> {
+fn take_date(scanner: &mut Scanner<'_>) -> Option<Civil>
+    ensures { IfSome result (λ d. TakesDay scanner.old.rest.now d.year d.month d.day scanner.new.rest.now) }
+{
     let year = i64::try_from(scanner.number()?).ok()?;
     if year == 0 {
         return None;
@@ -130,7 +151,10 @@ fn take_date(scanner: &mut Scanner<'_>) -> Option<Civil> {
 }
 
 /// Takes the era that comes at the end: the date in that era.
-fn take_era(date: Civil, scanner: &mut Scanner<'_>) -> Option<Civil> {
+fn take_era(date: Civil, scanner: &mut Scanner<'_>) -> Option<Civil>
+    ensures { IfSome result (λ d. TakesEra scanner.old.rest.now date.year d.year × (d.month ≡ date.month)
+        × (d.day ≡ date.day)) }
+{
     let year = if scanner.take(b" BC") {
         1i64.checked_sub(date.year)?
     } else {
@@ -144,7 +168,10 @@ fn take_era(date: Civil, scanner: &mut Scanner<'_>) -> Option<Civil> {
 }
 
 /// Takes a time of day.
-fn take_clock(scanner: &mut Scanner<'_>) -> Option<Clock> {
+fn take_clock(scanner: &mut Scanner<'_>) -> Option<Clock>
+    ensures { IfSome result (λ c. TakesClock scanner.old.rest.now c.hour c.minute c.second c.micros
+        scanner.new.rest.now) }
+{
     let hour = scanner.number_u32()?;
     scanner.expect(b":")?;
     let minute = scanner.number_u32()?;
@@ -160,14 +187,19 @@ fn take_clock(scanner: &mut Scanner<'_>) -> Option<Clock> {
 }
 
 /// The date of a text.
-pub fn parse_date(text: &str) -> Option<Civil> {
+pub fn parse_date(text: &str) -> Option<Civil>
+    ensures { IfSome result (λ d. (inside : ℤ) × (rest : List ℕ) × TakesDay text.now inside d.month d.day rest
+        × TakesEra rest inside d.year) }
+{
     let mut scanner = Scanner::new(text);
     let date = take_date(&mut scanner)?;
     take_era(date, &mut scanner)
 }
 
 /// The time of day of a text.
-pub fn parse_clock(text: &str) -> Option<Clock> {
+pub fn parse_clock(text: &str) -> Option<Clock>
+    ensures { IfSome result (λ c. TakesClock text.now c.hour c.minute c.second c.micros []) }
+{
     let mut scanner = Scanner::new(text);
     let clock = take_clock(&mut scanner)?;
     if scanner.is_done() { Some(clock) } else { None }

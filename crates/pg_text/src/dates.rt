@@ -1,4 +1,10 @@
 //! Dates, times of day and timestamps, of `jiff` and of our own, with and without infinities.
+ghost use Rattle.std.specs.Prelude.{◌≡◌, ◌*◌, ◌/◌, [], IfSome};
+ghost use Rattle.postgres_types.specs.Special.{date_view, timestamp_view};
+ghost use Rattle.pg_text.specs.Scans.{SaysDate, SaysTime};
+ghost use Rattle.pg_text.specs.Specials.{SaysSpecial, ShowsSpecial};
+ghost use Rattle.pg_text.specs.Texts.{Shows};
+ghost use Rattle.pg_text.specs.Times.{date_text, datetime_text, time_text};
 
 use crate::calendar::Civil;
 use crate::date_forms::{
@@ -17,7 +23,9 @@ const POSTGRES_EPOCH_DAY: i64 = 10_957;
 const UTC: &[u8] = b"+00";
 
 /// The date of `jiff`'s.
-fn civil_of(date: civil::Date) -> Civil {
+fn civil_of(date: civil::Date) -> Civil
+    ensures { (result.year ≡ date.year) × (result.month ≡ date.month) × (result.day ≡ date.day) }
+{
     Civil {
         year: i64::from(date.year()),
         month: u32::from(date.month().unsigned_abs()),
@@ -26,7 +34,10 @@ fn civil_of(date: civil::Date) -> Civil {
 }
 
 /// The time of day of `jiff`'s.
-fn clock_of(time: civil::Time) -> Clock {
+fn clock_of(time: civil::Time) -> Clock
+    ensures { (result.hour ≡ time.hour) × (result.minute ≡ time.minute) × (result.second ≡ time.second)
+        × (result.micros ≡ time.subsec_nanosecond / 1_000) }
+{
     Clock {
         hour: u32::from(time.hour().unsigned_abs()),
         minute: u32::from(time.minute().unsigned_abs()),
@@ -36,7 +47,9 @@ fn clock_of(time: civil::Time) -> Clock {
 }
 
 /// `jiff`'s date; `None` where it has none.
-fn jiff_date(date: Civil) -> Option<civil::Date> {
+fn jiff_date(date: Civil) -> Option<civil::Date>
+    ensures { IfSome result (λ d. (d.year ≡ date.year) × (d.month ≡ date.month) × (d.day ≡ date.day)) }
+{
     let year = i16::try_from(date.year).ok()?;
     let month = i8::try_from(date.month).ok()?;
     let day = i8::try_from(date.day).ok()?;
@@ -44,7 +57,10 @@ fn jiff_date(date: Civil) -> Option<civil::Date> {
 }
 
 /// `jiff`'s time of day; `None` where there is no such time.
-fn jiff_time(clock: Clock) -> Option<civil::Time> {
+fn jiff_time(clock: Clock) -> Option<civil::Time>
+    ensures { IfSome result (λ t. (t.hour ≡ clock.hour) × (t.minute ≡ clock.minute) × (t.second ≡ clock.second)
+        × (t.subsec_nanosecond ≡ clock.micros * 1_000)) }
+{
     let hour = i8::try_from(clock.hour).ok()?;
     let minute = i8::try_from(clock.minute).ok()?;
     let second = i8::try_from(clock.second).ok()?;
@@ -54,6 +70,8 @@ fn jiff_time(clock: Clock) -> Option<civil::Time> {
 
 /// `2000-01-31` (`date_out`).
 impl ToText for civil::Date {
+    ghost shows = { Shows date_text };
+
     fn to_text(&self, _alloc: Global, out: &mut Vec<u8>) -> Result<(), AllocError> {
         let date = civil_of(*self);
         push_date(date, out)?;
@@ -62,6 +80,8 @@ impl ToText for civil::Date {
 }
 
 impl FromText for civil::Date {
+    ghost says = { SaysDate };
+
     fn from_text(_alloc: Global, text: &str) -> Result<civil::Date, Fault> {
         parse_date(text).and_then(jiff_date).ok_or(no_value())
     }
@@ -69,12 +89,16 @@ impl FromText for civil::Date {
 
 /// `23:59:59.5` (`time_out`).
 impl ToText for civil::Time {
+    ghost shows = { Shows time_text };
+
     fn to_text(&self, _alloc: Global, out: &mut Vec<u8>) -> Result<(), AllocError> {
         push_clock(clock_of(*self), out)
     }
 }
 
 impl FromText for civil::Time {
+    ghost says = { SaysTime };
+
     fn from_text(_alloc: Global, text: &str) -> Result<civil::Time, Fault> {
         parse_clock(text).and_then(jiff_time).ok_or(no_value())
     }
@@ -82,6 +106,8 @@ impl FromText for civil::Time {
 
 /// `2000-01-31 23:59:59.5` (`timestamp_out`).
 impl ToText for civil::DateTime {
+    ghost shows = { Shows (datetime_text []) };
+
     fn to_text(&self, _alloc: Global, out: &mut Vec<u8>) -> Result<(), AllocError> {
         let datetime = DateTime {
             date: civil_of(self.date()),
@@ -148,6 +174,8 @@ impl FromText for UnixTime {
 
 /// `infinity`, `-infinity` or the date.
 impl<T: ToText> ToText for Date<T> {
+    ghost shows = { λ v. ShowsSpecial T.shows (date_view v) };
+
     fn to_text(&self, alloc: Global, out: &mut Vec<u8>) -> Result<(), AllocError> {
         match self {
             Date::PosInfinity => out.extend_from_slice(b"infinity"),
@@ -158,6 +186,8 @@ impl<T: ToText> ToText for Date<T> {
 }
 
 impl<T: FromText> FromText for Date<T> {
+    ghost says = { λ text v. SaysSpecial T.says text (date_view v) };
+
     fn from_text(alloc: Global, text: &str) -> Result<Date<T>, Fault> {
         match text {
             "infinity" => Ok(Date::PosInfinity),
@@ -169,6 +199,8 @@ impl<T: FromText> FromText for Date<T> {
 
 /// `infinity`, `-infinity` or the timestamp.
 impl<T: ToText> ToText for Timestamp<T> {
+    ghost shows = { λ v. ShowsSpecial T.shows (timestamp_view v) };
+
     fn to_text(&self, alloc: Global, out: &mut Vec<u8>) -> Result<(), AllocError> {
         match self {
             Timestamp::PosInfinity => out.extend_from_slice(b"infinity"),
@@ -179,6 +211,8 @@ impl<T: ToText> ToText for Timestamp<T> {
 }
 
 impl<T: FromText> FromText for Timestamp<T> {
+    ghost says = { λ text v. SaysSpecial T.says text (timestamp_view v) };
+
     fn from_text(alloc: Global, text: &str) -> Result<Timestamp<T>, Fault> {
         match text {
             "infinity" => Ok(Timestamp::PosInfinity),

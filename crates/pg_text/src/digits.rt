@@ -1,6 +1,9 @@
 //! Numbers in decimal digits.
 
-ghost use Rattle.std.specs.Prelude.{◌≡◌, ◌<◌, ◌++◌, OnOk};
+ghost use Rattle.std.specs.Prelude.{◌≡◌, ◌<◌, ◌≤◌, ◌-◌, ◌==◌, ◌++◌, OnOk, drop, length, replicate};
+ghost use Rattle.std.specs.Fmt.{digit_glyph, digits};
+ghost use Rattle.std.specs.List.{suffix_len};
+ghost use Rattle.pg_text.specs.Times.{fraction_text, padded_text};
 
 use itoa::{Buffer, Integer};
 use std::alloc::AllocError;
@@ -14,43 +17,90 @@ pub fn push_number<I: Integer>(number: I, out: &mut Vec<u8>) -> Result<(), Alloc
 }
 
 /// Appends the number in at least `width` digits, of which the first may be 0.
-pub fn push_padded(number: u64, width: usize, out: &mut Vec<u8>) -> Result<(), AllocError> {
+pub fn push_padded(number: u64, width: usize, out: &mut Vec<u8>) -> Result<(), AllocError>
+    ensures { OnOk result (out.new.items ≡ out.old.items ++ padded_text width number) }
+{
     let mut buffer = Buffer::new();
     let digits = buffer.format(number).as_bytes();
-    for _ in digits.len()..width {
+    push_zeros(width.saturating_sub(digits.len()), out)?;
+    out.extend_from_slice(digits)
+}
+
+/// Appends so many zeros.
+fn push_zeros(count: usize, out: &mut Vec<u8>) -> Result<(), AllocError>
+    ensures { OnOk result (out.new.items ≡ out.old.items ++ replicate count 48) }
+{
+    for place in 0..count {
         out.push(b'0')?;
     }
-    out.extend_from_slice(digits)
+    Ok(())
 }
 
 /// Appends the parts of a million as digits after a point, without zeros at the end; nothing where
 /// there are none.
-pub fn push_fraction(millionths: u32, out: &mut Vec<u8>) -> Result<(), AllocError> {
+pub fn push_fraction(millionths: u32, out: &mut Vec<u8>) -> Result<(), AllocError>
+    ensures { OnOk result (out.new.items ≡ out.old.items ++ fraction_text millionths) }
+{
     if millionths == 0 {
         return Ok(());
     }
     out.push(b'.')?;
+    let start = out.len();
     push_padded(u64::from(millionths), 6, out)?;
-    let zeros = out.iter().rev().take_while(|digit| **digit == b'0').count();
-    out.truncate(out.len().saturating_sub(zeros));
+    let len = len_without_zeros(&out.as_slice()[start..]);
+    out.truncate(start + len);
     Ok(())
 }
 
-/// Appends the number in hexadecimal digits without zeros before it; `ten` is the letter of ten.
-pub fn push_hex_number(number: u64, ten: u8, out: &mut Vec<u8>) -> Result<(), AllocError>
-    requires { ten < 128 }
+/// The length of the text without the zeros at its end.
+fn len_without_zeros(text: &[u8]) -> usize
+    ensures value { result ≡ length text.now - suffix_len (λ c. c == 48) text.now }
+    ensures bound { result ≤ length text.now }
 {
-    let mut has_digit = false;
-    for place in (0..16u32).rev() {
-        let digit = (number >> (4 * place) & 15) as u8;
-        has_digit = has_digit || digit > 0 || place == 0;
-        if has_digit {
-            out.push(if digit < 10 {
-                b'0' + digit
-            } else {
-                ten + digit - 10
-            })?;
+    let mut len = text.len();
+    while len > 0 && text[len - 1] == b'0' {
+        len -= 1;
+    }
+    len
+}
+
+/// Appends the number in hexadecimal digits without zeros before it.
+pub fn push_hex_number(number: u64, is_upper: bool, out: &mut Vec<u8>) -> Result<(), AllocError>
+    ensures { OnOk result (out.new.items ≡ out.old.items ++ digits 16 is_upper number) }
+{
+    let mut buffer = [0; 64];
+    let start = write_hex_number(number, is_upper, &mut buffer);
+    out.extend_from_slice(&buffer[start..])
+}
+
+/// Writes the digits at the end of the buffer, and answers where they start.
+fn write_hex_number(number: u64, is_upper: bool, buffer: &mut [u8; 64]) -> usize
+    ensures bound { result ≤ 64 }
+    ensures value { drop result buffer.new ≡ digits 16 is_upper number }
+{
+    let mut start = 64;
+    let mut rest = number;
+    while start > 0 {
+        start -= 1;
+        buffer[start] = hex_digit((rest % 16) as u8, is_upper);
+        rest /= 16;
+        if rest == 0 {
+            break;
         }
     }
-    Ok(())
+    start
+}
+
+/// The digit of a number below 16.
+fn hex_digit(number: u8, is_upper: bool) -> u8
+    requires { number < 16 }
+    ensures { result ≡ digit_glyph is_upper number }
+{
+    if number < 10 {
+        b'0' + number
+    } else if is_upper {
+        b'A' + (number - 10)
+    } else {
+        b'a' + (number - 10)
+    }
 }

@@ -1,42 +1,79 @@
 //! Maps.
+ghost use Rattle.std.specs.Prelude.{◌≡◌, ◌++◌, IfOk, OnOk, map};
+ghost use Rattle.std.specs.List.Sorted.{IsPermutation, IsSortedByKey};
+ghost use Rattle.postgres_types.specs.Hstore.{borrowed_entry, owned_entry};
+ghost use Rattle.pg_text.specs.Maps.{ShowsMap, comma_at, entries_text, entry_text, key_order};
 
 use crate::quotes::{Escape, push_quoted};
 use crate::scanner::Scanner;
 use crate::{FromText, ToText, no_value};
 use postgres_types::Fault;
 use std::alloc::{AllocError, Global};
-use std::cmp::Ordering;
 use std::collections::HashMap;
 
 /// What an hstore is read as.
 pub type Map = HashMap<String, Option<String>>;
 
 /// An entry of a map.
-type Entry<'a> = (&'a String, &'a Option<String>);
+type Entry<'a> = (&'a str, Option<&'a str>);
 
-/// The order of hstore: shorter keys first, and those of one length by their bytes.
-fn by_key(left: &Entry<'_>, right: &Entry<'_>) -> Ordering {
-    let (left, right) = (left.0.as_bytes(), right.0.as_bytes());
-    left.len().cmp(&right.len()).then(left.cmp(right))
+/// `"k"=>"v", "n"=>NULL` (`hstore_out`), in the order of hstore: shorter keys first, and those of
+/// one length by their bytes.
+impl ToText for Map {
+    ghost shows = { λ m. ShowsMap (map owned_entry m.entries) };
+
+    fn to_text(&self, alloc: Global, out: &mut Vec<u8>) -> Result<(), AllocError> {
+        let entries = sorted_entries(alloc, self)?;
+        push_entries(entries.as_slice(), out)
+    }
 }
 
-/// `"k"=>"v", "n"=>NULL` (`hstore_out`).
-impl ToText for Map {
-    fn to_text(&self, alloc: Global, out: &mut Vec<u8>) -> Result<(), AllocError> {
-        let mut entries: Vec<Entry<'_>> = self.iter().collect(alloc)?;
-        entries.sort_unstable_by(|left, right| by_key(left, right));
-        for (place, (key, value)) in entries.iter().enumerate() {
-            if place > 0 {
-                out.extend_from_slice(b", ")?;
-            }
-            push_quoted(key.as_bytes(), Escape::Backslash, out)?;
-            out.extend_from_slice(b"=>")?;
-            match value {
-                Some(value) => push_quoted(value.as_bytes(), Escape::Backslash, out)?,
-                None => out.extend_from_slice(b"NULL")?,
-            }
-        }
+/// The map's entries in the order of hstore.
+fn sorted_entries<'a>(alloc: Global, store: &'a Map) -> Result<Vec<Entry<'a>>, AllocError>
+    ensures permutation { IfOk result (λ v.
+        IsPermutation (map owned_entry store.now.entries) (map borrowed_entry v.items)) }
+    ensures sorted { IfOk result (λ v. IsSortedByKey (λ e. e.0) key_order (map borrowed_entry v.items)) }
+{
+    let mut entries = Vec::with_capacity(alloc, store.len())?;
+    for (key, value) in store.iter() {
+        let value = value.as_ref().map(|text| text.as_str());
+        entries.push((key.as_str(), value))?;
+    }
+    entries.sort_unstable_by_key(|entry| (entry.0.len(), entry.0));
+    Ok(entries)
+}
+
+/// Appends the entries with a comma and a space between.
+fn push_entries(entries: &[Entry<'_>], out: &mut Vec<u8>) -> Result<(), AllocError>
+    ensures { OnOk result (out.new.items ≡ out.old.items ++ entries_text (map borrowed_entry entries.now)) }
+{
+    for (place, entry) in entries.iter().enumerate() {
+        push_comma(place, out)?;
+        push_entry(*entry, out)?;
+    }
+    Ok(())
+}
+
+/// Appends a comma and a space before each entry but the first.
+fn push_comma(place: usize, out: &mut Vec<u8>) -> Result<(), AllocError>
+    ensures { OnOk result (out.new.items ≡ out.old.items ++ comma_at place) }
+{
+    if place > 0 {
+        out.extend_from_slice(b", ")
+    } else {
         Ok(())
+    }
+}
+
+/// Appends a key and its value.
+fn push_entry(pair: Entry<'_>, out: &mut Vec<u8>) -> Result<(), AllocError>
+    ensures { OnOk result (out.new.items ≡ out.old.items ++ entry_text (borrowed_entry pair.entry)) }
+{
+    push_quoted(pair.0.as_bytes(), Escape::Backslash, out)?;
+    out.extend_from_slice(b"=>")?;
+    match pair.1 {
+        Some(value) => push_quoted(value.as_bytes(), Escape::Backslash, out),
+        None => out.extend_from_slice(b"NULL"),
     }
 }
 

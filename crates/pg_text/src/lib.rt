@@ -15,12 +15,14 @@ mod digits;
 mod documents;
 pub mod hstore;
 mod intervals;
-mod items;
+pub mod items;
+pub mod laws;
 mod network;
 mod numbers;
 mod quotes;
-mod records;
+pub mod records;
 mod scanner;
+mod separators;
 mod small;
 mod texts;
 

@@ -1,4 +1,6 @@
 //! Texts in double quotes, within a text of many values.
+ghost use Rattle.std.specs.Prelude.{◌≡◌, ◌++◌, OnOk};
+ghost use Rattle.pg_text.specs.Quotes.{escape_of, escaped, is_escaped, is_space, quoted};
 
 use std::alloc::AllocError;
 
@@ -11,23 +13,50 @@ pub enum Escape {
     Twice,
 }
 
+impl Escape {
+    /// The byte before this one.
+    fn before(self, byte: u8) -> u8
+        ensures { result ≡ escape_of self byte }
+    {
+        match self {
+            Escape::Backslash => b'\\',
+            Escape::Twice => byte,
+        }
+    }
+}
+
 /// Appends the text in double quotes.
-pub fn push_quoted(text: &[u8], escape: Escape, out: &mut Vec<u8>) -> Result<(), AllocError> {
+pub fn push_quoted(text: &[u8], escape: Escape, out: &mut Vec<u8>) -> Result<(), AllocError>
+    ensures { OnOk result (out.new.items ≡ out.old.items ++ quoted escape text.now) }
+{
     out.push(b'"')?;
     for byte in text {
-        if matches!(*byte, b'"' | b'\\') {
-            let before = match escape {
-                Escape::Backslash => b'\\',
-                Escape::Twice => *byte,
-            };
-            out.push(before)?;
-        }
-        out.push(*byte)?;
+        push_escaped(*byte, escape, out)?;
     }
     Ok(out.push(b'"')?)
 }
 
+/// Appends a byte within quotes.
+fn push_escaped(byte: u8, escape: Escape, out: &mut Vec<u8>) -> Result<(), AllocError>
+    ensures { OnOk result (out.new.items ≡ out.old.items ++ escaped escape byte) }
+{
+    if !is_escaped(byte) {
+        return Ok(out.push(byte)?);
+    }
+    out.push(escape.before(byte))?;
+    Ok(out.push(byte)?)
+}
+
+/// Whether the byte is a quote or a backslash.
+pub fn is_escaped(byte: u8) -> bool
+    ensures { result ≡ is_escaped byte }
+{
+    byte == b'"' || byte == b'\\'
+}
+
 /// Whether the byte is white space to PostgreSQL.
-pub fn is_space(byte: u8) -> bool {
-    matches!(byte, b' ' | b'\t'..=b'\r')
+pub fn is_space(byte: u8) -> bool
+    ensures { result ≡ is_space byte }
+{
+    byte == b' ' || byte >= b'\t' && byte <= b'\r'
 }

@@ -1,31 +1,20 @@
-//! Composite types.
+//! The fields of composite types, in the texts of their values: in parentheses, with commas between, and nothing for
+//! NULL (`record_out`).
+ghost use Rattle.std.specs.Prelude.{◌≡◌, ◌||◌, ◌==◌, ◌++◌, OnOk, length};
+ghost use Rattle.std.specs.List.{list_any};
+ghost use Rattle.pg_text.specs.Quotes.{field_text, is_record_sign};
 
-use crate::digits::push_number;
 use crate::items::Items;
-use crate::quotes::{Escape, is_space, push_quoted};
-use crate::{FromText, ToText, no_value};
-use pg_record::InventoryItem;
+use crate::no_value;
+use crate::quotes::{Escape, is_escaped, is_space, push_quoted};
 use postgres_types::Fault;
-use std::alloc::{AllocError, Global};
+use std::alloc::AllocError;
 
-/// The fields in parentheses, with commas between, and nothing for NULL (`record_out`). A field is in
-/// quotes where it is empty, or holds white space, a comma, a parenthesis, a quote or a backslash.
-impl ToText for InventoryItem {
-    fn to_text(&self, _alloc: Global, out: &mut Vec<u8>) -> Result<(), AllocError> {
-        out.push(b'(')?;
-        push_field(self.name.as_bytes(), out)?;
-        out.push(b',')?;
-        push_number(self.supplier_id, out)?;
-        out.push(b',')?;
-        if let Some(price) = self.price {
-            push_number(price, out)?;
-        }
-        Ok(out.push(b')')?)
-    }
-}
-
-/// Appends a field's text, in quotes where it needs them.
-fn push_field(text: &[u8], out: &mut Vec<u8>) -> Result<(), AllocError> {
+/// Appends a field's text, in quotes where it is empty, or holds white space, a comma, a parenthesis, a quote or a
+/// backslash.
+pub fn push_field(text: &[u8], out: &mut Vec<u8>) -> Result<(), AllocError>
+    ensures { OnOk result (out.new.items ≡ out.old.items ++ field_text text.now) }
+{
     if needs_quotes(text) {
         push_quoted(text, Escape::Twice, out)
     } else {
@@ -34,52 +23,31 @@ fn push_field(text: &[u8], out: &mut Vec<u8>) -> Result<(), AllocError> {
 }
 
 /// Whether the text is not a field without quotes.
-fn needs_quotes(text: &[u8]) -> bool {
-    text.is_empty()
-        || text.iter().any(|byte| {
-            matches!(*byte, b'"' | b'\\' | b'(' | b')' | b',') || is_space(*byte)
-        })
+fn needs_quotes(text: &[u8]) -> bool
+    ensures { result ≡ (length text.now == 0 || list_any is_record_sign text.now) }
+{
+    text.is_empty() || has_record_sign(text)
 }
 
-impl FromText for InventoryItem {
-    fn from_text(alloc: Global, text: &str) -> Result<InventoryItem, Fault> {
-        let [b'(', fields @ .., b')'] = text.as_bytes() else {
-            return Err(no_value());
-        };
-        let mut rest = fields;
-        let mut field = Vec::new(alloc);
-        let name = take_field(alloc, &mut rest, true, &mut field)?;
-        let supplier_id = take_field(alloc, &mut rest, true, &mut field)?;
-        let price = take_field(alloc, &mut rest, false, &mut field)?;
-        match (name, supplier_id) {
-            (Some(name), Some(supplier_id)) => Ok(InventoryItem {
-                name,
-                supplier_id,
-                price,
-            }),
-            _ => Err(no_value()),
-        }
-    }
+/// Whether a byte stands in no field without quotes.
+fn has_record_sign(text: &[u8]) -> bool
+    ensures { result ≡ list_any is_record_sign text.now }
+{
+    text.iter().any(|byte| is_record_sign(*byte))
 }
 
-/// Takes the field at the front of the text, which is the last one or not.
-fn take_field<T: FromText>(
-    alloc: Global,
-    rest: &mut &[u8],
-    has_next: bool,
-    field: &mut Vec<u8>,
-) -> Result<Option<T>, Fault> {
-    let Some(item) = Items::OfRecord.next(rest, field)? else {
-        return Err(no_value());
-    };
-    if item.has_comma != has_next {
-        return Err(no_value());
-    }
-    if item.is_null {
-        return Ok(None);
-    }
-    match str::from_utf8(field.as_slice()) {
-        Ok(text) => Ok(Some(T::from_text(alloc, text)?)),
-        Err(_) => Err(no_value()),
+/// Whether the byte stands in no field without quotes.
+fn is_record_sign(byte: u8) -> bool
+    ensures { result ≡ is_record_sign byte }
+{
+    is_escaped(byte) || byte == b'(' || byte == b')' || byte == b',' || is_space(byte)
+}
+
+/// Takes the field at the front of the fields, after which another one comes or none, makes `field` its text, and
+/// answers whether it is NULL. Where there is no such field it is the fault `User`.
+pub fn take_field(rest: &mut &[u8], has_next: bool, field: &mut Vec<u8>) -> Result<bool, Fault> {
+    match Items::OfRecord.next(rest, field)? {
+        Some(item) if item.has_comma == has_next => Ok(item.is_null),
+        _ => Err(no_value()),
     }
 }

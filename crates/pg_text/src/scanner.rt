@@ -1,5 +1,6 @@
 //! Reading a text from its front.
-ghost use Rattle.std.specs.Prelude.{◌≤◌, length};
+ghost use Rattle.std.specs.Prelude.{◌≡◌, ◌==◌, ◌++◌, IfSome, MatchBool, length};
+ghost use Rattle.pg_text.specs.Scans.{SaysMillionths, TakesFraction, TakesNumber};
 
 /// What is left of a text.
 #[derive(Debug, Clone, Copy)]
@@ -9,14 +10,18 @@ pub struct Scanner<'a> {
 
 impl<'a> Scanner<'a> {
     /// The whole text.
-    pub fn new(text: &'a str) -> Scanner<'a> {
+    pub fn new(text: &'a str) -> Scanner<'a>
+        ensures { result.rest.now ≡ text.entry.now }
+    {
         Scanner {
             rest: text.as_bytes(),
         }
     }
 
     /// Whether nothing is left.
-    pub fn is_done(&self) -> bool {
+    pub fn is_done(&self) -> bool
+        ensures { result ≡ (length self.now.rest.now == 0) }
+    {
         self.rest.is_empty()
     }
 
@@ -26,7 +31,10 @@ impl<'a> Scanner<'a> {
     }
 
     /// Takes the word where the text goes on with it, and says whether it does.
-    pub fn take(&mut self, word: &[u8]) -> bool {
+    pub fn take(&mut self, word: &[u8]) -> bool
+        ensures { MatchBool result (self.old.rest.now ≡ word.now ++ self.new.rest.now)
+            (self.new.rest.now ≡ self.old.rest.now) }
+    {
         match self.rest.strip_prefix(word) {
             Some(rest) => {
                 self.rest = rest;
@@ -37,12 +45,16 @@ impl<'a> Scanner<'a> {
     }
 
     /// Takes the word; `None` where the text does not go on with it.
-    pub fn expect(&mut self, word: &[u8]) -> Option<()> {
+    pub fn expect(&mut self, word: &[u8]) -> Option<()>
+        ensures { IfSome result (λ _. self.old.rest.now ≡ word.now ++ self.new.rest.now) }
+    {
         if self.take(word) { Some(()) } else { None }
     }
 
     /// Takes the decimal digits that come next.
-    pub fn digits(&mut self) -> &'a [u8] {
+    pub fn digits(&mut self) -> &'a [u8]
+        ensures { self.old.rest.now ≡ result.now ++ self.new.rest.now }
+    {
         let len = self
             .rest
             .iter()
@@ -59,28 +71,32 @@ impl<'a> Scanner<'a> {
 
     /// Takes the number whose decimal digits come next; `None` where there is no digit, or the
     /// number leaves 64 bits.
-    pub fn number(&mut self) -> Option<u64> {
+    pub fn number(&mut self) -> Option<u64>
+        ensures { IfSome result (λ n. TakesNumber self.old.rest.now n self.new.rest.now) }
+    {
         str::from_utf8(self.digits()).ok()?.parse().ok()
     }
 
     /// The same of a number of 32 bits.
-    pub fn number_u32(&mut self) -> Option<u32> {
+    pub fn number_u32(&mut self) -> Option<u32>
+        ensures { IfSome result (λ n. TakesNumber self.old.rest.now n self.new.rest.now) }
+    {
         u32::try_from(self.number()?).ok()
     }
 
     /// Takes a point and up to six digits, where they come next: how many parts of a million they
     /// are. `None` where a point has no digit after it, or more.
-    pub fn fraction(&mut self) -> Option<u32> {
+    pub fn fraction(&mut self) -> Option<u32>
+        ensures { IfSome result (λ n. TakesFraction self.old.rest.now n self.new.rest.now) }
+    {
         if !self.take(b".") {
             return Some(0);
         }
         let digits = self.digits();
-        if digits.is_empty() || digits.len() > 6 {
+        if digits.len() > 6 {
             return None;
         }
-        let mut millionths = *b"000000";
-        millionths[..digits.len()].copy_from_slice(digits);
-        str::from_utf8(&millionths).ok()?.parse().ok()
+        millionths(digits)
     }
 
     /// Takes a text in double quotes, in which a backslash stands before a quote and a backslash,
@@ -107,4 +123,13 @@ impl<'a> Scanner<'a> {
         }
         Ok(None)
     }
+}
+
+/// The parts of a million that the digits after a point are; `None` where there is no digit.
+fn millionths(digits: &[u8]) -> Option<u32>
+    ensures { IfSome result (λ micros. SaysMillionths digits.now micros) }
+{
+    let number: u32 = str::from_utf8(digits).ok()?.parse().ok()?;
+    let places = (6usize.saturating_sub(digits.len())) as u32;
+    number.checked_mul(10u32.checked_pow(places)?)
 }

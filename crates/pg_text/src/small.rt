@@ -1,12 +1,11 @@
-//! Identifiers, log positions, labels and domains.
-ghost use Rattle.std.specs.Prelude.{◌≡◌};
-ghost use Rattle.pg_record.specs.Moods.{label};
-ghost use Rattle.pg_text.specs.Texts.{Shows, bytes_text};
-ghost use Rattle.uuid.specs.Text.{hyphenated_text, lower};
+//! Identifiers and log positions.
+ghost use Rattle.std.specs.Prelude.{◌≡◌, Some};
+ghost use Rattle.pg_text.specs.Texts.{Shows};
+ghost use Rattle.postgres_types.specs.Lsn.{lsn_of, lsn_text};
+ghost use Rattle.uuid.specs.Text.{hyphenated_text, lower, parsed};
 
 use crate::digits::push_hex_number;
 use crate::{FromText, ToText, no_value};
-use pg_record::{Mood, SessionId};
 use postgres_types::{Fault, PgLsn};
 use std::alloc::{AllocError, Global};
 use uuid::Uuid;
@@ -23,6 +22,8 @@ impl ToText for Uuid {
 }
 
 impl FromText for Uuid {
+    ghost says = { λ text v. parsed text ≡ Some v };
+
     fn from_text(_alloc: Global, text: &str) -> Result<Uuid, Fault> {
         Uuid::try_parse(text).map_err(|_| no_value())
     }
@@ -30,58 +31,20 @@ impl FromText for Uuid {
 
 /// Both halves in hexadecimal digits, with a slash between (`pg_lsn_out`).
 impl ToText for PgLsn {
+    ghost shows = { Shows lsn_text };
+
     fn to_text(&self, _alloc: Global, out: &mut Vec<u8>) -> Result<(), AllocError> {
         let position = u64::from(*self);
-        push_hex_number(position >> 32, b'A', out)?;
+        push_hex_number(position >> 32, true, out)?;
         out.push(b'/')?;
-        push_hex_number(position & 0xffff_ffff, b'A', out)
+        push_hex_number(position & 0xffff_ffff, true, out)
     }
 }
 
 impl FromText for PgLsn {
+    ghost says = { λ text v. lsn_of text ≡ Some v };
+
     fn from_text(_alloc: Global, text: &str) -> Result<PgLsn, Fault> {
         text.parse().map_err(|_| no_value())
-    }
-}
-
-/// The label (`enum_out`).
-impl ToText for Mood {
-    ghost shows = { Shows label };
-
-    fn to_text(&self, _alloc: Global, out: &mut Vec<u8>) -> Result<(), AllocError> {
-        let label = match self {
-            Mood::Sad => "Sad",
-            Mood::Ok => "Ok",
-            Mood::Happy => "Happy",
-        };
-        out.extend_from_slice(label.as_bytes())
-    }
-}
-
-impl FromText for Mood {
-    ghost says = { λ text v. text ≡ label v };
-
-    fn from_text(_alloc: Global, text: &str) -> Result<Mood, Fault> {
-        match text {
-            "Sad" => Ok(Mood::Sad),
-            "Ok" => Ok(Mood::Ok),
-            "Happy" => Ok(Mood::Happy),
-            _ => Err(no_value()),
-        }
-    }
-}
-
-/// The text of its bytes.
-impl ToText for SessionId {
-    ghost shows = { Shows (λ v. bytes_text v.0.items) };
-
-    fn to_text(&self, alloc: Global, out: &mut Vec<u8>) -> Result<(), AllocError> {
-        self.0.as_slice().to_text(alloc, out)
-    }
-}
-
-impl FromText for SessionId {
-    fn from_text(alloc: Global, text: &str) -> Result<SessionId, Fault> {
-        Ok(SessionId(Vec::from_text(alloc, text)?))
     }
 }

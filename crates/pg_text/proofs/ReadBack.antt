@@ -1,0 +1,138 @@
+-- Proofs of the laws of texts.
+use Rattle.std.proofs.Common.{◌≡◌, ℕ, suc, ◌<◌, ◌^◌, ◌==◌, List, [], ◌∷◌, Bool, true, false, Some}
+use Rattle.std.proofs.Common.{length, refl, ap, sym, ◌∙◌, arith, inl}
+use Rattle.std.proofs.Common.{map}
+use Rattle.std.specs.Fmt.{decimal, signed_decimal}
+use Rattle.std.specs.Prelude.{ℤ, pos, negsuc, codes, FitsSigned}
+use Rattle.std.specs.Int.{Width, w16, w32, w64}
+use lib.Signed.{mag}
+use Rattle.std.specs.Str.Parse.{IsNumeral, starts_with_minus}
+use Rattle.std.specs.Str.Parse.{without_leading_plus}
+use Rattle.std.specs.Prelude.{◌↔◌, Ok}
+use Rattle.hex.specs.Hex.{IsBytes, encode_lower}
+use Rattle.hex.proofs.HexLemmas.{decode_of-encode_lower, decode_of-same}
+use Rattle.std.proofs.lemmas.Bool.{ne_eqb}
+use Rattle.std.proofs.lemmas.List.{append_cancel_left}
+use Rattle.std.proofs.lemmas.Fmt.{decimal_is_IsNumeral}
+use Rattle.std.proofs.lemmas.Str.Parse.{digit_from_value}
+use Rattle.postgres_types.specs.Lsn.{lsn_of, lsn_text}
+use Rattle.pg_base.proofs.LsnLemmas.{text_parses}
+use Rattle.std.specs.List.{All, AllZip}
+use Rattle.pg_text.specs.Lists.{SaysVector, vector_text}
+use Rattle.uuid.proofs.RoundTrips.{parses_hyphenated}
+use Rattle.uuid.specs.Text.{hyphenated_text, lower, parsed}
+use Rattle.pg_text.specs.ReadBack.{IsReadBack}
+use Rattle.pg_text.specs.Texts.{SaysBytes, SaysSigned, SaysUnsigned, Shows, bit_digit, bits_text, bytes_text}
+
+-- INT2, INT4, INT8, OID
+
+-- digits have no sign before them
+plain_digits : (ds : List ℕ) → IsNumeral 10 ds → (starts_with_minus ds ≡ false) × (without_leading_plus ds ≡ ds)
+plain_digits [] h = absurd (omega arith)
+plain_digits (c ∷ cs) h =
+    let digit = digit_from_value c h.1.0 in
+    let minus : (c == 45) ≡ false = ne_eqb c 45 (λ e. omega arith) in
+    let plus : (c == 43) ≡ false = ne_eqb c 43 (λ e. omega arith) in
+    (minus, rw plus refl)
+
+signed_says : (z : ℤ) → mag z < 2 ^ 63 → SaysSigned (signed_decimal z) z
+signed_says (pos n) small =
+    let own = decimal_is_IsNumeral n (omega arith) in
+    let bare = plain_digits (decimal n) own.0 in
+    (rw (bare.0, bare.1) own.0, rw (bare.0, bare.1) (ap pos (sym own.1)))
+signed_says (negsuc n) small =
+    let own = decimal_is_IsNumeral (suc n) (omega arith) in
+    (own.0, rw own.1 refl)
+
+signed_back : (w : Width) → ((z : ℤ) → FitsSigned w z → mag z < 2 ^ 63)
+    → IsReadBack (FitsSigned w) (Shows signed_decimal) SaysSigned
+signed_back w small v text fits e =
+    let says : SaysSigned text v = rw e (signed_says v (small v fits)) in
+    (says, λ u s. s.1 ∙ sym says.1)
+
+pub int2_back : IsReadBack (FitsSigned w16) (Shows signed_decimal) SaysSigned
+int2_back = signed_back w16 (λ z fits. omega (arith, fits.sfits))
+
+pub int4_back : IsReadBack (FitsSigned w32) (Shows signed_decimal) SaysSigned
+int4_back = signed_back w32 (λ z fits. omega (arith, fits.sfits))
+
+pub int8_back : IsReadBack (FitsSigned w64) (Shows signed_decimal) SaysSigned
+int8_back = signed_back w64 (λ z fits. omega (arith, fits.sfits))
+
+pub unsigned_back : IsReadBack (λ (n : ℕ). n < 2 ^ 32) (Shows decimal) SaysUnsigned
+unsigned_back n text small e =
+    let own = decimal_is_IsNumeral n (omega arith) in
+    let bare = plain_digits (decimal n) own.0 in
+    let says : SaysUnsigned text n = rw (e, bare.1) (own.0, sym own.1) in
+    (says, λ u s. s.1 ∙ sym says.1)
+
+-- PG_LSN
+
+pub lsn_back : IsReadBack (λ (n : ℕ). n < 2 ^ 64) (Shows lsn_text) (λ text v. lsn_of text ≡ Some v)
+lsn_back n text small e =
+    let says : lsn_of text ≡ Some n = ap lsn_of e ∙ text_parses n small in
+    (says, λ u s. let both : Some u ≡ Some n = sym s ∙ says in cc)
+
+-- BIT, VARBIT
+
+same_bit : (b c : Bool) → bit_digit b ≡ bit_digit c → b ≡ c
+same_bit true true e = refl
+same_bit false false e = refl
+same_bit true false e = absurd (omega arith)
+same_bit false true e = absurd (omega arith)
+
+same_bits : (v w : List Bool) → bits_text v ≡ bits_text w → w ≡ v
+same_bits [] [] e = refl
+same_bits [] (c ∷ cs) e = absurd (cc)
+same_bits (b ∷ bs) [] e = absurd (cc)
+same_bits (b ∷ bs) (c ∷ cs) e =
+    let here : bit_digit c ≡ bit_digit b = cc in
+    let rest : bits_text bs ≡ bits_text cs = cc in
+    λ t. same_bit c b here t ∷ same_bits bs cs rest t
+
+pub bits_back : IsReadBack (λ (v : List Bool). Unit {0}) (Shows bits_text) (λ text v. text ≡ bits_text v)
+bits_back v text p e = (e, λ w s. same_bits v w (sym e ∙ s))
+
+-- UUID
+
+pub uuid_back : IsReadBack (λ v. (length v ≡ 16) × All (λ b. b < 256) v) (Shows (hyphenated_text lower))
+    (λ text v. parsed text ≡ Some v)
+uuid_back v text p e =
+    let says : parsed text ≡ Some v = ap parsed e ∙ sym (parses_hyphenated lower v (inl refl) p.0 p.1) in
+    (says, λ u s. let both : Some u ≡ Some v = sym s ∙ says in cc)
+
+-- TEXT, BYTEA
+
+pub bytes_back : (bytes text v : List ℕ) → IsBytes bytes → text ≡ bytes_text bytes → SaysBytes text v ↔ (v ≡ bytes)
+bytes_back bytes text v small e =
+    let own = decode_of-encode_lower bytes small in (
+      λ s.
+          let same : s.0 ≡ encode_lower bytes =
+          append_cancel_left (codes "\\x") s.0 (encode_lower bytes) (sym s.1 ∙ e) in
+          decode_of-same (encode_lower bytes) v bytes (rw same at s.2) own,
+      λ same. (encode_lower bytes, e, own ∙ ap (λ b. Ok b) (sym same)),
+    )
+
+-- INT2VECTOR, OIDVECTOR
+
+each_says : {A : Type 0} (f : A → List ℕ) (says : List ℕ → A → Type 0) (P : A → Type 0)
+    → ((x : A) → P x → says (f x) x) → (v : List A) → All P v → AllZip says (map f v) v
+each_says f says P one [] h = tt
+each_says f says P one (x ∷ xs) h =
+    (one x (h 0 x (omega arith)), each_says f says P one xs (λ k d l. h (suc k) d (omega arith)))
+
+oid_says : (n : ℕ) → n < 2 ^ 32 → SaysUnsigned (decimal n) n
+oid_says n small = (unsigned_back n (decimal n) small refl).0
+
+int2_says : (z : ℤ) → FitsSigned w16 z → SaysSigned (signed_decimal z) z
+int2_says z fits = (int2_back z (signed_decimal z) fits refl).0
+
+pub int2vector_says : (v : List ℤ) (text : List ℕ) → All (FitsSigned w16) v → text ≡ vector_text signed_decimal v
+    → SaysVector SaysSigned text v
+int2vector_says v text fit e =
+    (map signed_decimal v, e, each_says signed_decimal SaysSigned (FitsSigned w16) int2_says v fit)
+
+pub oidvector_says : (v : List ℕ) (text : List ℕ) → All (λ n. n < 2 ^ 32) v → text ≡ vector_text decimal v
+    → SaysVector SaysUnsigned text v
+oidvector_says v text fit e =
+    (map decimal v, e, each_says decimal SaysUnsigned (λ n. n < 2 ^ 32) oid_says v fit)

@@ -1,0 +1,29 @@
+-- The texts of lists of values.
+use Rattle.std.specs.Prelude.{◌≡◌, ℕ, ◌==◌, List, [], ◌∷◌, ◌++◌, codes, map, Option, Some, None, if◌then◌else◌}
+use Rattle.std.specs.List.{AllZip, join_with_byte}
+use Rattle.pg_text.specs.Quotes.{element_text}
+
+-- the byte before each item but the first
+abbrev pub separator : ℕ → ℕ → List ℕ
+separator byte place = if place == 0 then [] else byte ∷ []
+
+-- INT2VECTOR, OIDVECTOR (int2vectorout, oidvectorout): the numbers with a space between
+abbrev pub vector_text : {A : Type 0} → (A → List ℕ) → List A → List ℕ
+vector_text text numbers = join_with_byte 32 (map text numbers)
+
+-- and what is read of it (int2vectorin, oidvectorin)
+abbrev pub SaysVector : {A : Type 0} → (List ℕ → A → Type 0) → List ℕ → List A → Type 0
+SaysVector says text numbers =
+    (texts : List (List ℕ)) × (text ≡ join_with_byte 32 texts) × AllZip says texts numbers
+
+-- an element's text, in quotes where it needs them, and NULL for NULL (array_out)
+abbrev pub ShowsElement : {A : Type 0} → (A → List ℕ → List ℕ → Type 0) → Option A → List ℕ → Type 0
+ShowsElement shows None item = item ≡ codes "NULL"
+ShowsElement shows (Some v) item = (text : List ℕ) × shows v [] text × (item ≡ element_text text)
+
+-- an array of one dimension: the elements in braces, with a comma between (array_out)
+abbrev pub ShowsArray : {A : Type 0} → (A → List ℕ → List ℕ → Type 0) → List (Option A) → List ℕ → List ℕ → Type 0
+ShowsArray shows elements old new =
+    (items : List (List ℕ))
+    × AllZip (ShowsElement shows) elements items
+    × (new ≡ old ++ (123 ∷ (join_with_byte 44 items ++ 125 ∷ [])))

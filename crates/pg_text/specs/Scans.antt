@@ -1,0 +1,52 @@
+-- What stands at the front of a text, and how it goes on.
+use Rattle.std.specs.Prelude.{◌≡◌, ◌⊎◌, ℕ, ◌-◌, ◌*◌, ◌^◌, ◌≤◌, List, [], ◌∷◌, ◌++◌, length}
+use Rattle.std.specs.Prelude.{ℤ, pos, ◌-ℤ◌, codes}
+use Rattle.jiff.specs.Types.{Date, Time}
+use Rattle.pg_text.specs.Texts.{SaysUnsigned}
+
+-- the decimal digits of a number
+abbrev pub TakesNumber : List ℕ → ℕ → List ℕ → Type 0
+TakesNumber text n rest = (digits : List ℕ) × SaysUnsigned digits n × (text ≡ digits ++ rest)
+
+-- digits after a point, as parts of a million
+abbrev pub SaysMillionths : List ℕ → ℕ → Type 0
+SaysMillionths digits micros = (n : ℕ) × SaysUnsigned digits n × (micros ≡ n * 10 ^ (6 - length digits))
+
+-- a point and up to six digits, as parts of a million, or nothing
+abbrev pub TakesFraction : List ℕ → ℕ → List ℕ → Type 0
+TakesFraction text micros rest =
+    ((micros ≡ 0) × (text ≡ rest))
+    ⊎ ((digits : List ℕ) × (length digits ≤ 6) × (text ≡ 46 ∷ (digits ++ rest)) × SaysMillionths digits micros)
+
+-- hours, minutes, seconds and a fraction
+abbrev pub TakesClock : List ℕ → ℕ → ℕ → ℕ → ℕ → List ℕ → Type 0
+TakesClock text hour minute second micros rest =
+    (a b c : List ℕ)
+    × TakesNumber text hour (58 ∷ a)
+    × TakesNumber a minute (58 ∷ b)
+    × TakesNumber b second c
+    × TakesFraction c micros rest
+
+-- what is read of a time (time_in)
+abbrev pub SaysTime : List ℕ → Time → Type 0
+SaysTime text t =
+    (micros : ℕ) × TakesClock text t.hour t.minute t.second micros [] × (t.subsec_nanosecond ≡ micros * 1000)
+
+-- a year in its era, a month and a day
+abbrev pub TakesDay : List ℕ → ℤ → ℕ → ℕ → List ℕ → Type 0
+TakesDay text year month day rest =
+    (n : ℕ)
+    × (a b : List ℕ)
+    × TakesNumber text n (45 ∷ a)
+    × TakesNumber a month (45 ∷ b)
+    × TakesNumber b day rest
+    × (year ≡ pos n)
+
+-- the era at the end, before which years are counted back from 1
+abbrev pub TakesEra : List ℕ → ℤ → ℤ → Type 0
+TakesEra text inside year = ((text ≡ codes " BC") × (year ≡ pos 1 -ℤ inside)) ⊎ ((text ≡ []) × (year ≡ inside))
+
+-- what is read of a date (date_in)
+abbrev pub SaysDate : List ℕ → Date → Type 0
+SaysDate text d =
+    (inside : ℤ) × (rest : List ℕ) × TakesDay text inside d.month d.day rest × TakesEra rest inside d.year
