@@ -6,10 +6,10 @@
 #![tactic(auto)]
 
 use anyhow::{Result, bail};
-use named_types::{Base, Program};
 use pg_copy::arguments::{Request, parse};
 use pg_copy::columns::Column;
 use pg_copy::read::read;
+use pg_copy::types::Base;
 use pg_copy::write::write;
 use std::alloc::Global;
 use std::env;
@@ -17,19 +17,26 @@ use std::fmt::Write;
 
 /// What `--help` prints before the names of types.
 const HELP: &str = "\
-copy_cells read [--oid NAME=OID].. TYPE.. reads a binary COPY of columns of these types, and writes each row as a line
-of COPY's text format:
-    psql -c 'COPY t TO STDOUT (FORMAT binary)' | copy_cells read int8 text timestamptz
-copy_cells write [--oid NAME=OID].. TYPE.. reads such lines, and writes a binary COPY of a row for each:
-    copy_cells write int8 text timestamptz < lines | psql -c 'COPY t FROM STDIN (FORMAT binary)'
+copy_cells read TYPE.. reads a binary COPY of columns of these types, and writes each row as a line of COPY's text
+format:
+    psql -c 'COPY t TO STDOUT (FORMAT binary)' | copy_cells read bigint text 'timestamp with time zone'
+copy_cells write TYPE.. reads such lines, and writes a binary COPY of a row for each:
+    copy_cells write bigint text timestamptz < lines | psql -c 'COPY t FROM STDIN (FORMAT binary)'
 copy_read and copy_write stand for these two commands. Values are written, and read, as the server writes them with
 DateStyle ISO, TimeZone UTC and IntervalStyle postgres.
+
+A word may hold several types with commas between, so the types of a table are what this command prints:
+    psql -Atc \"SELECT string_agg(format_type(atttypid, atttypmod), ', ' ORDER BY attnum)
+        FROM pg_attribute WHERE attrelid = 't'::regclass AND attnum > 0 AND NOT attisdropped\"
+scripts/columns t prints them too where the table has enumerated types, domains or composite types.
+
 ";
 
 /// What it prints after them.
 const NOTES: &str = "\
-After a name [] says arrays; ? may stand there, since every column and element may be NULL.
---oid item=OID is the OID of \"InventoryItem\" on the server, which stands in cells of its arrays.
+Names are those that format_type prints, too: integer, character varying(20), timestamp(3) with time zone.
+[] after a type says arrays of it. A domain is named by its base type, an enumerated type enum, and a composite type
+by its fields: (name text, price bigint).
 Whole rows alone are written. A fault is told on standard error, with its row or line and its column, and the status
 is 1.
 ";
@@ -65,12 +72,12 @@ fn help(rt: &HostRuntime) -> Result<()> {
     Ok(rt.print(NOTES)?)
 }
 
-/// The base names of a COPY that have arrays, or have none, on lines of some 100 bytes.
+/// The types that have arrays, or have none, on lines of some 100 bytes.
 fn names(alloc: Global, has_arrays: bool) -> Result<String> {
     let mut names = String::new(alloc);
     let mut width: usize = 0;
     for &base in Base::ALL {
-        if !Program::Copy.knows(base) || base.has_arrays() != has_arrays {
+        if base.has_arrays() != has_arrays {
             continue;
         }
         if width > 100 {

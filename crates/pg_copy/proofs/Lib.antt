@@ -1,11 +1,15 @@
 -- The lemmas of this crate's proofs.
+mod ArrayBounds
 mod CellTexts
 mod EscapeLaws
 mod HeaderLaws
 mod LineLaws
 mod ReadingLaws
 mod ReadingRuns
+pub mod Records
+mod RefusalLaws
 mod RowLaws
+mod StopLaws
 mod TextLaws
 mod TupleLaws
 pub mod Wires

@@ -3,6 +3,7 @@ pub mod Escapes
 pub mod Lines
 pub mod Outputs
 pub mod ReadingSteps
+pub mod Refusals
 pub mod Rows
 pub mod TextLines
 pub mod Tuples

@@ -1,14 +1,18 @@
 -- How a binary COPY is read, a part after another.
-use Rattle.std.specs.Prelude.{◌≡◌, ℕ, pos, Bool, true, false, List, [], ◌∷◌, ◌++◌, length, Option, Some, None}
+use Rattle.std.specs.Prelude.{◌≡◌, ◌≢◌, ◌<◌, ℕ, pos, Bool, true, false, List, [], ◌∷◌, ◌++◌, length, Option, Some}
+use Rattle.std.specs.Prelude.{None}
 use Rattle.std.specs.Int.{w16}
 use Rattle.pg_base.specs.Cells.{Cell, SpellsAll, be}
 use Rattle.pg_copy.specs.Lines.{FieldOf, IsLineOf}
 use Rattle.pg_copy.specs.Outputs.{Gains}
-use Rattle.pg_copy.specs.Rows.{BeginsRows, IsCopyOf, IsHeader, trailer}
+use Rattle.pg_copy.specs.Refusals.{HeaderFault, NoFront, TupleFault, next_row, row_count}
+use Rattle.pg_copy.specs.Rows.{BeginsWithRows, IsCopyOf, IsHeader, trailer}
 use Rattle.pg_copy.specs.Tuples.{FramesThen}
 use Rattle.pg_copy.specs.Values.{ShowsCell, Values}
 use Rattle.pg_types.specs.Content.{Content}
 use Rattle.pg_copy.specs.declared.columns.Column.{Column}
+use Rattle.pg_copy.specs.declared.copy_fault.CopyFault.{CopyFault}
+use Rattle.pg_copy.specs.declared.copy_fault.CopyFault.TheVariants.{Trailing}
 use Rattle.pg_copy.specs.declared.read.Place.{Place}
 use Rattle.pg_copy.specs.declared.read.Place.TheVariants.{Header, Extension, Tuples, End}
 use Rattle.pg_copy.specs.declared.tuples.Front.{Front}
@@ -18,16 +22,20 @@ use Rattle.pg_copy.specs.declared.tuples.Front.TheVariants.{Tuple, Trailer, Part
 abbrev pub AwaitsExtension : ℕ → List ℕ → Type 0
 AwaitsExtension len s = (more : List ℕ) → length more ≡ len → IsHeader (s ++ more)
 
--- the header was taken but for so many bytes of its extension; or nothing was
+-- how many bytes a header has before its extension: the signature, the flags and the length of the extension
+abbrev pub header_width : ℕ
+header_width = 19
+
+-- the header was taken but for so many bytes of its extension; or it is truncated, and nothing was taken
 abbrev pub TakesHeader : List ℕ → Option ℕ → List ℕ → Type 0
-TakesHeader old None new = new ≡ old
+TakesHeader old None new = (length old < header_width) × (new ≡ old)
 TakesHeader old (Some len) new = (t : List ℕ) × AwaitsExtension len t × (old ≡ t ++ new)
 
 -- a tuple of n columns, or the trailer, stands at the front
 abbrev pub StandsAt : ℕ → List ℕ → Front → Type 0
 StandsAt n s (Tuple fields) = (rest : List ℕ) × FramesThen fields.now n rest × (s ≡ be w16 (pos n) ++ fields.now)
 StandsAt n s (Trailer rest) = s ≡ trailer ++ rest.now
-StandsAt n s Part = Unit {0}
+StandsAt n s Part = NoFront n s
 
 -- NULL has no text, and bytes have that of a value that they are read as, which was appended
 abbrev pub HasText : Values → Content → Cell → Bool → List ℕ → List ℕ → Type 0
@@ -49,15 +57,43 @@ abbrev pub TakesRow : List Column → List ℕ → List ℕ → List ℕ → Lis
 TakesRow columns old new lines longer =
     (row : List Cell) × SpellsAll old row new × Gains (IsLineOf columns row) lines longer
 
--- what was read so far, and the lines of its rows
-abbrev pub HasRead : List Column → Place → List ℕ → List ℕ → Type 0
-HasRead columns Header s lines = (s ≡ []) × (lines ≡ [])
-HasRead columns (Extension len) s lines = AwaitsExtension len s × (lines ≡ [])
-HasRead columns Tuples s lines = BeginsRows columns s lines
-HasRead columns End s lines = IsCopyOf columns s lines
+-- what was read so far, of so many rows, and the lines of these
+abbrev pub HasRead : List Column → Place → ℕ → List ℕ → List ℕ → Type 0
+HasRead columns Header count s lines = (s ≡ []) × (lines ≡ []) × (count ≡ 0)
+HasRead columns (Extension len) count s lines = AwaitsExtension len s × (lines ≡ []) × (count ≡ 0)
+HasRead columns Tuples count s lines =
+    (rows : List (List Cell)) × BeginsWithRows columns rows s lines × (count ≡ row_count (length rows))
+HasRead columns End count s lines = IsCopyOf columns s lines
 
--- bytes were taken off the front, and the lines of their rows appended, and the next place is that after them
-abbrev pub Advances : List Column → Place → List ℕ → List ℕ → Place → List ℕ → List ℕ → Type 0
-Advances columns place old lines next new longer =
+-- bytes were taken off the front, and the lines of their rows appended, and the next place and number of rows are
+-- those after them
+abbrev pub Advances : List Column → Place → ℕ → List ℕ → List ℕ → Place → ℕ → List ℕ → List ℕ → Type 0
+Advances columns place count old lines next more_count new longer =
     (t gained : List ℕ) × (old ≡ t ++ new) × (longer ≡ lines ++ gained)
-    × ((s so_far : List ℕ) → HasRead columns place s so_far → HasRead columns next (s ++ t) (so_far ++ gained))
+    × ((s so_far : List ℕ) → HasRead columns place count s so_far
+    → HasRead columns next more_count (s ++ t) (so_far ++ gained))
+
+-- where the header is to come, the bytes are too few for it up to its extension
+abbrev pub AwaitsHeader : Place → List ℕ → Type 0
+AwaitsHeader Header s = length s < header_width
+AwaitsHeader place s = Unit {0}
+
+-- and where a part of the header extension is to come, no byte is left
+abbrev pub AwaitsMore : Place → List ℕ → Type 0
+AwaitsMore Header s = length s < header_width
+AwaitsMore (Extension len) s = (0 < len) × (s ≡ [])
+AwaitsMore place s = Unit {0}
+
+-- what is to come does not stand whole at the front, and nothing stands after the trailer
+abbrev pub Awaits : List Column → Place → List ℕ → Type 0
+Awaits columns Header s = length s < header_width
+Awaits columns (Extension len) s = (0 < len) × (s ≡ [])
+Awaits columns Tuples s = NoFront (length columns) s
+Awaits columns End s = s ≡ []
+
+-- what stands in place of what is to come, after so many rows, is refused with this fault
+abbrev pub StopsAt : List Column → Place → ℕ → List ℕ → CopyFault → Type 0
+StopsAt columns Header rows s fault = HeaderFault s fault
+StopsAt columns (Extension len) rows s fault = ⊥
+StopsAt columns Tuples rows s fault = TupleFault (next_row rows) columns s fault
+StopsAt columns End rows s fault = (fault ≡ Trailing) × (s ≢ [])

@@ -18,8 +18,8 @@ tuples (row ∷ rows) = concat (tuple row) (tuples rows)
 abbrev pub signature : List ℕ
 signature = 80 ∷ 71 ∷ 67 ∷ 79 ∷ 80 ∷ 89 ∷ 10 ∷ 255 ∷ 13 ∷ 10 ∷ 0 ∷ []
 
--- the signature, four bytes of flags, of which the critical ones in the first two are not set, and the header extension,
--- after its length
+-- the signature, four bytes of flags, of which the critical ones in the first two are not set, and the header
+-- extension, after its length
 abbrev pub IsHeader : List ℕ → Type 0
 IsHeader s =
     (a b : ℕ) × (extension framed : List ℕ) × (frame (Some extension) ≡ Some framed)
@@ -29,11 +29,15 @@ IsHeader s =
 abbrev pub trailer : List ℕ
 trailer = 255 ∷ 255 ∷ []
 
--- a header and the tuples of rows, whose lines these are
+-- a header and the tuples of these rows, whose lines these are
+abbrev pub BeginsWithRows : List Column → List (List Cell) → List ℕ → List ℕ → Type 0
+BeginsWithRows columns rows s lines =
+    (header bytes : List ℕ) × IsHeader header × (tuples rows ≡ Some bytes) × AreLinesOf columns rows lines
+    × (s ≡ header ++ bytes)
+
+-- a header and the tuples of some rows
 abbrev pub BeginsRows : List Column → List ℕ → List ℕ → Type 0
-BeginsRows columns s lines =
-    (header bytes : List ℕ) × (rows : List (List Cell)) × IsHeader header × (tuples rows ≡ Some bytes)
-    × AreLinesOf columns rows lines × (s ≡ header ++ bytes)
+BeginsRows columns s lines = (rows : List (List Cell)) × BeginsWithRows columns rows s lines
 
 -- a COPY: they, and the trailer
 abbrev pub IsCopyOf : List Column → List ℕ → List ℕ → Type 0

@@ -1,5 +1,5 @@
 -- What a binary COPY is written of lines.
-use Rattle.std.specs.Prelude.{◌≡◌, ◌≢◌, ◌<◌, ◌≤◌, ◌^◌, ℕ, pos, List, [], ◌∷◌, ◌++◌, length}
+use Rattle.std.specs.Prelude.{◌≡◌, ◌≢◌, ◌<◌, ◌≤◌, ◌-◌, ◌^◌, min, ℕ, pos, List, [], ◌∷◌, ◌++◌, length}
 use Rattle.std.specs.Prelude.{Option, Some, None, IsSome, option_map, Ok, Err}
 use Rattle.std.specs.Int.{w16}
 use Rattle.std.specs.Borrow.{Bor}
@@ -14,7 +14,7 @@ use Rattle.pg_copy.specs.Outputs.{WritesWhole, WritesPart}
 use Rattle.pg_copy.specs.Rows.{trailer}
 use Rattle.pg_copy.specs.TextLines.{Says, fields_of}
 use Rattle.pg_copy.specs.Tuples.{header}
-use Rattle.pg_copy.specs.Values.{TextValues, WritesText, text_in_form, values_of}
+use Rattle.pg_copy.specs.Values.{TextValues, WritesText, in_form, values_of}
 use Rattle.postgres_types.specs.Content.{Content, content}
 use Rattle.pg_copy.specs.declared.columns.Column.{Column}
 use Rattle.pg_copy.specs.declared.copy_fault.CopyFault.{CopyFault}
@@ -27,7 +27,7 @@ text_of text = option_map (λ t. t.now) text
 
 -- the values of a column's texts
 abbrev pub texts_in : Column → TextValues
-texts_in column = text_in_form column.is_array (values_of column.base).1
+texts_in column = in_form column.is_array (values_of column.base).1
 
 -- the cell of a text: NULL is NULL, and a text is some bytes, which a value that it says is written as
 abbrev pub CellAs : TextValues → Content → Option (List ℕ) → Cell → Type 0
@@ -85,10 +85,11 @@ abbrev pub CopyOf : List Column → List (List ℕ) → List ℕ → Type 0
 CopyOf columns lines bytes =
     (begun : List ℕ) × BeginsCopy columns lines begun × (bytes ≡ begun ++ trailer)
 
--- the fault of a line with so many fields in place of so many columns
+-- the fault of a line with so many fields in place of so many columns; it names as many fields as 64 bits with a sign
+-- can say
 abbrev pub CountFault : ℕ → ℕ → CopyFault → Type 0
 CountFault columns fields (Columns row expected got) =
-    expected ≡ columns
+    (expected ≡ columns) × (got ≡ pos (min fields (2 ^ 63 - 1)))
 CountFault columns fields fault = ⊥
 
 -- the fault of a value in the column of that number, or refused memory

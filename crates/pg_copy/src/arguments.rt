@@ -1,8 +1,7 @@
 //! The command line: options, and the types of the columns.
 
-use crate::columns::Column;
-use crate::user_types::Oids;
-use postgres_types::Oid;
+use crate::columns::{Column, TypeFault};
+use crate::type_names::split_at_comma;
 use std::alloc::{AllocError, AllocFailed, Global};
 use std::error::Error;
 use std::fmt;
@@ -28,10 +27,10 @@ pub enum ArgumentFault {
     TooManyTypes,
     /// The name of no type that has a conversion.
     UnknownType(String),
+    /// A composite type that has a field of a composite type.
+    NestedType(String),
     /// An option that there is not.
     UnknownOption(String),
-    /// What stands after `--oid` is not a type's name, `=` and a number.
-    BadOid(String),
     /// Memory was refused.
     Memory,
 }
@@ -42,8 +41,10 @@ impl fmt::Display for ArgumentFault {
             ArgumentFault::NoType => write!(f, "no type is given; --help says how"),
             ArgumentFault::TooManyTypes => write!(f, "more than 32767 types are given"),
             ArgumentFault::UnknownType(name) => write!(f, "no conversion of the type {name}"),
+            ArgumentFault::NestedType(name) => {
+                write!(f, "a composite type within another is not taken: {name}")
+            }
             ArgumentFault::UnknownOption(name) => write!(f, "no option {name}; --help says which"),
-            ArgumentFault::BadOid(word) => write!(f, "--oid {word} is not NAME=OID"),
             ArgumentFault::Memory => write!(f, "out of memory"),
         }
     }
@@ -63,67 +64,66 @@ impl<T: Drop> From<AllocFailed<T>> for ArgumentFault {
     }
 }
 
-/// What the words of a command line ask for, without the name of the program: `--help`, or any
-/// number of `--oid NAME=OID` and then the names of the columns' types.
+/// What the words of a command line ask for, without the name of the program: `--help`, or the types
+/// of the columns, of which a word may hold several with commas between.
 pub fn parse(alloc: Global, words: &[String]) -> Result<Request, ArgumentFault> {
-    let mut oids = Oids::new(alloc);
-    let mut rest = words;
-    for _ in 0..words.len() {
-        let [word, after @ ..] = rest else {
-            break;
-        };
+    if let Some(word) = words.first() {
         match word.as_str() {
             "--help" => return Ok(Request::Help),
-            "--oid" => rest = after_oid(alloc, after, &mut oids)?,
-            name if name.starts_with("-") => {
-                return Err(ArgumentFault::UnknownOption(String::from_str(alloc, name)?));
+            option if option.starts_with("-") => {
+                return Err(ArgumentFault::UnknownOption(String::from_str(alloc, option)?));
             }
-            _ => break,
+            _ => {}
         }
     }
-    columns(alloc, rest, &oids)
-}
-
-/// Sets the OID that the first word says: the words after it.
-fn after_oid<'a>(
-    alloc: Global,
-    words: &'a [String],
-    oids: &mut Oids,
-) -> Result<&'a [String], ArgumentFault> {
-    let Some((word, after)) = words.split_first() else {
-        return Err(ArgumentFault::BadOid(String::new(alloc)));
-    };
-    let is_set = match name_and_oid(word.as_str()) {
-        Some((name, oid)) => oids.set(name, oid)?,
-        None => false,
-    };
-    if !is_set {
-        return Err(ArgumentFault::BadOid(String::from_str(alloc, word.as_str())?));
+    let mut columns = Vec::new(alloc);
+    for word in words {
+        push_columns(alloc, word.as_str(), &mut columns)?;
     }
-    Ok(after)
-}
-
-/// The name and the OID of a word.
-fn name_and_oid(word: &str) -> Option<(&str, Oid)> {
-    let (name, oid) = word.split_once('=')?;
-    Some((name, oid.parse().ok()?))
-}
-
-/// A COPY of the columns of these types.
-fn columns(alloc: Global, names: &[String], oids: &Oids) -> Result<Request, ArgumentFault> {
-    if names.is_empty() {
+    if columns.is_empty() {
         return Err(ArgumentFault::NoType);
     }
-    if names.len() > MAX_COLUMNS {
-        return Err(ArgumentFault::TooManyTypes);
-    }
-    let mut columns = Vec::new(alloc);
-    for name in names {
-        let Some(column) = Column::parse(alloc, name.as_str(), oids)? else {
-            let name = String::from_str(alloc, name.as_str())?;
-            return Err(ArgumentFault::UnknownType(name));
-        };
-        columns.push(column)?;
-    }
     Ok(Request::Copy(columns))
+}
+
+/// Appends the columns of a word's types. A last type may have a comma after it.
+fn push_columns(alloc: Global, word: &str, columns: &mut Vec<Column>) -> Result<(), ArgumentFault> {
+    let mut rest = not_blank(word);
+    // A type takes a byte and a comma at least.
+    for _ in 0..=word.len() {
+        let Some(types) = rest else {
+            break;
+        };
+        let (text, after) = split_at_comma(types);
+        if columns.len() == MAX_COLUMNS {
+            return Err(ArgumentFault::TooManyTypes);
+        }
+        columns.push(column(alloc, text)?)?;
+        rest = after.and_then(not_blank);
+    }
+    Ok(())
+}
+
+/// The text, where it is more than white space.
+fn not_blank(text: &str) -> Option<&str> {
+    if text.trim().is_empty() {
+        None
+    } else {
+        Some(text)
+    }
+}
+
+/// The column of that type.
+fn column(alloc: Global, text: &str) -> Result<Column, ArgumentFault> {
+    match Column::parse(alloc, text) {
+        Ok(column) => Ok(column),
+        Err(TypeFault::Unknown) => Err(ArgumentFault::UnknownType(trimmed(alloc, text)?)),
+        Err(TypeFault::Nested) => Err(ArgumentFault::NestedType(trimmed(alloc, text)?)),
+        Err(TypeFault::Memory) => Err(ArgumentFault::Memory),
+    }
+}
+
+/// The text without white space around it.
+fn trimmed(alloc: Global, text: &str) -> Result<String, AllocError> {
+    String::from_str(alloc, text.trim())
 }

@@ -1,15 +1,27 @@
 //! The columns of a COPY.
 
-use crate::user_types::Oids;
-use named_types::{Base, Name, base_names};
-use pg_record::types::{item_array_type, item_type, mood_type, session_id_type, simple_type};
-use postgres_types::Type;
-use std::alloc::{AllocError, Global};
+use crate::type_names::{TypeName, after_field_name, split_at_comma};
+use crate::types::{Base, base_types};
+use postgres_types::{Kind, Type};
+use std::alloc::{AllocError, AllocFailed, Global};
 
-/// A column.
+/// A column. Its values, and the elements of its arrays, may be NULL.
 #[derive(Debug, Drop)]
 pub struct Column {
-    /// The base name of its values, or of the elements of its arrays.
+    /// What its values, or the elements of its arrays, are.
+    pub base: Base,
+    /// Whether its values are arrays.
+    pub is_array: bool,
+    /// The type of its values; of a composite type, and of arrays of it, BYTEA.
+    pub ty: Type,
+    /// The fields of a composite type; none of another.
+    pub fields: Vec<Field>,
+}
+
+/// A field of a composite type, whose values may be NULL.
+#[derive(Debug, Drop)]
+pub struct Field {
+    /// What its values, or the elements of its arrays, are.
     pub base: Base,
     /// Whether its values are arrays.
     pub is_array: bool,
@@ -17,67 +29,120 @@ pub struct Column {
     pub ty: Type,
 }
 
-// The Postgres types of a base name that a COPY knows: its own, and that of its arrays where it has
-// arrays.
+/// Why a type is that of no column.
+#[derive(Debug, Clone, Copy, PartialEq, Eq)]
+pub enum TypeFault {
+    /// It has no conversion.
+    Unknown,
+    /// It is a composite type within another.
+    Nested,
+    /// Memory was refused.
+    Memory,
+}
+
+impl From<AllocError> for TypeFault {
+    fn from(_error: AllocError) -> TypeFault {
+        TypeFault::Memory
+    }
+}
+
+impl<T: Drop> From<AllocFailed<T>> for TypeFault {
+    fn from(_error: AllocFailed<T>) -> TypeFault {
+        TypeFault::Memory
+    }
+}
+
+// The Postgres types of a type of the table: its own, and that of its arrays.
 macro_rules! types {
-    (
-        ($of:expr, $alloc:ident, $oids:ident)
-        $($letter:literal { $($base:ident $name:literal $types:tt $(only $program:ident)?,)* })*
-    ) => {
+    (($of:expr, $alloc:ident) $($base:ident $names:tt $types:tt,)*) => {
         match $of {
-            $($(Base::$base => row_types!(($alloc, $oids, $base) $types $($program)?),)*)*
+            $(Base::$base => row_types!($alloc $types),)*
+            Base::Composite => (Type::BYTEA, None),
         }
     };
 }
 
 // The same of a row.
 macro_rules! row_types {
-    ($args:tt $types:tt Pgcell) => {
-        None
-    };
-    (
-        ($alloc:ident, $oids:ident, $base:ident)
-        [$rust:ty, user($own:ident $oid:literal $($name:literal)?)]
-    ) => {
-        Some(($own($alloc, $($name,)? $oids.of(Base::$base, $oid))?, None))
-    };
-    (
-        ($alloc:ident, $oids:ident, $base:ident)
-        [
-            $rust:ty,
-            user($own:ident $oid:literal $($name:literal)?),
-            user($arrays:ident $array_oid:literal $($array_name:literal)?)
-        ]
-    ) => {{
-        let own = $own($alloc, $($name,)? $oids.of(Base::$base, $oid))?;
-        let arrays = $arrays($alloc, $($array_name,)? $array_oid, own.clone()?)?;
-        Some((own, Some(arrays)))
+    ($alloc:ident [$rust:ty, user $name:literal]) => {{
+        let own = user_type($alloc, $name, Kind::Simple)?;
+        let arrays = user_type($alloc, $name, Kind::Array(own.clone()?))?;
+        (own, Some(arrays))
     }};
-    ($args:tt [$rust:ty, $own:ident]) => {
-        Some((Type::$own, None))
+    ($alloc:ident [$rust:ty, $own:ident]) => {
+        (Type::$own, None)
     };
-    ($args:tt [$rust:ty, $own:ident, $arrays:ident] $($program:ident)?) => {
-        Some((Type::$own, Some(Type::$arrays)))
+    ($alloc:ident [$rust:ty, $own:ident, $arrays:ident]) => {
+        (Type::$own, Some(Type::$arrays))
     };
 }
 
+/// A type that an extension or a user made. Its OID is not known, and is 0, which no type has: servers
+/// from version 14 on look at an OID within a cell only where it is that of a built-in type
+/// (`array_recv`, `record_recv`).
+fn user_type(alloc: Global, name: &str, kind: Kind) -> Result<Type, AllocError> {
+    let name = String::from_str(alloc, name)?;
+    let schema = String::from_str(alloc, "public")?;
+    Type::new(alloc, name, 0, kind, schema).map_err(|_| AllocError)
+}
+
+impl Field {
+    /// The field of that type.
+    fn parse(alloc: Global, name: TypeName<'_>) -> Result<Field, TypeFault> {
+        let Some(base) = name.base(alloc)? else {
+            return Err(TypeFault::Unknown);
+        };
+        let (own, arrays): (Type, Option<Type>) = base_types!(types(base, alloc));
+        let is_array = name.is_array;
+        let ty = if is_array { arrays } else { Some(own) };
+        match ty {
+            Some(ty) => Ok(Field { base, is_array, ty }),
+            None => Err(TypeFault::Unknown),
+        }
+    }
+}
+
+/// The fields of a composite type, of which each is written as a name and a type.
+fn parse_fields(alloc: Global, text: &str) -> Result<Vec<Field>, TypeFault> {
+    let mut fields = Vec::new(alloc);
+    let mut rest = Some(text);
+    // A field takes a byte and a comma at least.
+    for _ in 0..=text.len() {
+        let Some(text) = rest else {
+            break;
+        };
+        let (field, after) = split_at_comma(text);
+        let Some(ty) = after_field_name(field) else {
+            return Err(TypeFault::Unknown);
+        };
+        let name = TypeName::parse(ty);
+        if name.fields().is_some() {
+            return Err(TypeFault::Nested);
+        }
+        fields.push(Field::parse(alloc, name)?)?;
+        rest = after;
+    }
+    Ok(fields)
+}
+
 impl Column {
-    /// The column of that name; `None` where it is the name of no type that has a conversion.
-    ///
-    /// The values of a column and the elements of its arrays may be NULL, whether `?` stands there or
-    /// not.
-    pub fn parse(alloc: Global, name: &str, oids: &Oids) -> Result<Option<Column>, AllocError> {
-        let Some(Name { base, form }) = Name::parse(name.as_bytes()) else {
-            return Ok(None);
-        };
-        let types: Option<(Type, Option<Type>)> = base_names!(types(base, alloc, oids));
-        let Some((own, arrays)) = types else {
-            return Ok(None);
-        };
-        let is_array = form.is_array();
-        Ok(
-            form.pick(own, arrays)
-                .map(|ty| Column { base, is_array, ty }),
-        )
+    /// The column of that type.
+    pub fn parse(alloc: Global, text: &str) -> Result<Column, TypeFault> {
+        let name = TypeName::parse(text);
+        if let Some(fields) = name.fields() {
+            return Ok(Column {
+                base: Base::Composite,
+                is_array: name.is_array,
+                ty: Type::BYTEA,
+                fields: parse_fields(alloc, fields)?,
+            });
+        }
+        let Field { base, is_array, ty } = Field::parse(alloc, name)?;
+        Ok(Column {
+            base,
+            is_array,
+            ty,
+            fields: Vec::new(alloc),
+        })
     }
 }

@@ -1,10 +1,11 @@
 //! Why a COPY stopped.
 ghost use Rattle.std.specs.Prelude.{◌≡◌};
+ghost use Rattle.pg_copy.specs.Refusals.{IsValueFault};
 ghost use Rattle.pg_copy.specs.WrittenRows.{ValueFault};
 ghost use Rattle.pg_copy.specs.declared.copy_fault.CopyFault.TheVariants.{Memory};
 
 use crate::columns::Column;
-use named_types::Base;
+use crate::types::Base;
 use postgres_types::Fault;
 use std::alloc::{AllocError, AllocFailed};
 use std::error::Error;
@@ -117,6 +118,8 @@ impl From<AllocError> for CopyFault {
 }
 
 impl<T: Drop> From<AllocFailed<T>> for CopyFault {
+    ghost from_gives = { λ _ fault. fault ≡ Memory };
+
     fn from(_error: AllocFailed<T>) -> CopyFault {
         CopyFault::Memory
     }
@@ -125,7 +128,8 @@ impl<T: Drop> From<AllocFailed<T>> for CopyFault {
 /// The fault of a value in that row, and in that column, which is the one of that number; out of
 /// memory is no value's.
 pub fn value_fault(row: Row, number: usize, column: &Column, fault: Fault) -> CopyFault
-    ensures { ValueFault number result }
+    ensures number { ValueFault number result }
+    ensures names { IsValueFault row number column.now fault result }
 {
     match fault {
         Fault::Memory => CopyFault::Memory,

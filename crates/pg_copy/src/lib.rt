@@ -13,5 +13,6 @@ mod parse;
 pub mod read;
 mod show;
 mod tuples;
-mod user_types;
+mod type_names;
+pub mod types;
 pub mod write;

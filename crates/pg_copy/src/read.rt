@@ -1,9 +1,12 @@
 //! From a binary COPY to lines of text.
-ghost use Rattle.std.specs.Prelude.{◌≡◌, ◌≢◌, ℕ, List, [], ◌++◌, IfErr, IfOk, OnErr, OnOk, length};
+ghost use Rattle.std.specs.Prelude.{◌≡◌, ◌≢◌, ◌+◌, ◌<◌, ℕ, List, [], ◌++◌, IfErr, IfOk, OnErr, OnOk, length};
 ghost use Rattle.pg_copy.specs.Lines.{tab_before};
 ghost use Rattle.pg_copy.specs.Outputs.{Extends, WritesPart, WritesWhole};
-ghost use Rattle.pg_copy.specs.ReadingSteps.{Advances, TakesField, TakesRow};
+ghost use Rattle.pg_copy.specs.ReadingSteps.{Advances, Awaits, AwaitsHeader, AwaitsMore, StopsAt, TakesField};
+ghost use Rattle.pg_copy.specs.ReadingSteps.{TakesRow};
+ghost use Rattle.pg_copy.specs.Refusals.{RefusesAt, RefusesRow, StopsAfter, UnlessMemory, ValueRefused, next_row};
 ghost use Rattle.pg_copy.specs.Rows.{IsCopyOf, OfInput, StartsCopyOf};
+ghost use Rattle.pg_copy.specs.Tuples.{FramesThen};
 
 use crate::columns::Column;
 use crate::copy_fault::{CopyFault, Row, value_fault};
@@ -46,7 +49,9 @@ struct Reading<'a> {
 /// columns are divided by a tab, NULL is `\N`, and each value is PostgreSQL's text of it.
 ///
 /// A fault leaves whole lines written, those of the rows before it, but that of writing a beginning
-/// of them. No more is held than the longest row, a block of input and its lines.
+/// of them. A fault other than those of reading, writing and memory is one of the bytes that come
+/// after these rows, and names the row after them. No more is held than the longest row, a block of
+/// input and its lines.
 pub fn read<R: Read, W: Write>(
     alloc: Global,
     columns: &[Column],
@@ -59,6 +64,8 @@ pub fn read<R: Read, W: Write>(
         WritesWhole (StartsCopyOf columns.now bytes) (W.contents output.old) (W.contents output.new))) }
     ensures part { OnErr result (OfInput (R.remaining input.old) (λ bytes.
         WritesPart (StartsCopyOf columns.now bytes) (W.contents output.old) (W.contents output.new))) }
+    ensures stops { IfErr result (λ e. e ≢ CopyFault.Write → OfInput (R.remaining input.old) (λ bytes.
+        WritesWhole (λ lines. StopsAfter columns.now bytes lines e) (W.contents output.old) (W.contents output.new))) }
 {
     let mut reading = Reading {
         alloc,
@@ -97,11 +104,17 @@ impl Reading<'_> {
         spare: &mut Vec<u8>,
     ) -> Result<(), CopyFault>
         ensures columns { self.new.columns.now ≡ self.old.columns.now }
-        ensures ok { OnOk result (Advances self.old.columns.now self.old.place (held.old.items ++ block.now)
-            self.old.lines.items self.new.place held.new.items self.new.lines.items) }
+        ensures ok { OnOk result (Advances self.old.columns.now self.old.place self.old.row
+            (held.old.items ++ block.now)
+            self.old.lines.items self.new.place self.new.row held.new.items self.new.lines.items) }
         ensures end { OnOk result (self.new.place ≡ Place.End → held.new.items ≡ []) }
-        ensures err { OnErr result ((rest : List ℕ) × Advances self.old.columns.now self.old.place
-            (held.old.items ++ block.now) self.old.lines.items self.new.place rest self.new.lines.items) }
+        ensures err { OnErr result ((rest : List ℕ) × Advances self.old.columns.now self.old.place self.old.row
+            (held.old.items ++ block.now) self.old.lines.items self.new.place self.new.row rest self.new.lines.items) }
+        ensures awaits { OnOk result (Awaits self.old.columns.now self.new.place held.new.items) }
+        ensures refused { IfErr result (UnlessMemory (λ fault. (rest : List ℕ) × Advances self.old.columns.now
+            self.old.place self.old.row (held.old.items ++ block.now) self.old.lines.items self.new.place self.new.row
+            rest self.new.lines.items
+            × StopsAt self.old.columns.now self.new.place self.new.row rest fault)) }
     {
         held.extend_from_slice(block)?;
         let mut rest = held.as_slice();
@@ -120,9 +133,12 @@ impl Reading<'_> {
     /// leaves the lines of the tuples before it.
     fn take(&mut self, bytes: &mut &[u8]) -> Result<(), CopyFault>
         ensures columns { self.new.columns.now ≡ self.old.columns.now }
-        ensures steps { Advances self.old.columns.now self.old.place bytes.old.now self.old.lines.items
-            self.new.place bytes.new.now self.new.lines.items }
+        ensures steps { Advances self.old.columns.now self.old.place self.old.row bytes.old.now self.old.lines.items
+            self.new.place self.new.row bytes.new.now self.new.lines.items }
         ensures end { OnOk result (self.new.place ≡ Place.End → bytes.new.now ≡ []) }
+        ensures awaits { OnOk result (Awaits self.old.columns.now self.new.place bytes.new.now) }
+        ensures refused { IfErr result (UnlessMemory (StopsAt self.old.columns.now self.new.place self.new.row
+            bytes.new.now)) }
     {
         self.take_head(bytes)?;
         self.take_extension(bytes);
@@ -140,8 +156,10 @@ impl Reading<'_> {
     /// Takes the header up to its extension, where it is to come and is there.
     fn take_head(&mut self, bytes: &mut &[u8]) -> Result<(), CopyFault>
         ensures columns { self.new.columns.now ≡ self.old.columns.now }
-        ensures steps { Advances self.old.columns.now self.old.place bytes.old.now self.old.lines.items
-            self.new.place bytes.new.now self.new.lines.items }
+        ensures steps { Advances self.old.columns.now self.old.place self.old.row bytes.old.now self.old.lines.items
+            self.new.place self.new.row bytes.new.now self.new.lines.items }
+        ensures awaits { OnOk result (AwaitsHeader self.new.place bytes.new.now) }
+        ensures refused { IfErr result (StopsAt self.old.columns.now self.new.place self.new.row bytes.new.now) }
     {
         let Place::Header = self.place else {
             return Ok(());
@@ -156,8 +174,9 @@ impl Reading<'_> {
     /// Takes what is there of the header extension, where it is to come.
     fn take_extension(&mut self, bytes: &mut &[u8])
         ensures columns { self.new.columns.now ≡ self.old.columns.now }
-        ensures steps { Advances self.old.columns.now self.old.place bytes.old.now self.old.lines.items
-            self.new.place bytes.new.now self.new.lines.items }
+        ensures steps { Advances self.old.columns.now self.old.place self.old.row bytes.old.now self.old.lines.items
+            self.new.place self.new.row bytes.new.now self.new.lines.items }
+        ensures awaits { AwaitsHeader self.old.place bytes.old.now → AwaitsMore self.new.place bytes.new.now }
     {
         let Place::Extension(len) = self.place else {
             return;
@@ -178,14 +197,18 @@ impl Reading<'_> {
     /// is of.
     fn take_tuples(&mut self, bytes: &mut &[u8]) -> Result<(), CopyFault>
         ensures columns { self.new.columns.now ≡ self.old.columns.now }
-        ensures steps { Advances self.old.columns.now self.old.place bytes.old.now self.old.lines.items
-            self.new.place bytes.new.now self.new.lines.items }
+        ensures steps { Advances self.old.columns.now self.old.place self.old.row bytes.old.now self.old.lines.items
+            self.new.place self.new.row bytes.new.now self.new.lines.items }
+        ensures awaits { OnOk result (AwaitsMore self.old.place bytes.old.now
+            → self.new.place ≢ Place.End → Awaits self.old.columns.now self.new.place bytes.new.now) }
+        ensures refused { IfErr result (UnlessMemory (StopsAt self.old.columns.now self.new.place self.new.row
+            bytes.new.now)) }
     {
         let Place::Tuples = self.place else {
             return Ok(());
         };
         // A tuple has two bytes at least.
-        'tuples: for _ in 0..bytes.len() {
+        'tuples: for _turn in 0..bytes.len() {
             let row = self.row.saturating_add(1);
             match front_of(bytes, self.columns.len(), Row::Tuple(row))? {
                 Front::Part => return Ok(()),
@@ -195,8 +218,8 @@ impl Reading<'_> {
                     return Ok(());
                 }
                 Front::Tuple(fields) => {
-                    self.row = row;
                     *bytes = self.take_row(fields)?;
+                    self.row = row;
                 }
             }
         }
@@ -206,11 +229,15 @@ impl Reading<'_> {
     /// Appends the line of the fields at the front, and answers what stands after them. A fault leaves
     /// the lines as they were.
     fn take_row<'f>(&mut self, fields: &'f [u8]) -> Result<&'f [u8], CopyFault>
+        requires { (rest : List ℕ) × FramesThen fields.now (length self.old.columns.now) rest }
         ensures columns { self.new.columns.now ≡ self.old.columns.now }
         ensures place { self.new.place ≡ self.old.place }
+        ensures row { self.new.row ≡ self.old.row }
         ensures ok { IfOk result (λ rest. TakesRow self.old.columns.now fields.now rest.now
             self.old.lines.items self.new.lines.items) }
         ensures err { OnErr result (self.new.lines.items ≡ self.old.lines.items) }
+        ensures refused { IfErr result (UnlessMemory (RefusesRow (next_row self.old.row) self.old.columns.now
+            fields.now)) }
     {
         let start = self.lines.len();
         let mut rest = fields;
@@ -225,11 +252,15 @@ impl Reading<'_> {
 
     /// Appends the line of the fields, and takes them. A fault leaves a part of the line.
     fn push_line(&mut self, fields: &mut &[u8]) -> Result<(), CopyFault>
+        requires { (rest : List ℕ) × FramesThen fields.old.now (length self.old.columns.now) rest }
         ensures columns { self.new.columns.now ≡ self.old.columns.now }
         ensures place { self.new.place ≡ self.old.place }
+        ensures row { self.new.row ≡ self.old.row }
         ensures ok { OnOk result (TakesRow self.old.columns.now fields.old.now fields.new.now
             self.old.lines.items self.new.lines.items) }
         ensures err { OnErr result (Extends self.old.lines.items self.new.lines.items) }
+        ensures refused { IfErr result (UnlessMemory (RefusesRow (next_row self.old.row) self.old.columns.now
+            fields.old.now)) }
     {
         let columns = self.columns;
         'columns: for place in 0..columns.len() {
@@ -243,8 +274,10 @@ impl Reading<'_> {
     fn push_tab(&mut self, place: usize) -> Result<(), CopyFault>
         ensures columns { self.new.columns.now ≡ self.old.columns.now }
         ensures place { self.new.place ≡ self.old.place }
+        ensures row { self.new.row ≡ self.old.row }
         ensures ok { OnOk result (self.new.lines.items ≡ self.old.lines.items ++ tab_before place) }
         ensures err { OnErr result (self.new.lines.items ≡ self.old.lines.items) }
+        ensures memory { IfErr result (λ fault. fault ≡ CopyFault.Memory) }
     {
         if place > 0 {
             self.lines.push(b'\t')?;
@@ -260,26 +293,31 @@ impl Reading<'_> {
         place: usize,
         fields: &mut &[u8],
     ) -> Result<(), CopyFault>
+        requires { place < usize.MAX }
         ensures columns { self.new.columns.now ≡ self.old.columns.now }
         ensures place { self.new.place ≡ self.old.place }
+        ensures row { self.new.row ≡ self.old.row }
         ensures ok { OnOk result (TakesField column.now fields.old.now fields.new.now
             self.old.lines.items self.new.lines.items) }
         ensures err { OnErr result (Extends self.old.lines.items self.new.lines.items) }
+        ensures refused { IfErr result (UnlessMemory (ValueRefused (next_row self.old.row) (place + 1) column.now
+            (RefusesAt column.now fields.old.now))) }
     {
         self.value.clear();
         match push_cell(self.alloc, column, fields, &mut self.value) {
             Ok(true) => Ok(escape(self.value.as_slice(), &mut self.lines)?),
             Ok(false) => Ok(self.lines.extend_from_slice(b"\\N")?),
             Err(fault) => {
-                let row = Row::Tuple(self.row);
-                Err(value_fault(row, place.saturating_add(1), column, fault))
+                let number = self.row.saturating_add(1);
+                Err(value_fault(Row::Tuple(number), place + 1, column, fault))
             }
         }
     }
 
     /// What the end of the input says.
     fn finish(&self) -> Result<(), CopyFault>
-        ensures { OnOk result (self.now.place ≡ Place.End) }
+        ensures ok { OnOk result (self.now.place ≡ Place.End) }
+        ensures err { IfErr result (λ fault. (fault ≡ CopyFault.Truncated) × (self.now.place ≢ Place.End)) }
     {
         match self.place {
             Place::End => Ok(()),

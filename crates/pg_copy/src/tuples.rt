@@ -1,10 +1,12 @@
 //! A binary COPY: its signature, the flags, the header extension, the tuples and the trailer
 //! (documentation of the command COPY, "Binary Format").
-ghost use Rattle.std.specs.Prelude.{◌≡◌, IfOk, IfSome, IsTrue, OnErr, OnOk, pos};
+ghost use Rattle.std.specs.Prelude.{◌≡◌, ◌+◌, ◌<◌, ◌↔◌, ℕ, List, IfErr, IfNone, IfOk, IfSome, IsTrue, OnErr, OnOk};
+ghost use Rattle.std.specs.Prelude.{pos};
 ghost use Rattle.std.specs.Int.{w16};
-ghost use Rattle.pg_base.specs.Cells.{be};
+ghost use Rattle.pg_base.specs.Cells.{IsBe, be};
 ghost use Rattle.pg_copy.specs.Tuples.{FrameThen, FramesThen};
 ghost use Rattle.pg_copy.specs.ReadingSteps.{StandsAt, TakesHeader};
+ghost use Rattle.pg_copy.specs.Refusals.{FlagsFault, FrontFault, HasNegativeLength, HeaderFault, LengthFault, NoFrame};
 
 use crate::copy_fault::{CopyFault, Row};
 use postgres_types::private::read_be_i32;
@@ -24,6 +26,7 @@ const OIDS: u16 = 1;
 pub fn take_header(bytes: &mut &[u8]) -> Result<Option<usize>, CopyFault>
     ensures ok { IfOk result (λ extension. TakesHeader bytes.old.now extension bytes.new.now) }
     ensures err { OnErr result (bytes.new.now ≡ bytes.old.now) }
+    ensures refused { IfErr result (HeaderFault bytes.old.now) }
 {
     let Some(flags) = bytes.strip_prefix(SIGNATURE) else {
         return if SIGNATURE.starts_with(bytes) {
@@ -49,7 +52,8 @@ pub fn take_header(bytes: &mut &[u8]) -> Result<Option<usize>, CopyFault>
 
 /// Refuses the critical flags, the first two bytes of the four, of which none is known.
 fn check_flags(high: u8, low: u8) -> Result<(), CopyFault>
-    ensures { OnOk result ((high ≡ 0) × (low ≡ 0)) }
+    ensures ok { OnOk result ((high ≡ 0) × (low ≡ 0)) }
+    ensures refused { IfErr result (FlagsFault high low) }
 {
     if high == 0 && low == 0 {
         return Ok(());
@@ -76,7 +80,8 @@ pub enum Front<'a> {
 /// A tuple is a number of columns in two bytes and the frame of each cell; the trailer is -1 in two
 /// bytes. The faults name the row.
 pub fn front_of(bytes: &[u8], columns: usize, row: Row) -> Result<Front<'_>, CopyFault>
-    ensures { IfOk result (λ front. StandsAt columns bytes.now front) }
+    ensures ok { IfOk result (λ front. StandsAt columns bytes.now front) }
+    ensures refused { IfErr result (FrontFault row columns bytes.now) }
 {
     let Some((count, fields)) = bytes.split_first_chunk::<2>() else {
         return Ok(Front::Part);
@@ -85,7 +90,7 @@ pub fn front_of(bytes: &[u8], columns: usize, row: Row) -> Result<Front<'_>, Cop
         return Ok(Front::Trailer(fields));
     }
     if !is_count(*count, columns) {
-        let got = i64::from(i16::from_be_bytes(*count));
+        let got = i64::from(number_in(*count));
         let expected = columns;
         return Err(CopyFault::Columns { row, expected, got });
     }
@@ -98,9 +103,17 @@ pub fn front_of(bytes: &[u8], columns: usize, row: Row) -> Result<Front<'_>, Cop
     }
 }
 
+/// The number that two bytes are.
+fn number_in(bytes: [u8; 2]) -> i16
+    ensures { IsBe w16 bytes result }
+{
+    let [high, low] = bytes;
+    i16::from_be_bytes([high, low])
+}
+
 /// Whether the two bytes are that number of columns.
 fn is_count(count: [u8; 2], columns: usize) -> bool
-    ensures { IsTrue result → count ≡ be w16 (pos columns) }
+    ensures { IsTrue result ↔ IsBe w16 count (pos columns) }
 {
     match i16::try_from(columns) {
         Ok(columns) => count == columns.to_be_bytes(),
@@ -111,7 +124,8 @@ fn is_count(count: [u8; 2], columns: usize) -> bool
 /// What stands after so many frames at the front of the bytes; or the place of the first one that is
 /// truncated, or has a negative length that is not that of NULL, and the bytes from there.
 fn after_frames(bytes: &[u8], count: usize) -> Result<&[u8], (usize, &[u8])>
-    ensures { IfOk result (λ rest. FramesThen bytes.now count rest.now) }
+    ensures ok { IfOk result (λ rest. FramesThen bytes.now count rest.now) }
+    ensures err { IfErr result (λ at. (at.0 < count) × FramesThen bytes.now at.0 at.1.now × NoFrame at.1.now) }
 {
     let mut rest = bytes;
     for place in 0..count {
@@ -124,26 +138,26 @@ fn after_frames(bytes: &[u8], count: usize) -> Result<&[u8], (usize, &[u8])>
 }
 
 /// Refuses a negative length that is not that of NULL, at that place of the row.
-fn check_length(bytes: &[u8], row: Row, place: usize) -> Result<(), CopyFault> {
-    match frame_len(bytes) {
-        Some(len) if len < -1 => {
-            let column = place.saturating_add(1);
-            Err(CopyFault::Length { row, column })
-        }
-        _ => Ok(()),
+fn check_length(bytes: &[u8], row: Row, place: usize) -> Result<(), CopyFault>
+    requires { place < usize.MAX }
+    ensures { IfErr result (LengthFault row place bytes.now) }
+{
+    let mut rest = bytes;
+    let Ok(len) = read_be_i32(&mut rest) else {
+        return Ok(());
+    };
+    if len < -1 {
+        let column = place + 1;
+        return Err(CopyFault::Length { row, column });
     }
-}
-
-/// The length of the frame at the front of the bytes.
-fn frame_len(bytes: &[u8]) -> Option<i32> {
-    let (len, _) = bytes.split_first_chunk::<4>()?;
-    Some(i32::from_be_bytes(*len))
+    Ok(())
 }
 
 /// What stands after the frame at the front of the bytes; `None` where the frame is truncated, or has
 /// a negative length that is not that of NULL.
 fn after_frame(bytes: &[u8]) -> Option<&[u8]>
-    ensures { IfSome result (λ rest. FrameThen bytes.now rest.now) }
+    ensures some { IfSome result (λ rest. FrameThen bytes.now rest.now) }
+    ensures none { IfNone result (NoFrame bytes.now) }
 {
     let mut rest = bytes;
     let Ok(len) = read_be_i32(&mut rest) else {

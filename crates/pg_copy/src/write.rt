@@ -148,10 +148,11 @@ impl TupleWriter<'_> {
         ensures { CountFault (length self.now.columns.now) (length (fields_of line.now)) result }
     {
         let tabs = line.iter().filter(|byte| **byte == b'\t').count();
+        let fields = tabs.saturating_add(1);
         CopyFault::Columns {
             row: Row::Line(self.line),
             expected: self.columns.len(),
-            got: i64::try_from(tabs).unwrap_or(i64::MAX).saturating_add(1),
+            got: i64::try_from(fields).unwrap_or(i64::MAX),
         }
     }
 }

@@ -1,11 +1,11 @@
 //! Names of types.
 
-use named_types::{Base, Form, Name, Program};
+use named_types::{Base, Form, Name};
 use std::test::Fail;
 use test_support::same;
 
 /// Words, and the base name and the form that they are.
-const WORDS: [(&str, Option<(Base, Form)>); 18] = [
+const WORDS: [(&str, Option<(Base, Form)>); 19] = [
     ("int4", Some((Base::Int4, Form::Plain))),
     ("int4?", Some((Base::Int4, Form::Optional))),
     ("int4[]", Some((Base::Int4, Form::Array))),
@@ -23,6 +23,7 @@ const WORDS: [(&str, Option<(Base, Form)>); 18] = [
     ("int4[]?", None),
     ("int4[][]", None),
     ("zone", None),
+    ("json", None),
     ("é", None),
 ];
 
@@ -55,12 +56,9 @@ const WITHOUT_ARRAYS: [Base; 7] = [
 ];
 
 #[test]
-fn base_names_have_arrays_and_programs() -> Result<(), Fail> {
+fn base_names_have_arrays() -> Result<(), Fail> {
     for &base in Base::ALL {
         same(base.has_arrays(), !WITHOUT_ARRAYS.contains(&base))?;
-        let is_document = matches!(base, Base::Json | Base::Jsonb);
-        same(Program::Pgcell.knows(base), !is_document)?;
-        same(Program::Copy.knows(base), base != Base::Unknown)?;
     }
     Ok(())
 }

@@ -11,7 +11,7 @@ use Rattle.pg_copy.proofs.parse.push_array_as.Goals as goal
 pub returns-in_ok-elements-in-Some-clause-ok : goal.returns-in_ok-elements-in-Some-clause-ok
 returns-in_ok-elements-in-Some-clause-ok g c =
     let wire = wire_vec (λ ty. wire_option (g.T.ToSql.wire ty)) in
-    rw c.in-Some.is (value_frame AnyValue (accepted_list g.T.ToSql.accepted) (codes "Vec") wire (content c.args.column.now.ty) c.in-Some.text.now
-    c.in_ok-elements-in-Some.elements tt (list_never_null (λ ty. wire_option (g.T.ToSql.wire ty)) (content c.args.column.now.ty)
-    (element_of (content c.args.column.now.ty)) c.in_ok-elements-in-Some.elements.items) c.args.out.now.items
+    rw c.in-Some.is (value_frame AnyValue (accepted_list g.T.ToSql.accepted) (codes "Vec") wire (content c.args.ty.now) c.in-Some.text.now
+    c.in_ok-elements-in-Some.elements tt (list_never_null (λ ty. wire_option (g.T.ToSql.wire ty)) (content c.args.ty.now)
+    (element_of (content c.args.ty.now)) c.in_ok-elements-in-Some.elements.items) c.args.out.now.items
     c.frame_value-in-Some.new.out.items c.frame_value-in-Some.result c.frame_value-in-Some.ensures.frame)

@@ -9,14 +9,14 @@ use Rattle.postgres_types.specs.Faults.{transmit}
 use Rattle.postgres_types.specs.Texts.{accepted_text, has_version, wire_text}
 use Rattle.pg_copy.proofs.parse.push_text.Goals as goal
 
-pub returns-then-column-clause-ok : goal.returns-then-column-clause-ok
-returns-then-column-clause-ok c = rw c.if-column.true c.push_array_as.ensures.ok
+pub returns-then-is_array-clause-ok : goal.returns-then-is_array-clause-ok
+returns-then-is_array-clause-ok c = rw c.if-is_array.true c.push_array_as.ensures.ok
 
 pub returns-in-Some-clause-ok : goal.returns-in-Some-clause-ok
 returns-in-Some-clause-ok c =
-    let ty = content c.args.column.now.ty in
+    let ty = content c.args.ty.now in
     let bytes = c.in-Some.text.now in
-    rw (c.if-column.false, c.in-Some.is) (value_frame {A = Bor (List ℕ)} (λ text s. s.now ≡ text) accepted_text (codes "&str")
+    rw (c.if-is_array.false, c.in-Some.is) (value_frame {A = Bor (List ℕ)} (λ text s. s.now ≡ text) accepted_text (codes "&str")
     (λ ty s. wire_text (has_version ty) s.now) ty bytes c.in-Some.text refl
     (bytes_or_fault (is_utf8 bytes) (versioned_cell (has_version ty) bytes) transmit) c.args.out.now.items
     c.frame_value-in-Some.new.out.items c.frame_value-in-Some.result c.frame_value-in-Some.ensures.frame)

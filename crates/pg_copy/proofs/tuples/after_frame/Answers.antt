@@ -5,8 +5,8 @@ use Rattle.std.proofs.lemmas.Grind.{common_steps}
 use Rattle.pg_base.proofs.FrameLaws.{cell_after_length}
 use Rattle.pg_copy.proofs.tuples.after_frame.Goals as goal
 
-pub returns : goal.returns
-returns c =
+pub returns-clause-some : goal.returns-clause-some
+returns-clause-some c =
     let number = c.in-Ok.ensures in
     let cell = c.split_at.result.0.now in
     let rest = c.split_at.result.1.now in

@@ -7,4 +7,4 @@ pub loop-place-init : goal.loop-place-init
 loop-place-init c = ([], [], refl, refl, refl)
 
 pub loop-place-preserved : goal.loop-place-preserved
-loop-place-preserved c = frames_next _ _ _ _ c.loop-place.invariant c.in-Some.ensures
+loop-place-preserved c = frames_next _ _ _ _ c.loop-place.invariant c.in-Some.ensures.some

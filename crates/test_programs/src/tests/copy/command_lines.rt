@@ -1,27 +1,33 @@
 //! Tests of command lines.
 
 use pg_copy::arguments::{Request, parse};
+use pg_copy::types::Base;
 use std::alloc::Global;
+use std::fmt::Write;
 use std::test::Fail;
 use test_support::{displays, same};
 
-/// The words of a line.
+/// The words of a command line, with `|` between them.
 fn words(alloc: Global, line: &str) -> Result<Vec<String>, Fail> {
     let mut words = Vec::new(alloc);
-    for word in line.split(' ') {
-        if !word.is_empty() {
-            words.push(String::from_str(alloc, word)?)?;
-        }
+    for word in line.split('|') {
+        words.push(String::from_str(alloc, word)?)?;
     }
     Ok(words)
 }
 
-/// The line asks for so many columns, or for help where that is 0.
-fn asks(alloc: Global, line: &str, count: usize) -> Result<(), Fail> {
-    match parse(alloc, words(alloc, line)?.as_slice())? {
-        Request::Help => same(0, count),
-        Request::Copy(columns) => same(columns.len(), count),
+/// The types of the columns that the line asks for, with spaces between; no byte where it asks for help.
+fn asks(alloc: Global, line: &str, expected: &str) -> Result<(), Fail> {
+    let mut found = String::new(alloc);
+    if let Request::Copy(columns) = parse(alloc, words(alloc, line)?.as_slice())? {
+        for (place, column) in columns.iter().enumerate() {
+            let space = if place > 0 { " " } else { "" };
+            let form = if column.is_array { "[]" } else { "" };
+            let name = column.base.name();
+            write!(found, "{space}{name}{form}")?;
+        }
     }
+    same(found.as_str(), expected)
 }
 
 /// The line is refused with a fault of that text.
@@ -32,52 +38,98 @@ fn refuses(alloc: Global, line: &str, text: &str) -> Result<(), Fail> {
     displays(alloc, &fault, text)
 }
 
-/// Lines, and how many columns they ask for.
-const COLUMNS: [(&str, usize); 9] = [
-    ("int4", 1),
-    ("int4 int4? int4[] int4?[]", 4),
+/// Lines, and the types of the columns that they ask for.
+const COLUMNS: [(&str, &str); 15] = [
+    ("--help", ""),
+    ("--help|int4", ""),
+    ("int4", "int4"),
+    ("int4|text[]", "int4 text[]"),
+    ("int4, text[] ,uuid", "int4 text[] uuid"),
+    ("int4,|text,", "int4 text"),
+    // format_type of PostgreSQL 15.18
     (
-        "bool char int2 int8 oid text varchar bpchar name bytea bit varbit",
-        12,
-    ),
-    ("inet addr cidr macaddr uuid pg_lsn json jsonb json[]", 9),
-    (
-        "date date_inf time timestamp timestamp_inf timestamptz unix unix_inf interval",
-        9,
+        "boolean|smallint|integer|bigint|character varying(20)|character(3)|\"char\"|name",
+        "bool int2 int4 int8 varchar bpchar \"char\" name",
     ),
     (
-        "int2vector oidvector ltree hstore item item[] mood session mood?",
-        9,
+        "bit(8)|bit varying(9)|bit varying|character varying|text|bytea|unknown|oid",
+        "bit varbit varbit varchar text bytea unknown oid",
     ),
-    ("--oid item=16400 --oid mood=1 item item[]", 2),
-    ("--help", 0),
-    ("--oid item=1 --help int4", 0),
+    (
+        "timestamp(3) without time zone|timestamp with time zone|time(0) without time zone|date",
+        "timestamp timestamptz time date",
+    ),
+    (
+        "interval|interval(3)|interval day to second(3)|interval year to month|interval year[]",
+        "interval interval interval interval interval[]",
+    ),
+    (
+        "timestamp(3) with time zone[]|integer[][]|bit(3)[]",
+        "timestamptz[] int4[] bit[]",
+    ),
+    (
+        "char|char(3)|int|varchar(3)|timestamptz|TEXT|Int4",
+        "bpchar bpchar int4 varchar timestamptz text int4",
+    ),
+    (
+        "citext|public.citext|\"My.Schema\".hstore[]|ltree[]",
+        "citext citext hstore[] ltree[]",
+    ),
+    ("enum|enum[]|\"bit\"|\"bit\"[]", "enum enum[] bit bit[]"),
+    (
+        "(a integer, \"b, \"\"(c)\" character varying(20)[])|(a enum[] )[]|(a int4)",
+        "record record[] record",
+    ),
 ];
 
 #[test]
 fn types_are_columns(rt: HostRuntime) -> Result<(), Fail> {
-    for (line, count) in COLUMNS {
-        asks(rt.alloc(), line, count)?;
+    for (line, types) in COLUMNS {
+        asks(rt.alloc(), line, types)?;
+    }
+    Ok(())
+}
+
+#[test]
+fn each_type_has_its_name(rt: HostRuntime) -> Result<(), Fail> {
+    for &base in Base::ALL {
+        same(Base::parse(base.name()), Some(base))?;
+        let form = if base.has_arrays() { "[]" } else { "" };
+        let name = base.name();
+        let name = format!(in rt.alloc(); "{name}{form}")?;
+        asks(rt.alloc(), name.as_str(), name.as_str())?;
     }
     Ok(())
 }
 
 /// Lines that are refused, and why.
-const REFUSED: [(&str, &str); 14] = [
+const REFUSED: [(&str, &str); 17] = [
     ("", "no type is given; --help says how"),
-    ("--oid item=1", "no type is given; --help says how"),
-    ("int4 float8", "no conversion of the type float8"),
-    ("numeric", "no conversion of the type numeric"),
-    ("unknown", "no conversion of the type unknown"),
-    ("mood[]", "no conversion of the type mood[]"),
+    (" , ", "no conversion of the type "),
+    ("int4|float8", "no conversion of the type float8"),
+    (
+        "int4, numeric(10,2) ,text",
+        "no conversion of the type numeric(10,2)",
+    ),
+    (
+        "double precision",
+        "no conversion of the type double precision",
+    ),
+    ("timestamp|with|time|zone", "no conversion of the type with"),
     ("int2vector[]", "no conversion of the type int2vector[]"),
-    ("int4[][]", "no conversion of the type int4[][]"),
-    ("int4??", "no conversion of the type int4??"),
+    ("unknown[]", "no conversion of the type unknown[]"),
+    ("int4?", "no conversion of the type int4?"),
+    ("varchar(20", "no conversion of the type varchar(20"),
+    ("()", "no conversion of the type ()"),
+    ("(int4)", "no conversion of the type (int4)"),
+    ("(a int4, b)", "no conversion of the type (a int4, b)"),
+    ("(\"a int4)", "no conversion of the type (\"a int4)"),
+    ("(a point)", "no conversion of the type (a point)"),
+    (
+        "(a (b int4))",
+        "a composite type within another is not taken: (a (b int4))",
+    ),
     ("--version", "no option --version; --help says which"),
-    ("--oid", "--oid  is not NAME=OID"),
-    ("--oid item", "--oid item is not NAME=OID"),
-    ("--oid item=x int4", "--oid item=x is not NAME=OID"),
-    ("--oid int4=1 int4", "--oid int4=1 is not NAME=OID"),
 ];
 
 #[test]

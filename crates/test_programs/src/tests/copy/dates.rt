@@ -14,11 +14,11 @@ const DATES: &[Row] = &[
     ("date", Some(b"\xff\xf4\x9d{"), b"0044-03-15 BC"),
     ("date", Some(b"\xff\xda\x99\x15"), b"4713-11-24 BC"),
     ("date", Some(b"\x00,\x95\xd3"), b"9999-12-31"),
-    ("date_inf", Some(b"\x7f\xff\xff\xff"), b"infinity"),
-    ("date_inf", Some(b"\x80\x00\x00\x00"), b"-infinity"),
-    ("date_inf", Some(b"\xff\xff\xff\xff"), b"1999-12-31"),
+    ("date", Some(b"\x7f\xff\xff\xff"), b"infinity"),
+    ("date", Some(b"\x80\x00\x00\x00"), b"-infinity"),
+    ("date", Some(b"\xff\xff\xff\xff"), b"1999-12-31"),
     (
-        "date_inf[]",
+        "date[]",
         Some(
             b"\x00\x00\x00\x01\x00\x00\x00\x01\x00\x00\x04:\x00\x00\x00\x03\x00\x00\x00\x01\
               \x00\x00\x00\x04\x7f\xff\xff\xff\xff\xff\xff\xff\x00\x00\x00\x04\x00\x00\x00\x00",
@@ -67,17 +67,17 @@ const DATES: &[Row] = &[
         b"4713-11-24 00:00:00 BC",
     ),
     (
-        "timestamp_inf",
+        "timestamp",
         Some(b"\x7f\xff\xff\xff\xff\xff\xff\xff"),
         b"infinity",
     ),
     (
-        "timestamp_inf",
+        "timestamp",
         Some(b"\x80\x00\x00\x00\x00\x00\x00\x00"),
         b"-infinity",
     ),
     (
-        "timestamp_inf",
+        "timestamp",
         Some(b"\xff\xfc\xa2\xfe\xc4\xc8 \x01"),
         b"1970-01-01 00:00:00.000001",
     ),
@@ -115,74 +115,64 @@ const DATES: &[Row] = &[
         b"{\"2000-01-01 00:00:00+00\",NULL}",
     ),
     (
-        "unix",
+        "timestamp",
         Some(b"\x7f\xff\xff[\xb3\xb2\x9f\xff"),
         b"294276-12-31 23:59:59.999999",
     ),
     (
-        "unix",
-        Some(b"\xfd\x0f\x99\x83\xeb\x0a\xe0\x00"),
-        b"4713-11-24 00:00:00 BC",
-    ),
-    (
-        "unix",
+        "timestamp",
         Some(b"\xff\xfc\xa2\xfe\xc4\xc8 \x00"),
         b"1970-01-01 00:00:00",
     ),
     (
-        "unix",
+        "timestamp",
         Some(b"\xff\xfc\xa2\xfe\xc4\xc8\x1f\xff"),
         b"1969-12-31 23:59:59.999999",
     ),
     (
-        "unix",
+        "timestamp",
         Some(b"\x03\x80\xe7\x0b\x91;\x80\x00"),
         b"10000-01-01 00:00:00",
     ),
     (
-        "unix",
+        "timestamp",
         Some(b"\x00\x00\x04\xac\xef\x8e\xd0\x00"),
         b"2000-02-29 12:00:00",
     ),
     (
-        "unix",
+        "timestamp",
         Some(b"\x00\x0b:\xc8\x82_\xbd\xc0"),
         b"2100-02-28 23:59:59",
     ),
     (
-        "unix",
+        "timestamp",
         Some(b"\x00,\xdc\xfd\x0eL\x80\x00"),
         b"2400-02-29 00:00:00",
     ),
     (
-        "unix",
+        "timestamp",
         Some(b"*\xeb*\xfc?,\xc0\x00"),
         b"100000-12-31 00:00:00",
     ),
     (
-        "unix",
+        "timestamp",
         Some(b"\xff\xd3,H\xb2\xf9\xc0\x00"),
         b"1600-02-29 00:00:00",
     ),
     (
-        "unix",
+        "timestamp",
         Some(b"\xff\xc7\xf67/\x05@\x00"),
         b"1500-03-01 00:00:00",
     ),
     (
-        "unix_inf",
+        "timestamptz",
         Some(b"\x7f\xff\xff\xff\xff\xff\xff\xff"),
         b"infinity",
     ),
     (
-        "unix_inf",
+        "timestamptz",
         Some(b"\x80\x00\x00\x00\x00\x00\x00\x00"),
         b"-infinity",
-    ),
-    (
-        "unix_inf",
-        Some(b"\x7f\xff\xff[\xb3\xb2\x9f\xff"),
-        b"294276-12-31 23:59:59.999999",
     ),
 ];
 
@@ -192,8 +182,7 @@ const NO_VALUES: &[(&str, &[u8])] = &[
     ("date", b"0000-01-01"),
     ("date", b"2000-01-01 AD"),
     ("date", b"10000-01-01"),
-    ("date", b"infinity"),
-    ("date_inf", b"inf"),
+    ("date", b"inf"),
     ("time", b"24:00:00"),
     ("time", b"12:00"),
     ("time", b"12:00:00."),
@@ -202,8 +191,8 @@ const NO_VALUES: &[(&str, &[u8])] = &[
     ("timestamp", b"2000-01-01 00:00:60"),
     ("timestamptz", b"2000-01-01 00:00:00"),
     ("timestamptz", b"2000-01-01 00:00:00+01"),
-    ("unix", b"400000-01-01 00:00:00"),
-    ("unix", b"2000-01-01 00:00:00 BC x"),
+    ("timestamp", b"400000-01-01 00:00:00"),
+    ("timestamp", b"2000-01-01 00:00:00 BC x"),
 ];
 
 #[test]

@@ -141,14 +141,14 @@ const ADDRESSES: &[Row] = &[
         Some(b"\x03\x80\x00\x10\x00\x00\x00\x00\x00\x00\x00\x00\x00\x00\x00\x00\x00\x01\x00\x00"),
         b"::0.1.0.0",
     ),
-    ("addr", Some(b"\x02 \x00\x04\x01\x02\x03\x04"), b"1.2.3.4"),
+    ("inet", Some(b"\x02 \x00\x04\x01\x02\x03\x04"), b"1.2.3.4"),
     (
-        "addr",
+        "inet",
         Some(b"\x03\x80\x00\x10\x00\x00\x00\x00\x00\x00\x00\x00\x00\x00\xff\xff\x01\x02\x03\x04"),
         b"::ffff:1.2.3.4",
     ),
     (
-        "addr",
+        "inet",
         Some(b"\x03\x80\x00\x10\x00\x01\x00\x00\x00\x00\x00\x00\x00\x00\x00\x00\x00\x00\x00\x02"),
         b"1::2",
     ),
@@ -204,7 +204,6 @@ const NO_VALUES: &[(&str, &[u8])] = &[
     ("macaddr", b"08:00:2b:01:02:0g"),
     ("inet", b"1.2.3"),
     ("inet", b"1.2.3.4/x"),
-    ("addr", b"1.2.3.4/8"),
 ];
 
 #[test]

@@ -21,15 +21,15 @@ const NUMBERS: &[Row] = &[
         Some(b"\x00\x00\x00\x00\x00\x00\x00\x00\x00\x00\x00\x10"),
         b"{}",
     ),
-    ("char", Some(b"A"), b"A"),
-    ("char", Some(b"\\"), b"\\\\"),
-    ("char", Some(b"\x80"), b"\\\\200"),
-    ("char", Some(b"\xff"), b"\\\\377"),
-    ("char", Some(b"\x00"), b""),
-    ("char", Some(b"~"), b"~"),
-    ("char", Some(b" "), b" "),
+    ("\"char\"", Some(b"A"), b"A"),
+    ("\"char\"", Some(b"\\"), b"\\\\"),
+    ("\"char\"", Some(b"\x80"), b"\\\\200"),
+    ("\"char\"", Some(b"\xff"), b"\\\\377"),
+    ("\"char\"", Some(b"\x00"), b""),
+    ("\"char\"", Some(b"~"), b"~"),
+    ("\"char\"", Some(b" "), b" "),
     (
-        "char[]",
+        "\"char\"[]",
         Some(
             b"\x00\x00\x00\x01\x00\x00\x00\x00\x00\x00\x00\x12\x00\x00\x00\x04\x00\x00\x00\x01\
               \x00\x00\x00\x01\x80\x00\x00\x00\x01\x00\x00\x00\x00\x01A\x00\x00\x00\x01 ",
@@ -39,10 +39,10 @@ const NUMBERS: &[Row] = &[
     ("int2", Some(b"\x00\x00"), b"0"),
     ("int2", Some(b"\x80\x00"), b"-32768"),
     ("int2", Some(b"\x7f\xff"), b"32767"),
-    ("int4?", Some(b"\x00\x00\x00\x00"), b"0"),
-    ("int4?", Some(b"\x80\x00\x00\x00"), b"-2147483648"),
-    ("int4?", Some(b"\x7f\xff\xff\xff"), b"2147483647"),
-    ("int4?", None, b"\\N"),
+    ("int4", Some(b"\x00\x00\x00\x00"), b"0"),
+    ("int4", Some(b"\x80\x00\x00\x00"), b"-2147483648"),
+    ("int4", Some(b"\x7f\xff\xff\xff"), b"2147483647"),
+    ("int4", None, b"\\N"),
     ("int8", Some(b"\x00\x00\x00\x00\x00\x00\x00\x00"), b"0"),
     (
         "int8",
@@ -79,7 +79,7 @@ const NUMBERS: &[Row] = &[
     ),
     ("int4[]", None, b"\\N"),
     (
-        "int8?[]",
+        "int8[]",
         Some(
             b"\x00\x00\x00\x01\x00\x00\x00\x00\x00\x00\x00\x14\x00\x00\x00\x02\x00\x00\x00\x01\
               \x00\x00\x00\x08\x80\x00\x00\x00\x00\x00\x00\x00\x00\x00\x00\x08\x7f\xff\xff\xff\xff\
@@ -109,12 +109,12 @@ const NUMBERS: &[Row] = &[
         b"1 -2 3",
     ),
     (
-        "oidvector?",
+        "oidvector",
         Some(b"\x00\x00\x00\x01\x00\x00\x00\x00\x00\x00\x00\x1a\x00\x00\x00\x00\x00\x00\x00\x00"),
         b"",
     ),
     (
-        "oidvector?",
+        "oidvector",
         Some(
             b"\x00\x00\x00\x01\x00\x00\x00\x00\x00\x00\x00\x1a\x00\x00\x00\x02\x00\x00\x00\x00\
               \x00\x00\x00\x04\x00\x00\x00\x01\x00\x00\x00\x04\xff\xff\xff\xff",
@@ -126,8 +126,8 @@ const NUMBERS: &[Row] = &[
 /// Texts that are none.
 const NO_VALUES: &[(&str, &[u8])] = &[
     ("bool", b"yes"),
-    ("char", b"ab"),
-    ("char", b"\\\\400"),
+    ("\"char\"", b"ab"),
+    ("\"char\"", b"\\\\400"),
     ("int2", b"32768"),
     ("int4", b"1 "),
     ("oid", b"-1"),

@@ -10,7 +10,8 @@ returns-clause-steps c =
     let columns = c.args.self.now.columns.now in
     let lines = c.args.self.now.lines.items in
     let old = c.args.bytes.now.now in
+    let count = c.args.self.now.row in
     let new = c.take_header.new.bytes.now in
     let head = subst (λ x. TakesHeader old x new) c.in-Some.is c.in_ok-len.ensures.ok in
-    subst (λ p. Advances columns p old lines (Extension c.in-Some.len) new lines) (sym c.in-Header.is)
-    (head_taken columns old new lines c.in-Some.len head)
+    subst (λ p. Advances columns p count old lines (Extension c.in-Some.len) count new lines) (sym c.in-Header.is)
+    (head_taken columns count old new lines c.in-Some.len head)

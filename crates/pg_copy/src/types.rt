@@ -1,0 +1,157 @@
+//! The PostgreSQL types of columns.
+
+/// The table of the types with a conversion, in alphabetical order: of each its member of [`Base`],
+/// its names, of which faults and the help print the first, its Rust type, and its Postgres type and
+/// that of its arrays, where it has some. A Postgres type is a constant of `Type`; or `user` and the
+/// name by which the library knows a type that an extension or a user made, which has arrays. `$rows` is the macro that
+/// is called with all rows, after the arguments.
+///
+/// The values of an enumerated type are labels, whose cells are those of citext.
+macro_rules! base_types {
+    ($rows:ident $args:tt) => {
+        $rows! { $args
+            Bit ["bit"] [postgres_types::BitVec, BIT, BIT_ARRAY],
+            Bool ["bool" "boolean"] [bool, BOOL, BOOL_ARRAY],
+            Bpchar ["bpchar" "character" "char"] [String, BPCHAR, BPCHAR_ARRAY],
+            Bytea ["bytea"] [Vec<u8>, BYTEA, BYTEA_ARRAY],
+            Char ["\"char\""] [i8, CHAR, CHAR_ARRAY],
+            Cidr ["cidr"] [postgres_types::IpCidr, CIDR, CIDR_ARRAY],
+            Citext ["citext"] [String, user "citext"],
+            Date ["date"] [postgres_types::Date<jiff::civil::Date>, DATE, DATE_ARRAY],
+            Enum ["enum"] [String, user "citext"],
+            Hstore ["hstore"] [std::collections::HashMap<String, Option<String>>, user "hstore"],
+            Inet ["inet"] [postgres_types::IpInet, INET, INET_ARRAY],
+            Int2 ["int2" "smallint"] [i16, INT2, INT2_ARRAY],
+            Int2Vector ["int2vector"] [Vec<i16>, INT2_VECTOR],
+            Int4 ["int4" "integer" "int"] [i32, INT4, INT4_ARRAY],
+            Int8 ["int8" "bigint"] [i64, INT8, INT8_ARRAY],
+            Interval ["interval"] [postgres_types::Interval, INTERVAL, INTERVAL_ARRAY],
+            Json ["json"] [serde_json::Value, JSON, JSON_ARRAY],
+            Jsonb ["jsonb"] [serde_json::Value, JSONB, JSONB_ARRAY],
+            Lquery ["lquery"] [String, user "lquery"],
+            Ltree ["ltree"] [String, user "ltree"],
+            Ltxtquery ["ltxtquery"] [String, user "ltxtquery"],
+            Macaddr ["macaddr"] [postgres_types::MacAddress, MACADDR, MACADDR_ARRAY],
+            Name ["name"] [String, NAME, NAME_ARRAY],
+            Oid ["oid"] [u32, OID, OID_ARRAY],
+            OidVector ["oidvector"] [Vec<u32>, OID_VECTOR],
+            PgLsn ["pg_lsn"] [postgres_types::PgLsn, PG_LSN, PG_LSN_ARRAY],
+            Text ["text"] [String, TEXT, TEXT_ARRAY],
+            Time ["time" "time without time zone"] [jiff::civil::Time, TIME, TIME_ARRAY],
+            Timestamp ["timestamp" "timestamp without time zone"]
+                [postgres_types::Timestamp<postgres_types::UnixTime>, TIMESTAMP, TIMESTAMP_ARRAY],
+            Timestamptz ["timestamptz" "timestamp with time zone"]
+                [postgres_types::Timestamp<jiff::Timestamp>, TIMESTAMPTZ, TIMESTAMPTZ_ARRAY],
+            Unknown ["unknown"] [String, UNKNOWN],
+            Uuid ["uuid"] [uuid::Uuid, UUID, UUID_ARRAY],
+            Varbit ["varbit" "bit varying"] [postgres_types::BitVec, VARBIT, VARBIT_ARRAY],
+            Varchar ["varchar" "character varying"] [String, VARCHAR, VARCHAR_ARRAY],
+        }
+    };
+}
+
+pub(crate) use base_types;
+
+/// What the values of a column, or the elements of its arrays, are.
+#[derive(Debug, Clone, Copy, PartialEq, Eq)]
+pub enum Base {
+    Bit,
+    Bool,
+    Bpchar,
+    Bytea,
+    Char,
+    Cidr,
+    Citext,
+    Date,
+    Enum,
+    Hstore,
+    Inet,
+    Int2,
+    Int2Vector,
+    Int4,
+    Int8,
+    Interval,
+    Json,
+    Jsonb,
+    Lquery,
+    Ltree,
+    Ltxtquery,
+    Macaddr,
+    Name,
+    Oid,
+    OidVector,
+    PgLsn,
+    Text,
+    Time,
+    Timestamp,
+    Timestamptz,
+    Unknown,
+    Uuid,
+    Varbit,
+    Varchar,
+    /// A composite type.
+    Composite,
+}
+
+// The type of a name.
+macro_rules! found {
+    (($of:expr) $($base:ident [$($name:literal)+] $types:tt,)*) => {
+        match $of {
+            $($($name)|+ => Some(Base::$base),)*
+            _ => None,
+        }
+    };
+}
+
+// All types of the table.
+macro_rules! all {
+    (() $($base:ident $names:tt $types:tt,)*) => {
+        [$(Base::$base,)*]
+    };
+}
+
+// The first name of a type.
+macro_rules! name_of {
+    (($of:expr) $($base:ident [$name:literal $($other:literal)*] $types:tt,)*) => {
+        match $of {
+            $(Base::$base => $name,)*
+            Base::Composite => "record",
+        }
+    };
+}
+
+// Whether a type has arrays: whether two Postgres types stand in its row, or it is a user's.
+macro_rules! has_arrays {
+    (($of:expr) $($base:ident $names:tt $types:tt,)*) => {
+        match $of {
+            $(Base::$base => has_arrays!($types),)*
+            Base::Composite => true,
+        }
+    };
+    ([$rust:ty, $own:ident]) => {
+        false
+    };
+    ($types:tt) => {
+        true
+    };
+}
+
+impl Base {
+    /// All that have names, in alphabetical order.
+    pub const ALL: &'static [Base] = &base_types!(all());
+
+    /// The type of that name, in lower case and without a schema or a modifier.
+    pub fn parse(name: &str) -> Option<Base> {
+        base_types!(found(name))
+    }
+
+    /// Its name.
+    pub fn name(self) -> &'static str {
+        base_types!(name_of(self))
+    }
+
+    /// Whether it has arrays.
+    pub fn has_arrays(self) -> bool {
+        base_types!(has_arrays(self))
+    }
+}
