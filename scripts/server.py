@@ -18,6 +18,9 @@ SETTINGS = {
     "PGCLIENTENCODING": "UTF8",
 }
 OPTIONS = {
+    # (each query has the rows of a table in their order)
+    "synchronize_seqscans": "off",
+    "max_parallel_workers_per_gather": "0",
     "fsync": "off",
     "full_page_writes": "off",
     "autovacuum": "off",
