@@ -28,6 +28,7 @@ V6 = r"regexp_replace(translate(md5(i::text), '456789abc', '000000000'), '(....)
 # Why copy_write writes other bytes than the server, of the same values.
 KEYS = "the keys of an hstore are in another order"
 SPACES = "the spaces of documents differ"
+FLAG = "the flag of a CIDR is 0"
 OIDS = "the OIDs that a server gave its types are 0"
 
 
@@ -117,7 +118,7 @@ KINDS = [
     Kind("inet", "inet", inet(masked), quoted("255.255.255.255", "1.2.3.4/0", "::/0", "::ffff:1.2.3.4/96", *V6_BORDERS)),
     Kind("addr", "inet", inet(lambda address, bits: address), quoted("255.255.255.255", *V6_BORDERS), copy_name="inet"),
     Kind("cidr", "cidr", inet(lambda address, bits: f"network({masked(address, bits)})"),
-         quoted("0.0.0.0/0", "1.2.3.4/32", "::/0", *V6_BORDERS)),
+         quoted("0.0.0.0/0", "1.2.3.4/32", "::/0", *V6_BORDERS), other_bytes=FLAG),
     Kind("macaddr", "macaddr", "left(md5(i::text), 12)::macaddr", quoted("00:00:00:00:00:00", "ff:ff:ff:ff:ff:ff")),
     Kind("uuid", "uuid", "md5(i::text)::uuid", quoted("00000000-0000-0000-0000-000000000000")),
     Kind("pg_lsn", "pg_lsn", f"'0/0'::pg_lsn + floor({STEP})", quoted("0/0", "FFFFFFFF/FFFFFFFF", "0/A")),
