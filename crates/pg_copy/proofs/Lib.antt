@@ -1,7 +1,9 @@
 -- The lemmas of this crate's proofs.
 mod ArrayBounds
 mod CellTexts
+mod CompositeSteps
 mod EscapeLaws
+mod EscapeTable
 mod HeaderLaws
 mod LineLaws
 mod ReadingLaws
@@ -14,3 +16,4 @@ mod TextLaws
 mod TupleLaws
 pub mod Wires
 mod WrittenLaws
+pub mod WrittenRecords

@@ -1,11 +1,14 @@
 -- Laws of lines.
 use Rattle.std.proofs.Common.{◌≡◌, ℕ, suc, List, [], ◌∷◌, ◌++◌, length, refl, ap, sym, ◌∙◌}
 use Rattle.std.proofs.Common.{append_assoc, append-nil, subst}
+use Rattle.std.specs.List.{join_with_byte}
 use Rattle.pg_base.specs.Cells.{Cell, SpellsAll}
-use Rattle.pg_copy.specs.Lines.{AreFieldsOf, AreLinesOf, FieldOf, IsLineOf, tab_before, tabbed}
+use Rattle.pg_copy.specs.Lines.{AreFieldsOf, AreLinesOf, FieldOf, IsLineOf}
 use Rattle.pg_copy.specs.Outputs.{Extends}
 use Rattle.pg_copy.specs.ReadingSteps.{TakesField, TakesRow}
 use Rattle.pg_copy.specs.declared.columns.Column.{Column}
+use Rattle.pg_text.proofs.Joins.{join_push}
+use Rattle.pg_text.specs.Lists.{separator}
 
 -- cells after cells are cells in a row
 spelled_more : (s u rest : List ℕ) (cs ds : List Cell) → SpellsAll s cs u → SpellsAll u ds rest
@@ -20,7 +23,8 @@ spelled_more s u rest (c ∷ cs) ds p r = record {
 }
 
 -- fields are as many as columns, and so are cells
-pub fields_width : (columns : List Column) (cells : List Cell) (fields : List (List ℕ)) → AreFieldsOf columns cells fields
+pub fields_width : (columns : List Column) (cells : List Cell) (fields : List (List ℕ))
+    → AreFieldsOf columns cells fields
     → (length cells ≡ length columns) × (length fields ≡ length columns)
 fields_width [] [] [] h = (refl, refl)
 fields_width [] [] (f ∷ fs) h = absurd h
@@ -45,28 +49,17 @@ module _ (column : Column) (cell : Cell) (field : List ℕ) (one : FieldOf colum
   fields_more (c ∷ cs) (x ∷ xs) [] h = absurd h
   fields_more (c ∷ cs) (x ∷ xs) (f ∷ fs) h = (h.0, fields_more cs xs fs h.1)
 
-tabbed_more : (field : List ℕ) (fields : List (List ℕ)) (next : List ℕ)
-    → tabbed (field ∷ (fields ++ next ∷ [])) ≡ tabbed (field ∷ fields) ++ 9 ∷ next
-tabbed_more field [] next = refl
-tabbed_more field (f ∷ fields) next =
-    ap (λ l. field ++ 9 ∷ l) (tabbed_more f fields next) ∙ sym (append_assoc field (9 ∷ tabbed (f ∷ fields)) (9 ∷ next))
-
-tabbed_next : (fields : List (List ℕ)) (next : List ℕ)
-    → tabbed (fields ++ next ∷ []) ≡ tabbed fields ++ (tab_before (length fields) ++ next)
-tabbed_next [] next = refl
-tabbed_next (field ∷ fields) next = tabbed_more field fields next
-
 -- the fields of so many columns were appended, and their cells taken
 abbrev pub TakesFields : List Column → List ℕ → List ℕ → List ℕ → List ℕ → Type 0
 TakesFields columns old new lines longer =
     (cells : List Cell) × (fields : List (List ℕ)) × AreFieldsOf columns cells fields × SpellsAll old cells new
-    × (longer ≡ lines ++ tabbed fields)
+    × (longer ≡ lines ++ join_with_byte 9 fields)
 
 pub no_field : (old lines : List ℕ) → TakesFields [] old old lines lines
 no_field old lines = ([], [], tt, refl, sym (append-nil lines))
 
 pub next_field : (columns : List Column) (column : Column) (n : ℕ) (old mid new lines longer tab longest : List ℕ)
-    → length columns ≡ n → TakesFields columns old mid lines longer → tab ≡ longer ++ tab_before n
+    → length columns ≡ n → TakesFields columns old mid lines longer → tab ≡ longer ++ separator 9 n
     → TakesField column mid new tab longest → TakesFields (columns ++ column ∷ []) old new lines longest
 next_field columns column n old mid new lines longer tab longest count (cells, fields, are, spelled, is) tabs
     (cell, next, (field, one, then)) = (
@@ -75,10 +68,11 @@ next_field columns column n old mid new lines longer tab longest count (cells, f
       fields_more column cell field one columns cells fields are,
       spelled_more old mid new cells (cell ∷ []) spelled next,
       (let place : n ≡ length fields = sym count ∙ sym (fields_width columns cells fields are).1 in
-          then ∙ ap (λ l. l ++ field) (tabs ∙ ap (λ l. l ++ tab_before n) is) ∙ append_assoc (lines ++ tabbed fields) (tab_before n) field
-          ∙ append_assoc lines (tabbed fields) (tab_before n ++ field)
-          ∙ ap (λ l. lines ++ (tabbed fields ++ (tab_before l ++ field))) place
-          ∙ ap (λ l. lines ++ l) (sym (tabbed_next fields field))),
+          then ∙ ap (λ l. l ++ field) (tabs ∙ ap (λ l. l ++ separator 9 n) is)
+          ∙ append_assoc (lines ++ join_with_byte 9 fields) (separator 9 n) field
+          ∙ append_assoc lines (join_with_byte 9 fields) (separator 9 n ++ field)
+          ∙ ap (λ l. lines ++ (join_with_byte 9 fields ++ (separator 9 l ++ field))) place
+          ∙ ap (λ l. lines ++ l) (sym (join_push 9 fields field))),
     )
 
 pub line_ends : (columns : List Column) (old new lines longer longest : List ℕ)
@@ -87,15 +81,15 @@ line_ends columns old new lines longer longest (cells, fields, are, spelled, is)
   cells,
   spelled,
   (
-    tabbed fields ++ 10 ∷ [],
+    join_with_byte 9 fields ++ 10 ∷ [],
     (fields, are, refl),
-    e ∙ ap (λ l. l ++ 10 ∷ []) is ∙ append_assoc lines (tabbed fields) (10 ∷ []),
+    e ∙ ap (λ l. l ++ 10 ∷ []) is ∙ append_assoc lines (join_with_byte 9 fields) (10 ∷ []),
   ),
 )
 
 pub fields_extend : (columns : List Column) (old new lines longer : List ℕ) → TakesFields columns old new lines longer
     → Extends lines longer
-fields_extend columns old new lines longer (cells, fields, are, spelled, is) = (tabbed fields, is)
+fields_extend columns old new lines longer (cells, fields, are, spelled, is) = (join_with_byte 9 fields, is)
 
 pub lines_next : (columns : List Column) (rows : List (List Cell)) (row : List Cell) (lines line : List ℕ)
     → AreLinesOf columns rows lines → IsLineOf columns row line → AreLinesOf columns (rows ++ row ∷ []) (lines ++ line)

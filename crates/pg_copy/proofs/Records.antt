@@ -1,20 +1,24 @@
 -- What is known of the cell of a composite type, or of arrays of it, which is taken as bytes.
-use Rattle.std.proofs.Common.{◌≡◌, Bool, true, false, ℕ, List, [], ◌∷◌, Option, Some, None, Ok, Err, inl, inr, length, refl, subst, sym}
+use Rattle.std.proofs.Common.{◌≡◌, Bool, true, false, ℕ, List, [], ◌∷◌, Option, Some, None, Ok, Err, inl, inr, length}
+use Rattle.std.proofs.Common.{refl, subst, sym}
 use Rattle.std.proofs.Common.{◌≤◌, arith}
 use Rattle.std.proofs.lemmas.Option.{IfSome_then, none-some}
 use Rattle.std.specs.Borrow.{Bor}
-use Rattle.std.specs.Prelude.{IfErr, IfOk, IfSome, OnOk, Result}
+use Rattle.std.specs.Global.{Global}
+use Rattle.std.specs.Prelude.{IfErr, IfOk, IfSome, Result, Vec}
 use Rattle.pg_base.specs.Cells.{Cell, SpellsAll, SpellsNone, cell_of}
 use Rattle.pg_copy.proofs.CellTexts.{cell_refused}
 use Rattle.pg_copy.specs.ReadingSteps.{TakesCell}
 use Rattle.pg_copy.specs.Refusals.{CellFault, RefusesFront}
-use Rattle.pg_copy.specs.Values.{any_text, composites, in_form, values}
-use Rattle.pg_copy.specs.Outputs.{Gains}
-use Rattle.pg_copy.specs.WrittenRows.{FrameAs}
+use Rattle.pg_copy.specs.Composites.{ReadsBytesOfEach, records_values}
+use Rattle.pg_copy.specs.Values.{ReadsVec, Values, values}
+use Rattle.pg_copy.specs.declared.columns.Field.{Field}
 use Rattle.pg_text.specs.Texts.{AnyText}
 use Rattle.pg_types.specs.Content.{Content}
 use Rattle.pg_types.specs.declared.fault.Fault.{Fault}
+use Rattle.pg_types.specs.declared.types.built_in.BuiltIn.TheVariants.{ByteaArray}
 use Rattle.postgres_types.specs.Bytea.{ReadsBytes}
+use Rattle.postgres_types.specs.Content.{BuiltInType}
 use Rattle.postgres_types.specs.Faults.{Outcome, Refusal, refusal_of, size}
 use Rattle.postgres_types.specs.FrameReading.{ReadsFirst, ReadsFrame}
 use Rattle.postgres_types.specs.OptionReading.{ReadsOption}
@@ -22,6 +26,10 @@ use Rattle.postgres_types.specs.OptionReading.{ReadsOption}
 -- what is read of BYTEA
 abbrev BytesOf : Cell → Outcome (Bor (List ℕ)) → Type 0
 BytesOf = ReadsBytes (λ v. v.now)
+
+-- and of an array of BYTEA
+abbrev BytesOfEach : Cell → Outcome (Vec (Option (Bor (List ℕ))) Global) → Type 0
+BytesOfEach = ReadsVec (λ ty. ReadsOption BytesOf) (BuiltInType ByteaArray)
 
 abbrev only_false : Bool → Type 0
 only_false false = Unit {0}
@@ -67,36 +75,55 @@ module _ (free : Cell → Type 0) (s new : List ℕ) where
   frame_refused ty (Ok o) h = tt
   frame_refused ty (Err f) h = bytes_refused ty f h
 
--- NULL was taken
-pub null_taken : (is_array : Bool) (ty : Content) (s rest text : List ℕ) → SpellsAll s (None ∷ []) rest
-    → TakesCell (in_form is_array composites.0) ty s false rest text text
-null_taken is_array ty s rest text spelled = (None, spelled, refl)
-
--- bytes were taken, and some text was put
-pub record_taken : (is_array : Bool) (ty : Content) (s rest text longer : List ℕ) (v : Bor (List ℕ))
-    → SpellsAll s (Some v.now ∷ []) rest → TakesCell (in_form is_array composites.0) ty s true rest text longer
-record_taken false ty s rest text longer v spelled = (Some v.now, spelled, (refl, (v, refl, tt)))
-record_taken true ty s rest text longer v spelled = (Some v.now, spelled, (refl, (v, refl, tt)))
-
 every : {A : Type 0} (P : A → Type 0) (o : Option A) → ((a : A) → P a) → IfSome o P
 every P None h = tt
 every P (Some a) h = h a
 
--- the bytes at the front were refused
-pub record_refused : (is_array : Bool) (ty : Content) (s rest b : List ℕ) (f : Fault) → SpellsAll s (Some b ∷ []) rest
-    → CellFault is_array (in_form is_array composites.0) ty s f
-record_refused false ty s rest b f spelled = every _ (refusal_of f) (λ r. inr (inr (b, rest, spelled, inl tt)))
-record_refused true ty s rest b f spelled = every _ (refusal_of f) (λ r. inr (inr (b, rest, spelled, inl tt)))
+-- NULL was taken
+pub null_taken : (own : Values) (ty : Content) (s rest text : List ℕ) → SpellsAll s (None ∷ []) rest
+    → TakesCell own ty s false rest text text
+null_taken own ty s rest text spelled = (None, spelled, refl)
 
--- no frame stands whole at the front
-pub record_truncated : (is_array : Bool) (ty : Content) (s : List ℕ) (f : Fault)
-    → IfSome (refusal_of f) (λ r. SpellsNone s × (r ≡ size)) → CellFault is_array (in_form is_array composites.0) ty s f
-record_truncated false ty s f h = IfSome_then (refusal_of f) h (λ r q. inr (inl q))
-record_truncated true ty s f h = IfSome_then (refusal_of f) h (λ r q. inr (inl q))
+module _ {A : Type 0} (reads : Content → Cell → Outcome A → Type 0) (shows : A → List ℕ → List ℕ → Type 0)
+    (is_array : Bool) (ty : Content) (s : List ℕ) (f : Fault) where
+  -- the bytes at the front, of which any may be refused, were refused
+  pub any_refused : (rest b : List ℕ) → ((r : Refusal) → reads ty (Some b) (Err r)) → SpellsAll s (Some b ∷ []) rest
+      → CellFault is_array (values reads shows) ty s f
+  any_refused rest b any spelled = every _ (refusal_of f) (λ r. inr (inr (b, rest, spelled, inl (any r))))
 
--- the frame of any bytes is that of the cell of a composite type, or of arrays of it
-pub any_form : (is_array : Bool) (ty : Content) (text old new : List ℕ) (result : Result (Unit {0}) Fault)
-    → OnOk result (Gains (FrameAs any_text ty (Some text)) old new)
-    → OnOk result (Gains (FrameAs (in_form is_array composites.1) ty (Some text)) old new)
-any_form false ty text old new result h = h
-any_form true ty text old new result h = h
+  -- no frame stands whole at the front
+  pub any_truncated : IfSome (refusal_of f) (λ r. SpellsNone s × (r ≡ size))
+      → CellFault is_array (values reads shows) ty s f
+  any_truncated h = IfSome_then (refusal_of f) h (λ r q. inr (inl q))
+
+-- an array of BYTEA that was taken
+module _ (free : Cell → Type 0) (s new : List ℕ) where
+  list_first : (o : Option (Vec (Option (Bor (List ℕ))) Global)) (cs : List Cell) (rest : List ℕ) → length cs ≤ 1
+      → SpellsAll s cs rest → ReadsFirst (ReadsOption BytesOfEach) free s cs rest (Ok o) new
+      → (cell : Cell) × SpellsAll s (cell ∷ []) new × ReadsOption ReadsBytesOfEach cell (Ok o)
+  list_first o [] rest few spelled h = absurd h.0
+  list_first None (None ∷ []) rest few spelled h = (None, subst (SpellsAll s (None ∷ [])) (sym h.2) spelled, h.0)
+  list_first None (Some b ∷ []) rest few spelled h = absurd h.0
+  list_first (Some v) (None ∷ []) rest few spelled h = absurd h.0
+  list_first (Some v) (Some b ∷ []) rest few spelled h =
+      (Some b, subst (SpellsAll s (Some b ∷ [])) (sym h.2) spelled, h.0)
+  list_first o (c ∷ d ∷ cs) rest few spelled h = let no : ⊥ = omega (arith, few) in absurd no
+
+  pub list_taken : (result : Result (Option (Vec (Option (Bor (List ℕ))) Global)) Fault)
+      → ReadsFrame (ReadsOption BytesOfEach) free s result new
+      → IfOk result (λ o. (cell : Cell) × SpellsAll s (cell ∷ []) new × ReadsOption ReadsBytesOfEach cell (Ok o))
+  list_taken (Ok o) h = list_first o h.cells h.rest h.in_row.1 h.in_row.0 h.holds
+  list_taken (Err f) h = tt
+
+  any_front : (fields : List Field) (ty : Content) (r : Refusal)
+      → RefusesFront true (values (λ _. BytesOfEach) AnyText) ty s r → RefusesFront true (records_values fields) ty s r
+  any_front fields ty r (inl q) = inl q
+  any_front fields ty r (inr (b, rest, spelled, q)) = inr (b, rest, spelled, inl tt)
+
+  pub list_refused : (result : Result (Option (Vec (Option (Bor (List ℕ))) Global)) Fault)
+      → ReadsFrame (ReadsOption BytesOfEach) free s result new
+      → (fields : List Field) (ty : Content) → IfErr result (CellFault true (records_values fields) ty s)
+  list_refused (Ok o) h fields ty = tt
+  list_refused (Err f) h fields ty =
+      IfSome_then (refusal_of f) (cell_refused (λ _. BytesOfEach) AnyText ty free true s new f h)
+      (λ r q. inr (any_front fields ty r q))

@@ -7,10 +7,12 @@ use Rattle.std.proofs.Math.Seq.{take-suc}
 use Rattle.std.proofs.lemmas.List.Splits.{length-slice_split}
 use Rattle.std.specs.Prelude.{◌==◌}
 use Rattle.std.specs.Int.{w16}
+use Rattle.std.specs.List.{AllByRecursion}
 use Rattle.pg_base.specs.Cells.{Cell, be, frames}
 use Rattle.pg_copy.proofs.TupleLaws.{next_frames}
 use Rattle.pg_copy.specs.Outputs.{Extends, Gains}
-use Rattle.pg_copy.specs.TextLines.{Says, fields_left, fields_of}
+use Rattle.pg_copy.specs.TextLines.{LacksEscapes, Says, fields_left, fields_of}
+use Rattle.pg_copy.proofs.TextLaws.{plain_fields}
 use Rattle.pg_copy.specs.WrittenRows.{CountFault, FieldCell, FieldCells, FieldFrame, FrameOf, LineFault, TupleOf}
 use Rattle.pg_copy.specs.WrittenRows.{ValueFault}
 use Rattle.pg_copy.specs.declared.columns.Column.{Column}
@@ -85,6 +87,20 @@ so_far_next columns line fields field after n d column old mid new s within is s
       frames_are = next_frames s.cells cell s.bytes g.0 s.frames_are g.1.2;
       is = g.2 ∙ ap (λ (l : List ℕ). l ++ g.0) s.is ∙ append_assoc old s.bytes g.0;
     }
+
+one_of : (fields : List (List ℕ)) (field : List ℕ) (others : List (List ℕ))
+    → AllByRecursion LacksEscapes (fields ++ field ∷ others)
+    → LacksEscapes field
+one_of [] field others p = p.0
+one_of (f ∷ fields) field others p = one_of fields field others p.1
+
+-- the next field has no escape where the line has none
+pub plain_field : (columns : List Column) (line fields field : List ℕ) (after : Option (List ℕ)) (n : ℕ)
+    (old mid : List ℕ) → SoFar columns line n (Some fields) old mid → fields_of fields ≡ field ∷ fields_left after
+    → LacksEscapes line → LacksEscapes field
+plain_field columns line fields field after n old mid s split h =
+    one_of s.done field (fields_left after)
+    (subst (AllByRecursion LacksEscapes) (s.are ∙ ap (λ (l : List (List ℕ)). s.done ++ l) split) (plain_fields line h))
 
 pub so_far_extends : (columns : List Column) (line : List ℕ) (n : ℕ) (rest : Option (List ℕ)) (old new : List ℕ)
     → SoFar columns line n rest old new → Extends old new

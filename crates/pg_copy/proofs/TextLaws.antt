@@ -5,12 +5,12 @@ use Rattle.std.proofs.Common.{Some, None, option_map, refl, sym, ap, ◌∙◌, 
 use Rattle.std.proofs.Common.{cond, drop-cons, if◌then◌else◌}
 use Rattle.std.specs.Prelude.{◌==◌, ◌||◌, is_some, suc}
 use Rattle.std.proofs.lemmas.Bool.Decides.{nat_tests}
-use Rattle.std.specs.List.{onto_first}
+use Rattle.std.specs.List.{AllByRecursion, onto_first}
 use Rattle.std.specs.Str.{bytes_eq}
 use Rattle.std.proofs.lemmas.Slice.Eq.{bytes_eq-Decides}
 use Rattle.streams.specs.Lines.{Lacks}
 use Rattle.memchr.specs.Find.{IsFirstByte, is_byte2}
-use Rattle.pg_copy.specs.TextLines.{Says, fields_of}
+use Rattle.pg_copy.specs.TextLines.{LacksEscapes, Says, fields_of}
 use Rattle.pg_copy.specs.TextLines.{Unescapes, is_refused_byte, letter_byte, prepend, unescaped, unescaped_after}
 
 -- these bytes and then a text, where that is one
@@ -113,28 +113,53 @@ last_field (x ∷ field) p =
     ap (λ (b : Bool). cond b ([] ∷ fields_of field) (onto_first x (fields_of field))) p.0
     ∙ ap (onto_first x) (last_field field p.1)
 
-either_false : (a b : Bool) → (a || b ≡ true → ⊥) → (a ≡ false) × (b ≡ false)
-either_false false false h = (refl, refl)
-either_false false true h = absurd (h refl)
-either_false true b h = absurd (h refl)
+both_false : (a b : Bool) → (a || b) ≡ false → (a ≡ false) × (b ≡ false)
+both_false false false e = (refl, refl)
+both_false false true e = let bad : ⊥ = cc in absurd bad
+both_false true b e = let bad : ⊥ = cc in absurd bad
 
 -- a text without a backslash and a carriage return is what it says
-plain_text : (text : List ℕ) → ((k : ℕ) → k < length text → is_byte2 92 13 (get_or text k 0) ≡ true → ⊥)
-    → unescaped text ≡ Some text
+plain_text : (text : List ℕ) → LacksEscapes text → unescaped text ≡ Some text
 plain_text [] h = refl
 plain_text (byte ∷ text) h =
-    let first = either_false (byte == 92) (byte == 13) (h 0 (omega arith)) in
-    let rest : unescaped text ≡ Some text = plain_text text (λ k below. h (suc k) (omega (arith, below))) in
+    let first = both_false (byte == 92) (byte == 13) h.0 in
+    let rest : unescaped text ≡ Some text = plain_text text h.1 in
     ap (λ (b : Bool). if b then unescaped_after true text
     else (if byte == 13 then None else prepend byte (unescaped text)))
     first.0
     ∙ ap (λ (b : Bool). if b then None else prepend byte (unescaped text)) first.1 ∙ ap (prepend byte) rest
 
-pub says_plain : (field : List ℕ) (place : Option ℕ) → (field ≡ 92 ∷ 78 ∷ [] → ⊥)
-    → IsFirstByte (is_byte2 92 13) field place → is_some place ≡ false → Says field (Some field)
-says_plain field None not_null first e =
-    (not_null, plain_text field (λ k below passes. first k (omega arith) below passes))
-says_plain field (Some k) not_null first e = let bad : ⊥ = cc in absurd bad
+pub says_plain : (field : List ℕ) → (field ≡ 92 ∷ 78 ∷ [] → ⊥) → LacksEscapes field → Says field (Some field)
+says_plain field not_null h = (not_null, plain_text field h)
+
+not_true : (b : Bool) → (b ≡ true → ⊥) → b ≡ false
+not_true false h = refl
+not_true true h = absurd (h refl)
+
+nowhere : (text : List ℕ) → ((k : ℕ) → k < length text → is_byte2 92 13 (get_or text k 0) ≡ true → ⊥)
+    → LacksEscapes text
+nowhere [] h = tt
+nowhere (byte ∷ text) h =
+    let rest = nowhere text (λ k below. h (suc k) (omega (arith, below))) in
+    (not_true (byte == 92 || byte == 13) (h 0 (omega arith)), rest)
+
+-- a text in which none of them was found
+pub none_found : (text : List ℕ) (place : Option ℕ) → IsFirstByte (is_byte2 92 13) text place → is_some place ≡ false
+    → LacksEscapes text
+none_found text None first e = nowhere text (λ k below passes. first k (omega arith) below passes)
+none_found text (Some k) first e = let bad : ⊥ = cc in absurd bad
+
+cut : (b : Bool) (byte : ℕ) (parts : List (List ℕ)) → (byte == 92 || byte == 13) ≡ false
+    → AllByRecursion LacksEscapes parts
+    → AllByRecursion LacksEscapes (cond b ([] ∷ parts) (onto_first byte parts))
+cut true byte parts e p = (tt, p)
+cut false byte [] e p = ((e, tt), tt)
+cut false byte (part ∷ parts) e p = ((e, p.0), p.1)
+
+-- nor is one in a field of such a line
+pub plain_fields : (line : List ℕ) → LacksEscapes line → AllByRecursion LacksEscapes (fields_of line)
+plain_fields [] h = (tt, tt)
+plain_fields (byte ∷ line) h = cut (byte == 9) byte (fields_of line) h.0 (plain_fields line h.1)
 
 pub says_unescaped : (field new : List ℕ) (is_text : Bool) → (field ≡ 92 ∷ 78 ∷ [] → ⊥)
     → Unescapes field [] new is_text → is_text ≡ true → Says field (Some new)

@@ -1,5 +1,6 @@
 -- Laws of frames in a row.
-use Rattle.std.proofs.Common.{◌≡◌, ℕ, ◌+◌, List, [], ◌∷◌, ◌++◌, Some, refl, sym, ap, ◌∙◌, arith, length-append, append_assoc}
+use Rattle.std.proofs.Common.{◌≡◌, ℕ, ◌+◌, List, [], ◌∷◌, ◌++◌, Some, refl, sym, ap, ◌∙◌, arith, length-append}
+use Rattle.std.proofs.Common.{append_assoc}
 use Rattle.pg_base.specs.Cells.{Cell, concat, frame, frames}
 use Rattle.pg_base.proofs.Concat.{concat-nil, frames-append}
 use Rattle.pg_copy.specs.Tuples.{FrameThen, FramesThen}

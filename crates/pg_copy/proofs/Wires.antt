@@ -15,7 +15,7 @@ use Rattle.postgres_types.specs.Special.{Special, wire_special}
 use Rattle.pg_base.specs.Special.{pos_infinity, neg_infinity, value}
 use Rattle.pg_copy.specs.Outputs.{Gains}
 use Rattle.pg_copy.specs.Values.{text_values}
-use Rattle.pg_copy.specs.WrittenRows.{FrameAs, NeverNull}
+use Rattle.pg_copy.specs.WrittenCells.{FrameAs, NeverNull}
 
 pub bytes_or_fault : (c : Bool) (b : List ℕ) (r : Refusal) → NeverNull (if c then Ok (Some b) else Err r)
 bytes_or_fault true b r = tt

@@ -13,6 +13,10 @@ letter_of byte =
     else if byte == 92 then Some 92
     else None
 
+-- a letter, of which 0 is none
+abbrev pub letter_in : ℕ → Option ℕ
+letter_in letter = if letter == 0 then None else Some letter
+
 -- a byte, or a backslash and the letter that stands for it
 abbrev pub escaped_byte : ℕ → Option ℕ → List ℕ
 escaped_byte byte None = byte ∷ []

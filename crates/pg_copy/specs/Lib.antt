@@ -1,4 +1,5 @@
 -- The words of this crate's contracts.
+pub mod Composites
 pub mod Escapes
 pub mod Lines
 pub mod Outputs
@@ -8,4 +9,6 @@ pub mod Rows
 pub mod TextLines
 pub mod Tuples
 pub mod Values
+pub mod WrittenCells
+pub mod WrittenComposites
 pub mod WrittenRows

@@ -1,7 +1,7 @@
 -- Lines of COPY's text format, as they are taken (CopyReadAttributesText).
 use Rattle.std.specs.Prelude.{◌≡◌, ◌≢◌, ◌==◌, ◌||◌, ◌&&◌, nat_le, ℕ, Bool, true, false, List, [], ◌∷◌, if◌then◌else◌}
 use Rattle.std.specs.Prelude.{Option, Some, None, option_map, ◌++◌}
-use Rattle.std.specs.List.{slice_split}
+use Rattle.std.specs.List.{AllByRecursion, slice_split}
 
 -- the fields of a line: what stands between its tabs
 abbrev pub fields_of : List ℕ → List (List ℕ)
@@ -43,6 +43,10 @@ unescaped_after false (byte ∷ rest) =
     else prepend byte (unescaped_after false rest)
 unescaped_after true (letter ∷ rest) =
     if is_refused_byte letter then None else prepend (letter_byte letter) (unescaped_after false rest)
+
+-- no byte of the text is a backslash or a carriage return
+abbrev pub LacksEscapes : List ℕ → Type 0
+LacksEscapes = AllByRecursion (λ byte. (byte == 92 || byte == 13) ≡ false)
 
 -- the text with its escapes undone
 abbrev pub unescaped : List ℕ → Option (List ℕ)

@@ -3,7 +3,8 @@ use Rattle.std.specs.Fmt.{signed_decimal}
 use Rattle.std.specs.Global.{Global}
 use Rattle.std.specs.HashMap.{HashMap}
 use Rattle.std.specs.Int.{w8, w16, w32, w64}
-use Rattle.std.specs.Prelude.{◌≡◌, ℕ, Bool, true, false, List, Option, Some, None, Ok, Err, String, Vec, decimal, map, string_bytes}
+use Rattle.std.specs.Prelude.{◌≡◌, ℕ, Bool, true, false, List, Option, Some, None, Ok, Err, String, Vec, decimal, map}
+use Rattle.std.specs.Prelude.{string_bytes}
 use Rattle.std.specs.Borrow.{Bor}
 use Rattle.std.specs.declared.hash.BuildHasherDefault.{BuildHasherDefault}
 use Rattle.std.specs.declared.hash.FoldHasher.{FoldHasher}
@@ -11,14 +12,14 @@ use Rattle.pg_copy.specs.declared.types.Base.{Base}
 use Rattle.pg_copy.specs.declared.types.Base.TheVariants as base
 use Rattle.pg_base.specs.Json.{ReadsJson, wire_json}
 use Rattle.pg_text.specs.Intervals.{interval_text}
-use Rattle.pg_text.specs.Lists.{SaysVector, ShowsArray, vector_text}
+use Rattle.pg_text.specs.Lists.{SaysArray, SaysVector, ShowsArray, vector_text}
 use Rattle.pg_text.specs.Maps.{ShowsMap}
 use Rattle.pg_text.specs.Networks.{SaysNetwork, ShowsCidr, ShowsInet}
 use Rattle.pg_text.specs.Specials.{SaysSpecial, ShowsSpecial}
 use Rattle.pg_text.specs.Texts.{AnyText, AnyValue, SaysBool, SaysBytes, SaysMacaddr, SaysSigned, SaysUnsigned, Shows}
 use Rattle.pg_text.specs.Texts.{bits_text, bool_text, bytes_text, char_text, macaddr_text}
-use Rattle.pg_text.specs.Scans.{SaysDate, SaysTime}
-use Rattle.pg_text.specs.Times.{date_text, time_text}
+use Rattle.pg_text.specs.Scans.{SaysDate, SaysInstant, SaysTime, SaysTimestamp}
+use Rattle.pg_text.specs.Times.{ShowsInstant, ShowsTimestamp, date_text, time_text}
 use Rattle.pg_types.specs.declared.types.built_in.BuiltIn.TheVariants.{Jsonb}
 use Rattle.postgres_types.specs.Appending.{Wire}
 use Rattle.postgres_types.specs.ArrayReading.{ReadsByElement, ReadsList}
@@ -68,7 +69,7 @@ arrays_of (values reads shows) =
     values (ReadsVec (λ ty. ReadsOption (reads ty))) (λ v. ShowsArray shows v.items)
 
 abbrev pub text_arrays_of : TextValues → TextValues
-text_arrays_of (text_values says wire) = text_values AnyValue (wire_vec (λ ty. wire_option (wire ty)))
+text_arrays_of (text_values says wire) = text_values (SaysArray says) (wire_list (λ ty. wire_option (wire ty)))
 
 -- values, and arrays of them
 abbrev pub with_arrays : Values → Values × Values
@@ -124,21 +125,23 @@ documents = (
 abbrev pub Map : Type 0
 Map = HashMap (String Global) (Option (String Global)) (BuildHasherDefault FoldHasher)
 
--- what the cell of a composite type, and of arrays of it, is read as: bytes, or they are refused, of which nothing is
--- said
-abbrev pub ReadsRecord : Cell → Outcome (Bor (List ℕ)) → Type 0
-ReadsRecord None outcome = ⊥
-ReadsRecord (Some bytes) (Ok v) = v.now ≡ bytes
-ReadsRecord (Some bytes) (Err refusal) = Unit {0}
+-- a composite type within another, which has no values here: every cell but NULL is refused
+abbrev pub IsRefused : {A : Type 0} → Outcome A → Type 0
+IsRefused (Ok v) = ⊥
+IsRefused (Err refusal) = Unit {0}
 
-abbrev pub any_bytes : Values
-any_bytes = values {A = Bor (List ℕ)} (λ ty. ReadsRecord) AnyText
+abbrev pub no_values : Values × Values
+no_values = (
+  values {A = Bor (List ℕ)} (λ ty cell. IsRefused) AnyText,
+  values {A = Bor (List ℕ)} (λ ty cell. IsRefused) AnyText,
+)
 
-abbrev pub any_text : TextValues
-any_text = text_values {A = Bor (List ℕ)} AnyValue (λ ty s. wire_bytes s.now)
+-- no text
+abbrev pub no_text : TextValues
+no_text = text_values {A = ⊥} AnyValue (λ ty v. Ok None)
 
 abbrev pub composites : Conversions
-composites = ((any_bytes, any_bytes), (any_text, any_text))
+composites = (no_values, (no_text, no_text))
 
 -- the values of a type
 abbrev pub values_of : Base → Conversions
@@ -191,13 +194,14 @@ values_of base.PgLsn = (
 values_of base.Text = texts
 values_of base.Time = (plain ReadsTime (Shows time_text), parsed SaysTime wire_time)
 values_of base.Timestamp = (
-  plain (ReadsSpecial w64 timestamp_view (ReadsTimestamp nanos_of)) (λ v. ShowsSpecial AnyText (timestamp_view v)),
-  parsed (λ text v. SaysSpecial AnyValue text (timestamp_view v))
+  plain (ReadsSpecial w64 timestamp_view (ReadsTimestamp nanos_of))
+      (λ v. ShowsSpecial ShowsTimestamp (timestamp_view v)),
+  parsed (λ text v. SaysSpecial SaysTimestamp text (timestamp_view v))
       (λ v. wire_special w64 (λ u. wire_timestamp (nanos_of u)) (timestamp_view v)),
 )
 values_of base.Timestamptz = (
-  plain (ReadsSpecial w64 timestamp_view ReadsInstant) (λ v. ShowsSpecial AnyText (timestamp_view v)),
-  parsed (λ text v. SaysSpecial AnyValue text (timestamp_view v))
+  plain (ReadsSpecial w64 timestamp_view ReadsInstant) (λ v. ShowsSpecial ShowsInstant (timestamp_view v)),
+  parsed (λ text v. SaysSpecial SaysInstant text (timestamp_view v))
       (λ v. wire_special w64 wire_instant (timestamp_view v)),
 )
 values_of base.Unknown = texts
@@ -210,7 +214,8 @@ values_of base.Varchar = texts
 
 -- the text of a value that the cell's bytes are read as was put after what was there
 abbrev pub ShowsCell : Values → Content → List ℕ → List ℕ → List ℕ → Type 0
-ShowsCell (values {A} reads shows) ty bytes old new = (value : A) × reads ty (Some bytes) (Ok value) × shows value old new
+ShowsCell (values {A} reads shows) ty bytes old new =
+    (value : A) × reads ty (Some bytes) (Ok value) × shows value old new
 
 -- the cell is what a value that the text says is written as
 abbrev pub WritesText : TextValues → Content → List ℕ → Cell → Type 0

@@ -1,10 +1,8 @@
 -- What a binary COPY is written of lines.
 use Rattle.std.specs.Prelude.{◌≡◌, ◌≢◌, ◌<◌, ◌≤◌, ◌-◌, ◌^◌, min, ℕ, pos, List, [], ◌∷◌, ◌++◌, length}
-use Rattle.std.specs.Prelude.{Option, Some, None, IsSome, option_map, Ok, Err}
+use Rattle.std.specs.Prelude.{Option, Some}
 use Rattle.std.specs.Int.{w16}
-use Rattle.std.specs.Borrow.{Bor}
 use Rattle.std.specs.Io.KnownBytes.{Keeps}
-use Rattle.pg_base.specs.Appending.{Wire}
 use Rattle.pg_base.specs.Cells.{Cell, be, frame, frames}
 use Rattle.streams.specs.Answers.{Answered, LinesAre, IsDone}
 use Rattle.streams.specs.Lines.{IsOneLine}
@@ -14,39 +12,28 @@ use Rattle.pg_copy.specs.Outputs.{WritesWhole, WritesPart}
 use Rattle.pg_copy.specs.Rows.{trailer}
 use Rattle.pg_copy.specs.TextLines.{Says, fields_of}
 use Rattle.pg_copy.specs.Tuples.{header}
-use Rattle.pg_copy.specs.Values.{TextValues, WritesText, in_form, values_of}
-use Rattle.postgres_types.specs.Content.{Content, content}
+use Rattle.pg_copy.specs.Values.{TextValues, in_form, values_of}
+use Rattle.pg_copy.specs.WrittenCells.{CellAs, FrameAs}
+use Rattle.pg_copy.specs.WrittenComposites.{composite_texts}
+use Rattle.postgres_types.specs.Content.{content}
 use Rattle.pg_copy.specs.declared.columns.Column.{Column}
+use Rattle.pg_copy.specs.declared.columns.Field.{Field}
+use Rattle.pg_copy.specs.declared.types.Base.{Base}
 use Rattle.pg_copy.specs.declared.copy_fault.CopyFault.{CopyFault}
 use Rattle.pg_copy.specs.declared.copy_fault.CopyFault.TheVariants.{Read, Write, Memory, TooManyColumns}
 use Rattle.pg_copy.specs.declared.copy_fault.CopyFault.TheVariants.{Columns, Value}
 
--- the text that a call is handed, of which None is NULL
-abbrev pub text_of : Option (Bor (List ℕ)) → Option (List ℕ)
-text_of text = option_map (λ t. t.now) text
+-- the values of texts: of a composite type where there are fields
+abbrev pub texts_with : List Field → Base → TextValues × TextValues
+texts_with [] base = (values_of base).1
+texts_with (field ∷ fields) base = composite_texts (field ∷ fields)
 
--- the values of a column's texts
 abbrev pub texts_in : Column → TextValues
-texts_in column = in_form column.is_array (values_of column.base).1
-
--- the cell of a text: NULL is NULL, and a text is some bytes, which a value that it says is written as
-abbrev pub CellAs : TextValues → Content → Option (List ℕ) → Cell → Type 0
-CellAs own ty None cell = cell ≡ None
-CellAs own ty (Some text) cell = IsSome cell × WritesText own ty text cell
-
--- the frame of the text's cell
-abbrev pub FrameAs : TextValues → Content → Option (List ℕ) → List ℕ → Type 0
-FrameAs own ty text bytes = (cell : Cell) × CellAs own ty text cell × (frame cell ≡ Some bytes)
+texts_in column = in_form column.is_array (texts_with column.fields.items column.base)
 
 -- the cell of a text in a column
 abbrev pub CellOf : Column → Option (List ℕ) → Cell → Type 0
 CellOf column = CellAs (texts_in column) (content column.ty)
-
--- the value is not written as NULL
-abbrev pub NeverNull : Wire → Type 0
-NeverNull (Ok None) = ⊥
-NeverNull (Ok (Some bytes)) = Unit {0}
-NeverNull (Err refusal) = Unit {0}
 
 -- the frame of the text's cell
 abbrev pub FrameOf : Column → Option (List ℕ) → List ℕ → Type 0

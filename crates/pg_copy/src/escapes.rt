@@ -1,24 +1,37 @@
 //! The escapes of COPY's text format.
 ghost use Rattle.std.specs.Prelude.{◌≡◌, ◌++◌, IfOk, OnOk, OnErr};
-ghost use Rattle.pg_copy.specs.Escapes.{escaped, escaped_byte, letter_of};
+ghost use Rattle.std.specs.List.{list_all};
+ghost use Rattle.pg_copy.specs.Escapes.{escaped, escaped_byte, is_plain, letter_in, letter_of};
 ghost use Rattle.pg_copy.specs.Outputs.{Extends};
 ghost use Rattle.pg_copy.specs.TextLines.{Unescapes, is_refused_byte, letter_byte};
 
 use std::alloc::AllocError;
 
+// Each byte that is escaped has its letter at its place, and every other byte has 0.
+static LETTERS: [u8; 256] = *b"\
+    \0\0\0\0\0\0\0\0btnvfr\0\0\0\0\0\0\0\0\0\0\0\0\0\0\0\0\0\0\
+    \0\0\0\0\0\0\0\0\0\0\0\0\0\0\0\0\0\0\0\0\0\0\0\0\0\0\0\0\0\0\0\0\
+    \0\0\0\0\0\0\0\0\0\0\0\0\0\0\0\0\0\0\0\0\0\0\0\0\0\0\0\0\\\0\0\0\
+    \0\0\0\0\0\0\0\0\0\0\0\0\0\0\0\0\0\0\0\0\0\0\0\0\0\0\0\0\0\0\0\0\
+    \0\0\0\0\0\0\0\0\0\0\0\0\0\0\0\0\0\0\0\0\0\0\0\0\0\0\0\0\0\0\0\0\
+    \0\0\0\0\0\0\0\0\0\0\0\0\0\0\0\0\0\0\0\0\0\0\0\0\0\0\0\0\0\0\0\0\
+    \0\0\0\0\0\0\0\0\0\0\0\0\0\0\0\0\0\0\0\0\0\0\0\0\0\0\0\0\0\0\0\0\
+    \0\0\0\0\0\0\0\0\0\0\0\0\0\0\0\0\0\0\0\0\0\0\0\0\0\0\0\0\0\0\0\0";
+
+/// The letter that stands for the byte after a backslash; 0 of a byte that has none.
+fn letter_at(byte: u8) -> u8
+    ensures { letter_in result ≡ letter_of byte }
+{
+    LETTERS[byte as usize]
+}
+
 /// The letter that stands for the byte after a backslash, of a byte that has one.
 fn escape_of(byte: u8) -> Option<u8>
     ensures { result ≡ letter_of byte }
 {
-    match byte {
-        0x08 => Some(b'b'),
-        b'\t' => Some(b't'),
-        b'\n' => Some(b'n'),
-        0x0b => Some(b'v'),
-        0x0c => Some(b'f'),
-        b'\r' => Some(b'r'),
-        b'\\' => Some(b'\\'),
-        _ => None,
+    match letter_at(byte) {
+        0 => None,
+        letter => Some(letter),
     }
 }
 
@@ -37,13 +50,24 @@ fn escaped_by(letter: u8) -> u8
     }
 }
 
+/// Whether no byte of the text has a letter. It looks at all bytes, with no branch for each.
+fn is_plain(text: &[u8]) -> bool
+    ensures { result ≡ list_all is_plain text.now }
+{
+    let mut letters = 0;
+    'bytes: for byte in text {
+        letters |= letter_at(*byte);
+    }
+    letters == 0
+}
+
 /// Appends the text with a backslash and a letter for each byte that has one (`CopyAttributeOutText`).
 pub fn escape(text: &[u8], out: &mut Vec<u8>) -> Result<(), AllocError>
     ensures ok { OnOk result (out.new.items ≡ out.old.items ++ escaped text.now) }
     ensures err { OnErr result (Extends out.old.items out.new.items) }
 {
     // Most texts have no such byte.
-    if text.iter().all(|byte| escape_of(*byte).is_none()) {
+    if is_plain(text) {
         return out.extend_from_slice(text);
     }
     'bytes: for byte in text {

@@ -1,15 +1,19 @@
 //! The cell of a text, by the type of its column.
-ghost use Rattle.std.specs.Prelude.{◌≡◌, OnErr, OnOk};
+ghost use Rattle.std.specs.Prelude.{◌≡◌, IfOk, OnErr, OnOk, map};
 ghost use Rattle.pg_copy.specs.Outputs.{Gains};
-ghost use Rattle.pg_copy.specs.Values.{composites, in_form, text_arrays_of, text_values, texts, texts_with_arrays, values_of};
-ghost use Rattle.pg_copy.specs.WrittenRows.{FrameAs, FrameOf, NeverNull, text_of};
+ghost use Rattle.pg_copy.specs.Values.{in_form, text_arrays_of, text_values, texts, texts_with_arrays, values_of};
+ghost use Rattle.pg_copy.specs.WrittenCells.{FrameAs, NeverNull, text_of};
+ghost use Rattle.pg_copy.specs.WrittenComposites.{FieldOf, RecordOf, SaysRecord, composite_texts, record_of};
+ghost use Rattle.pg_copy.specs.WrittenRows.{FrameOf};
+ghost use Rattle.pg_text.specs.Lists.{SaysArray};
 ghost use Rattle.postgres_types.specs.Content.{Content, content};
 
 use crate::columns::{Column, Field};
 use crate::types::{Base, base_types};
 use pg_text::arrays::parse_array;
-use pg_text::items::Items;
+use pg_text::items::{between, said};
 use pg_text::{FromText, no_value, records};
+use postgres_types::composite::field_count_to_sql;
 use postgres_types::private::BytesMut;
 use postgres_types::{Fault, ToSql, Type, frame_value};
 use std::alloc::Global;
@@ -43,6 +47,8 @@ macro_rules! push_row {
 /// Appends the frame of the cell that the value of the text is written as. A text that is no value
 /// of the column's type is the fault `User`; another fault is that of writing. Either leaves the
 /// buffer's bytes as they were.
+// It is called for each value.
+#[inline(always)]
 pub fn push_frame(
     alloc: Global,
     column: &Column,
@@ -52,9 +58,10 @@ pub fn push_frame(
     ensures ok { OnOk result (Gains (FrameOf column.now (text_of text.entry)) out.old.items out.new.items) }
     ensures err { OnErr result (out.new.items ≡ out.old.items) }
 {
-    match column.base {
-        Base::Composite => push_composite(alloc, column, text, out),
-        _ => push_value(alloc, &column.base, column.is_array, &column.ty, text, out),
+    if column.fields.is_empty() {
+        push_value(alloc, &column.base, column.is_array, &column.ty, text, out)
+    } else {
+        push_composite(alloc, column, text, out)
     }
 }
 
@@ -68,8 +75,8 @@ fn push_value(
     text: Text<'_>,
     out: &mut BytesMut,
 ) -> Result<(), Fault>
-    ensures ok { OnOk result (Gains (FrameAs (in_form is_array (values_of base.now).1) (content ty.now) (text_of text.entry))
-        out.old.items out.new.items) }
+    ensures ok { OnOk result (Gains (FrameAs (in_form is_array (values_of base.now).1) (content ty.now)
+        (text_of text.entry)) out.old.items out.new.items) }
     ensures err { OnErr result (out.new.items ≡ out.old.items) }
 {
     base_types!(push(alloc, base, is_array, ty, text, out))
@@ -140,131 +147,89 @@ fn push_array_as<T: FromText + ToSql>(
     }
 }
 
-/// The same of a composite type, or of arrays of it.
+/// The same of a composite type, or of arrays of it. The OID of the elements' type, which a user made and is not known,
+/// is that of BYTEA: servers from version 14 on do not look at it (`array_recv`).
+// It is kept out of the loop over the values of other types.
+#[inline(never)]
 fn push_composite(
     alloc: Global,
     column: &Column,
     text: Text<'_>,
     out: &mut BytesMut,
 ) -> Result<(), Fault>
-    ensures ok { OnOk result (Gains (FrameAs (in_form column.now.is_array composites.1) (content column.now.ty) (text_of text.entry))
-        out.old.items out.new.items) }
+    ensures ok { OnOk result (Gains (FrameAs (in_form column.now.is_array (composite_texts column.now.fields.items))
+        (content column.now.ty) (text_of text.entry)) out.old.items out.new.items) }
     ensures err { OnErr result (out.new.items ≡ out.old.items) }
 {
     let Some(text) = text else {
         return frame_value(alloc, &None::<&[u8]>, &Type::BYTEA, out);
     };
-    let mut cell = BytesMut::new(alloc);
+    let fields = column.fields.as_slice();
     if column.is_array {
-        push_records(alloc, column.fields.as_slice(), text, &mut cell)?;
-    } else {
-        push_record(alloc, column.fields.as_slice(), text, &mut cell)?;
+        let records = parse_records(alloc, fields, text)?;
+        return frame_value(alloc, &records, &Type::BYTEA_ARRAY, out);
     }
+    let mut cell = BytesMut::new(alloc);
+    push_record(alloc, fields, text, &mut cell)?;
     frame_value(alloc, &cell.as_slice(), &Type::BYTEA, out)
 }
 
+/// The records of the array of a text.
+fn parse_records(alloc: Global, fields: &[Field], text: &str) -> Result<Vec<Option<Vec<u8>>>, Fault>
+    ensures { IfOk result (λ v. SaysArray (RecordOf fields.now) text.now (map record_of v.items)) }
+{
+    let texts: Vec<Option<String>> = parse_array(alloc, text)?;
+    let mut records = Vec::new(alloc);
+    for text in &texts {
+        records.push(parse_record(alloc, fields, text)?)?;
+    }
+    Ok(records)
+}
+
+/// The record of a text, or NULL.
+fn parse_record(
+    alloc: Global,
+    fields: &[Field],
+    text: &Option<String>,
+) -> Result<Option<Vec<u8>>, Fault>
+    ensures { IfOk result (SaysRecord fields.now text.now) }
+{
+    match text {
+        None => Ok(None),
+        Some(text) => {
+            let mut cell = BytesMut::new(alloc);
+            push_record(alloc, fields, text.as_str(), &mut cell)?;
+            Ok(Some(Vec::from_slice(alloc, cell.as_slice())?))
+        }
+    }
+}
+
 /// Appends the record of a text, as `record_recv` takes it. A fault leaves a part of it.
-fn push_record(
-    alloc: Global,
-    fields: &[Field],
-    text: &str,
-    out: &mut BytesMut,
-) -> Result<(), Fault> {
-    let [b'(', inside @ .., b')'] = text.as_bytes() else {
+fn push_record(alloc: Global, fields: &[Field], text: &str, out: &mut BytesMut) -> Result<(), Fault>
+    ensures { OnOk result (Gains (RecordOf fields.now text.now) out.old.items out.new.items) }
+{
+    let Some(mut rest) = between(text.as_bytes(), b'(', b')') else {
         return Err(no_value());
     };
-    let mut rest = inside;
-    let mut value = Vec::new(alloc);
-    let count = fields.len();
-    out.extend_from_slice(&number(count)?)?;
+    let mut item = Vec::new(alloc);
+    field_count_to_sql(alloc, fields.len(), out)?;
     for (place, field) in fields.iter().enumerate() {
-        let is_null = records::take_field(&mut rest, place + 1 < count, &mut value)?;
-        let Field { base, is_array, ty } = field;
-        out.extend_from_slice(&ty.oid().to_be_bytes())?;
-        push_value(
-            alloc,
-            base,
-            *is_array,
-            ty,
-            said(is_null, value.as_slice())?,
-            out,
-        )?;
+        let is_null = records::take_field(&mut rest, place + 1 < fields.len(), &mut item)?;
+        push_field(alloc, field, said(is_null, item.as_slice())?, out)?;
     }
-    Ok(())
-}
-
-/// The text of these bytes, or NULL.
-fn said(is_null: bool, bytes: &[u8]) -> Result<Text<'_>, Fault> {
-    if is_null {
-        return Ok(None);
-    }
-    match str::from_utf8(bytes) {
-        Ok(text) => Ok(Some(text)),
-        Err(_) => Err(no_value()),
+    // A type without fields has no item.
+    if rest.is_empty() {
+        Ok(())
+    } else {
+        Err(no_value())
     }
 }
 
-/// A count in 4 bytes, big-endian; one of more than an `i32` is `Transmit`.
-fn number(count: usize) -> Result<[u8; 4], Fault> {
-    match i32::try_from(count) {
-        Ok(count) => Ok(count.to_be_bytes()),
-        Err(_) => Err(Fault::Transmit),
-    }
-}
-
-/// Appends the array of the records of a text, as `array_recv` takes it. A fault leaves a part of
-/// it.
-fn push_records(
-    alloc: Global,
-    fields: &[Field],
-    text: &str,
-    out: &mut BytesMut,
-) -> Result<(), Fault> {
-    // No dimension, no flag, and no OID.
-    if text == "{}" {
-        return Ok(out.extend_from_slice(&[0; 12])?);
-    }
-    let mut elements = BytesMut::new(alloc);
-    let (count, has_null) = push_elements(alloc, fields, text, &mut elements)?;
-    // One dimension, whether an element is NULL, and no OID.
-    out.extend_from_slice(&[0, 0, 0, 1, 0, 0, 0, u8::from(has_null), 0, 0, 0, 0])?;
-    out.extend_from_slice(&number(count)?)?;
-    out.extend_from_slice(&[0, 0, 0, 1])?;
-    Ok(out.extend_from_slice(elements.as_slice())?)
-}
-
-/// Appends the frames of the records of an array's text: how many there are, and whether one is
-/// NULL.
-fn push_elements(
-    alloc: Global,
-    fields: &[Field],
-    text: &str,
-    out: &mut BytesMut,
-) -> Result<(usize, bool), Fault> {
-    let [b'{', inside @ .., b'}'] = text.as_bytes() else {
-        return Err(no_value());
-    };
-    let mut rest = inside;
-    let mut element = Vec::new(alloc);
-    let mut cell = BytesMut::new(alloc);
-    let mut has_null = false;
-    // An element takes a byte and a comma, but for the last one.
-    for count in 1..=text.len() {
-        let Some(item) = Items::OfArray.next(&mut rest, &mut element)? else {
-            return Err(no_value());
-        };
-        has_null |= item.is_null;
-        cell.clear();
-        match said(item.is_null, element.as_slice())? {
-            None => frame_value(alloc, &None::<&[u8]>, &Type::BYTEA, out)?,
-            Some(text) => {
-                push_record(alloc, fields, text, &mut cell)?;
-                frame_value(alloc, &cell.as_slice(), &Type::BYTEA, out)?;
-            }
-        }
-        if !item.has_comma {
-            return Ok((count, has_null));
-        }
-    }
-    Err(no_value())
+/// Appends a field of a record: the OID of its type, and the frame of the cell that the text is written as. A fault
+/// leaves a part of it.
+fn push_field(alloc: Global, field: &Field, text: Text<'_>, out: &mut BytesMut) -> Result<(), Fault>
+    ensures { OnOk result (Gains (FieldOf field.now (text_of text.entry)) out.old.items out.new.items) }
+{
+    out.extend_from_slice(&field.ty.oid().to_be_bytes())?;
+    push_value(alloc, &field.base, field.is_array, &field.ty, text, out)
 }

@@ -1,12 +1,12 @@
 //! From a binary COPY to lines of text.
 ghost use Rattle.std.specs.Prelude.{◌≡◌, ◌≢◌, ◌+◌, ◌<◌, ℕ, List, [], ◌++◌, IfErr, IfOk, OnErr, OnOk, length};
-ghost use Rattle.pg_copy.specs.Lines.{tab_before};
 ghost use Rattle.pg_copy.specs.Outputs.{Extends, WritesPart, WritesWhole};
 ghost use Rattle.pg_copy.specs.ReadingSteps.{Advances, Awaits, AwaitsHeader, AwaitsMore, StopsAt, TakesField};
 ghost use Rattle.pg_copy.specs.ReadingSteps.{TakesRow};
 ghost use Rattle.pg_copy.specs.Refusals.{RefusesAt, RefusesRow, StopsAfter, UnlessMemory, ValueRefused, next_row};
 ghost use Rattle.pg_copy.specs.Rows.{IsCopyOf, OfInput, StartsCopyOf};
 ghost use Rattle.pg_copy.specs.Tuples.{FramesThen};
+ghost use Rattle.pg_text.specs.Lists.{separator};
 
 use crate::columns::Column;
 use crate::copy_fault::{CopyFault, Row, value_fault};
@@ -275,7 +275,7 @@ impl Reading<'_> {
         ensures columns { self.new.columns.now ≡ self.old.columns.now }
         ensures place { self.new.place ≡ self.old.place }
         ensures row { self.new.row ≡ self.old.row }
-        ensures ok { OnOk result (self.new.lines.items ≡ self.old.lines.items ++ tab_before place) }
+        ensures ok { OnOk result (self.new.lines.items ≡ self.old.lines.items ++ separator 9 place) }
         ensures err { OnErr result (self.new.lines.items ≡ self.old.lines.items) }
         ensures memory { IfErr result (λ fault. fault ≡ CopyFault.Memory) }
     {

@@ -1,20 +1,27 @@
 //! The text of a cell, by the type of its column.
-ghost use Rattle.std.specs.Prelude.{◌≡◌, ◌∷◌, [], IfErr, IfOk, IfSome, IsTrue, Some, codes, drop, true};
-ghost use Rattle.pg_base.specs.Cells.{SpellsAll, SpellsNone, cell_of};
+ghost use Rattle.std.specs.Int.{w32};
+ghost use Rattle.std.specs.Prelude.{◌≡◌, ◌++◌, ◌∷◌, ℕ, List, [], IfErr, IfOk, IfSome, IsTrue, OnOk, Some, codes, drop};
+ghost use Rattle.std.specs.Prelude.{Ok, false, true};
+ghost use Rattle.pg_base.specs.Cells.{Cell, IsBeUnsigned, SpellsAll, SpellsNone, cell_of};
+ghost use Rattle.pg_copy.specs.Composites.{FitsOid, ReadsBytesOfEach, ShowsField, ShowsRecord, record_values};
+ghost use Rattle.pg_copy.specs.Composites.{records_values};
 ghost use Rattle.pg_copy.specs.Lines.{values_in};
 ghost use Rattle.pg_copy.specs.ReadingSteps.{TakesCell};
 ghost use Rattle.pg_copy.specs.Refusals.{CellFault, HasOtherBound, RefusesFront, accepted_in_form};
-ghost use Rattle.pg_copy.specs.Values.{arrays_of, composites, in_form, values, values_of, with_arrays};
-ghost use Rattle.pg_types.specs.Content.{content};
+ghost use Rattle.pg_copy.specs.Values.{arrays_of, in_form, no_values, values, values_of, with_arrays};
+ghost use Rattle.pg_copy.specs.declared.columns.Field.{Field};
+ghost use Rattle.pg_text.specs.Lists.{ShowsArray, ShowsElement};
+ghost use Rattle.pg_types.specs.Content.{Content, content};
 ghost use Rattle.pg_types.specs.Faults.{refusal_of, size, user};
+ghost use Rattle.postgres_types.specs.OptionReading.{ReadsOption};
 
 use crate::columns::{Column, Field};
 use crate::types::{Base, base_types};
 use pg_text::arrays::{push_array, push_element};
+use pg_text::separators::push_separator;
 use pg_text::{ToText, records};
-use postgres_types::composite::{read_end, read_field_count};
+use postgres_types::composite::read_field_count;
 use postgres_types::private::{read_be_i32, read_value};
-use postgres_types::protocol::array_from_sql;
 use postgres_types::{Fault, FromSql, Oid, Type, check_type};
 use std::alloc::Global;
 
@@ -46,6 +53,8 @@ macro_rules! push_row {
 
 /// Takes the frame at the front of the row, appends the text of the value that its cell is read as,
 /// and answers whether there is one, and not NULL. After a fault a part of the text may stand there.
+// It is called for each value.
+#[inline(always)]
 pub fn push_cell(
     alloc: Global,
     column: &Column,
@@ -57,9 +66,10 @@ pub fn push_cell(
     ensures err { IfErr result (CellFault column.now.is_array (values_in column.now) (content column.now.ty)
         row.old.now) }
 {
-    match column.base {
-        Base::Composite => push_composite(alloc, column, row, text),
-        base => push_value(alloc, base, column.is_array, &column.ty, row, text),
+    match column.fields.as_slice() {
+        [] => push_value(alloc, column.base, column.is_array, &column.ty, row, text),
+        fields if column.is_array => push_composites(alloc, fields, row, text),
+        fields => push_composite(alloc, fields, row, text),
     }
 }
 
@@ -137,35 +147,7 @@ fn push_array_as<'a, T: FromSql<'a> + ToText>(
     }
 }
 
-/// The same of a composite type, or of arrays of it.
-#[tactic(auto, using(crate::proofs::Records::record_taken, crate::proofs::Records::null_taken, crate::proofs::Records::record_refused, crate::proofs::Records::record_truncated))]
-fn push_composite(
-    alloc: Global,
-    column: &Column,
-    row: &mut &[u8],
-    text: &mut Vec<u8>,
-) -> Result<bool, Fault>
-    ensures ok { IfOk result (λ has_text. TakesCell (in_form column.now.is_array composites.0) (content column.now.ty)
-        row.old.now has_text row.new.now text.old.items text.new.items) }
-    ensures err { IfErr result (CellFault column.now.is_array (in_form column.now.is_array composites.0)
-        (content column.now.ty) row.old.now) }
-{
-    let frame = *row;
-    let Some(cell) = take_bytes(alloc, row)? else {
-        return Ok(false);
-    };
-    if !column.is_array {
-        push_record(alloc, column.fields.as_slice(), cell, text)?;
-    } else if has_other_lower_bound(frame) {
-        return Err(other_lower_bound());
-    } else {
-        push_records(alloc, column.fields.as_slice(), cell, text)?;
-    }
-    Ok(true)
-}
-
 /// The same of a composite type that is that of a field, which has no value but NULL.
-#[tactic(auto, using(crate::proofs::Records::record_taken, crate::proofs::Records::null_taken, crate::proofs::Records::record_refused, crate::proofs::Records::record_truncated))]
 fn refuse_composite(
     alloc: Global,
     is_array: bool,
@@ -173,13 +155,57 @@ fn refuse_composite(
     row: &mut &[u8],
     text: &mut Vec<u8>,
 ) -> Result<bool, Fault>
-    ensures ok { IfOk result (λ has_text. TakesCell (in_form is_array composites.0) (content ty.now)
+    ensures ok { IfOk result (λ has_text. TakesCell (in_form is_array no_values) (content ty.now)
         row.old.now has_text row.new.now text.old.items text.new.items) }
-    ensures err { IfErr result (CellFault is_array (in_form is_array composites.0) (content ty.now) row.old.now) }
+    ensures err { IfErr result (CellFault is_array (in_form is_array no_values) (content ty.now) row.old.now) }
 {
     match take_bytes(alloc, row)? {
         None => Ok(false),
         Some(_) => Err(Fault::user("composite type within a composite type")),
+    }
+}
+
+/// The same of a composite type of these fields.
+// It is kept out of the loop over the values of other types.
+#[inline(never)]
+fn push_composite(
+    alloc: Global,
+    fields: &[Field],
+    row: &mut &[u8],
+    text: &mut Vec<u8>,
+) -> Result<bool, Fault>
+    ensures ok { (ty : Content) → IfOk result (λ has_text. TakesCell (record_values fields.now) ty
+        row.old.now has_text row.new.now text.old.items text.new.items) }
+    ensures err { (ty : Content) → IfErr result (CellFault false (record_values fields.now) ty row.old.now) }
+{
+    let Some(cell) = take_bytes(alloc, row)? else {
+        return Ok(false);
+    };
+    push_record(alloc, fields, cell, text)?;
+    Ok(true)
+}
+
+/// The same of arrays of a composite type of these fields, whose cells are laid out as those of arrays of BYTEA.
+// It is kept out of that loop too.
+#[inline(never)]
+fn push_composites(
+    alloc: Global,
+    fields: &[Field],
+    row: &mut &[u8],
+    text: &mut Vec<u8>,
+) -> Result<bool, Fault>
+    ensures ok { (ty : Content) → IfOk result (λ has_text. TakesCell (records_values fields.now) ty
+        row.old.now has_text row.new.now text.old.items text.new.items) }
+    ensures err { (ty : Content) → IfErr result (CellFault true (records_values fields.now) ty row.old.now) }
+{
+    let frame = *row;
+    match take_records(alloc, row)? {
+        None => Ok(false),
+        Some(_) if has_other_lower_bound(frame) => Err(other_lower_bound()),
+        Some(records) => {
+            push_records(alloc, fields, records.as_slice(), text)?;
+            Ok(true)
+        }
     }
 }
 
@@ -192,30 +218,95 @@ fn take_bytes<'a>(alloc: Global, row: &mut &'a [u8]) -> Result<Option<&'a [u8]>,
     read_value::<Option<&[u8]>>(alloc, &Type::BYTEA, row)
 }
 
-/// Appends the text of a record, which its cell holds as `record_send` lays it out.
-fn push_record(
+/// The same of an array of BYTEA: the bytes of each element.
+fn take_records<'a>(
+    alloc: Global,
+    row: &mut &'a [u8],
+) -> Result<Option<Vec<Option<&'a [u8]>>>, Fault>
+    ensures ok { IfOk result (λ records. (cell : Cell) × SpellsAll row.old.now (cell ∷ []) row.new.now
+        × ReadsOption ReadsBytesOfEach cell (Ok records)) }
+    ensures err { (fields : List Field) (ty : Content) → IfErr result (CellFault true (records_values fields) ty
+        row.old.now) }
+{
+    read_value::<Option<Vec<Option<&[u8]>>>>(alloc, &Type::BYTEA_ARRAY, row)
+}
+
+/// Appends the text of the records in braces, with commas between, and NULL for NULL.
+fn push_records(
     alloc: Global,
     fields: &[Field],
-    raw: &[u8],
+    records: &[Option<&[u8]>],
     text: &mut Vec<u8>,
-) -> Result<(), Fault> {
-    let mut rest = raw;
-    read_field_count(fields.len(), &mut rest)?;
-    let mut value = Vec::new(alloc);
-    text.push(b'(')?;
-    for (place, field) in fields.iter().enumerate() {
-        if place > 0 {
-            text.push(b',')?;
-        }
-        let Field { base, is_array, ty } = field;
-        take_oid(ty, &mut rest)?;
-        value.clear();
-        if push_value(alloc, *base, *is_array, ty, &mut rest, &mut value)? {
-            records::push_field(value.as_slice(), text)?;
+) -> Result<(), Fault>
+    ensures { OnOk result (ShowsArray (λ s. ShowsRecord fields.now s.now) records.now text.old.items text.new.items) }
+{
+    let mut own = Vec::new(alloc);
+    text.push(b'{')?;
+    for (place, record) in records.iter().enumerate() {
+        push_separator(place, b',', text)?;
+        push_item(alloc, fields, record, &mut own, text)?;
+    }
+    Ok(text.push(b'}')?)
+}
+
+/// Appends a record as an element, or NULL; its own text is written to `own` first.
+fn push_item(
+    alloc: Global,
+    fields: &[Field],
+    raw: &Option<&[u8]>,
+    own: &mut Vec<u8>,
+    text: &mut Vec<u8>,
+) -> Result<(), Fault>
+    ensures { OnOk result ((item : List ℕ) × ShowsElement (λ s. ShowsRecord fields.now s.now) raw.now item
+        × (text.new.items ≡ text.old.items ++ item)) }
+{
+    match raw {
+        None => Ok(text.extend_from_slice(b"NULL")?),
+        Some(raw) => {
+            own.clear();
+            push_record(alloc, fields, raw, own)?;
+            Ok(push_element(own.as_slice(), text)?)
         }
     }
-    read_end(rest)?;
+}
+
+/// Appends the text of a record: that of each field in parentheses, with commas between.
+fn push_record(alloc: Global, fields: &[Field], raw: &[u8], text: &mut Vec<u8>) -> Result<(), Fault>
+    ensures { OnOk result (ShowsRecord fields.now raw.now text.old.items text.new.items) }
+{
+    let mut rest = raw;
+    read_field_count(fields.len(), &mut rest)?;
+    let mut own = Vec::new(alloc);
+    text.push(b'(')?;
+    for (place, field) in fields.iter().enumerate() {
+        push_separator(place, b',', text)?;
+        push_field(alloc, field, &mut rest, &mut own, text)?;
+    }
+    if !rest.is_empty() {
+        return Err(Fault::Size);
+    }
     Ok(text.push(b')')?)
+}
+
+/// Takes a field off the front of the record, and appends its text, or nothing for NULL; its own text is written to
+/// `own` first.
+fn push_field(
+    alloc: Global,
+    field: &Field,
+    raw: &mut &[u8],
+    own: &mut Vec<u8>,
+    text: &mut Vec<u8>,
+) -> Result<(), Fault>
+    ensures { OnOk result ((part : List ℕ × List ℕ) × ShowsField field.now part
+        × (raw.old.now ≡ part.0 ++ raw.new.now) × (text.new.items ≡ text.old.items ++ part.1)) }
+{
+    let Field { base, is_array, ty } = field;
+    take_oid(ty, raw)?;
+    own.clear();
+    if !push_value(alloc, *base, *is_array, ty, raw, own)? {
+        return Ok(());
+    }
+    Ok(records::push_field(own.as_slice(), text)?)
 }
 
 /// The OIDs of the types that are made by hand for every server are smaller.
@@ -223,43 +314,15 @@ const FIRST_OTHER_OID: Oid = 10_000;
 
 /// Takes the OID of a field's type. Another one is refused where both are OIDs of built-in types, as
 /// `record_recv` does: the type can be a domain over that one, or a type that has its OID from a server.
-fn take_oid(ty: &Type, row: &mut &[u8]) -> Result<(), Fault> {
-    let found = read_be_i32(row)?.cast_unsigned();
+fn take_oid(ty: &Type, raw: &mut &[u8]) -> Result<(), Fault>
+    ensures { OnOk result ((oid : ℕ) × (bytes : List ℕ) × IsBeUnsigned w32 bytes oid × FitsOid (content ty.now) oid
+        × (raw.old.now ≡ bytes ++ raw.new.now)) }
+{
+    let found = read_be_i32(raw)?.cast_unsigned();
     if found != ty.oid() && found < FIRST_OTHER_OID && ty.oid() < FIRST_OTHER_OID {
         return Err(Fault::FieldOid);
     }
     Ok(())
-}
-
-/// Appends the text of an array of records.
-fn push_records(
-    alloc: Global,
-    fields: &[Field],
-    raw: &[u8],
-    text: &mut Vec<u8>,
-) -> Result<(), Fault> {
-    let mut cells = array_from_sql(alloc, raw)?;
-    let mut value = Vec::new(alloc);
-    text.push(b'{')?;
-    // After the last cell `next` refuses trailing bytes.
-    for place in 0..=cells.len() {
-        let Some(cell) = cells.next() else {
-            break;
-        };
-        let cell = cell?;
-        if place > 0 {
-            text.push(b',')?;
-        }
-        match cell {
-            None => text.extend_from_slice(b"NULL")?,
-            Some(cell) => {
-                value.clear();
-                push_record(alloc, fields, cell, &mut value)?;
-                push_element(value.as_slice(), text)?;
-            }
-        }
-    }
-    Ok(text.push(b'}')?)
 }
 
 /// The fault of an array with a lower bound other than 1.

@@ -1,12 +1,13 @@
 //! From lines of text to a binary COPY.
-ghost use Rattle.std.specs.Prelude.{◌≡◌, ◌∷◌, pos, ℕ, List, Some, IfErr, OnOk, OnErr, length};
+ghost use Rattle.std.specs.Prelude.{◌≡◌, ◌∷◌, pos, ℕ, List, Some, true, IfErr, OnOk, OnErr, length};
 ghost use Rattle.std.specs.Int.{w16};
 ghost use Rattle.pg_base.specs.Cells.{be};
 ghost use Rattle.streams.specs.Answers.{LinesAre};
 ghost use Rattle.pg_copy.specs.Outputs.{Extends, Gains, WritesWhole};
-ghost use Rattle.pg_copy.specs.TextLines.{fields_left, fields_of};
+ghost use Rattle.pg_copy.specs.TextLines.{LacksEscapes, fields_left, fields_of};
 ghost use Rattle.pg_copy.specs.WrittenRows.{CopyOf, CountFault, FieldFrame, FrameOf, LineFault, Stops, TupleOf};
-ghost use Rattle.pg_copy.specs.WrittenRows.{fault_of, text_of};
+ghost use Rattle.pg_copy.specs.WrittenCells.{text_of};
+ghost use Rattle.pg_copy.specs.WrittenRows.{fault_of};
 
 use crate::columns::Column;
 use crate::copy_fault::{CopyFault, Row, value_fault};
@@ -126,13 +127,22 @@ impl TupleWriter<'_> {
         ensures refused { IfErr result (LineFault self.old.columns.now line.now) }
     {
         pending.extend_from_slice(&self.count)?;
+        // Most lines have no escape, and their fields say what they are.
+        let is_plain = memchr2(b'\\', b'\r', line).is_none();
         let mut rest = Some(line);
         for (place, column) in self.columns.iter().enumerate() {
             let Some(fields) = rest else {
                 return Err(self.count_fault(line));
             };
             let (field, after) = split_field(fields);
-            if let Err(fault) = push_field(alloc, column, field, &mut self.text, pending) {
+            if let Err(fault) = push_field(
+                alloc,
+                column,
+                field,
+                is_plain,
+                &mut self.text,
+                pending,
+            ) {
                 return Err(value_fault(Row::Line(self.line), place + 1, column, fault));
             }
             rest = after;
@@ -167,23 +177,24 @@ fn split_field(fields: &[u8]) -> (&[u8], Option<&[u8]>)
     }
 }
 
-/// Appends the frame of the field's cell. The text of an escaped field is put into `text`, in place
-/// of what is there.
+/// Appends the frame of the field's cell. `is_plain` says that nothing in the line is escaped. The text of an escaped
+/// field is put into `text`, in place of what is there.
 fn push_field(
     alloc: Global,
     column: &Column,
     field: &[u8],
+    is_plain: bool,
     text: &mut Vec<u8>,
     out: &mut BytesMut,
 ) -> Result<(), Fault>
+    requires { is_plain ≡ true → LacksEscapes field.now }
     ensures ok { OnOk result (Gains (FieldFrame column.now field.now) out.old.items out.new.items) }
     ensures err { OnErr result (out.new.items ≡ out.old.items) }
 {
     if field == b"\\N".as_slice() {
         return push_frame(alloc, column, None, out);
     }
-    // Most fields have no escape, and say what they are.
-    if memchr2(b'\\', b'\r', field).is_none() {
+    if is_plain || memchr2(b'\\', b'\r', field).is_none() {
         return push_utf8(alloc, column, field, out);
     }
     text.clear();

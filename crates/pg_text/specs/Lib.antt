@@ -1,5 +1,7 @@
 -- The words of this crate's contracts.
+pub mod Calendar
 pub mod Intervals
+pub mod Items
 pub mod Lists
 pub mod Maps
 pub mod Networks

@@ -1,7 +1,9 @@
 -- The texts of lists of values.
 use Rattle.std.specs.Prelude.{◌≡◌, ℕ, ◌==◌, List, [], ◌∷◌, ◌++◌, codes, map, Option, Some, None, if◌then◌else◌}
 use Rattle.std.specs.List.{AllZip, join_with_byte}
+use Rattle.pg_text.specs.Items.{SaysItem}
 use Rattle.pg_text.specs.Quotes.{element_text}
+use Rattle.pg_text.specs.declared.items.Items.TheVariants.{OfArray}
 
 -- the byte before each item but the first
 abbrev pub separator : ℕ → ℕ → List ℕ
@@ -27,3 +29,20 @@ ShowsArray shows elements old new =
     (items : List (List ℕ))
     × AllZip (ShowsElement shows) elements items
     × (new ≡ old ++ (123 ∷ (join_with_byte 44 items ++ 125 ∷ [])))
+
+-- NULL says NULL, and a text a value
+abbrev pub SaysValue : {A : Type 0} → (List ℕ → A → Type 0) → Option (List ℕ) → Option A → Type 0
+SaysValue says None None = Unit {0}
+SaysValue says (Some text) (Some v) = says text v
+SaysValue says said v = ⊥
+
+-- what an element's text says: NULL, or a text, which says the value (array_in)
+abbrev pub SaysElement : {A : Type 0} → (List ℕ → A → Type 0) → List ℕ → Option A → Type 0
+SaysElement says item v = (said : Option (List ℕ)) × SaysItem OfArray item said × SaysValue says said v
+
+-- and what is read of an array of one dimension (array_in)
+abbrev pub SaysArray : {A : Type 0} → (List ℕ → A → Type 0) → List ℕ → List (Option A) → Type 0
+SaysArray says text elements =
+    (items : List (List ℕ))
+    × (text ≡ 123 ∷ (join_with_byte 44 items ++ 125 ∷ []))
+    × AllZip (SaysElement says) items elements

@@ -1,7 +1,11 @@
 -- What stands at the front of a text, and how it goes on.
 use Rattle.std.specs.Prelude.{◌≡◌, ◌⊎◌, ℕ, ◌-◌, ◌*◌, ◌^◌, ◌≤◌, List, [], ◌∷◌, ◌++◌, length}
-use Rattle.std.specs.Prelude.{ℤ, pos, ◌-ℤ◌, codes}
-use Rattle.jiff.specs.Types.{Date, Time}
+use Rattle.std.specs.Prelude.{ℤ, pos, ◌-ℤ◌, ◌*ℤ◌, codes}
+use Rattle.jiff.specs.Types.{Date, DateTime, Time, Timestamp}
+use Rattle.postgres_types.specs.Civil.{instant_nanos}
+use Rattle.postgres_types.specs.Timestamps.{nanos_of}
+use Rattle.postgres_types.specs.declared.UnixTime.{UnixTime}
+use Rattle.pg_text.specs.Calendar.{IsTimestamp}
 use Rattle.pg_text.specs.Texts.{SaysUnsigned}
 
 -- the decimal digits of a number
@@ -50,3 +54,37 @@ TakesEra text inside year = ((text ≡ codes " BC") × (year ≡ pos 1 -ℤ insi
 abbrev pub SaysDate : List ℕ → Date → Type 0
 SaysDate text d =
     (inside : ℤ) × (rest : List ℕ) × TakesDay text inside d.month d.day rest × TakesEra rest inside d.year
+
+-- a day, a time of day, this zone and the era
+abbrev pub TakesTimestamp : List ℕ → List ℕ → ℤ → ℕ → ℕ → ℕ → ℕ → ℕ → ℕ → Type 0
+TakesTimestamp text zone year month day hour minute second fraction =
+    (inside : ℤ)
+    × (a b : List ℕ)
+    × TakesDay text inside month day (32 ∷ a)
+    × TakesClock a hour minute second fraction (zone ++ b)
+    × TakesEra b inside year
+
+-- what is read of a timestamp as a date and a time of day (timestamp_in)
+abbrev pub SaysDateTime : List ℕ → List ℕ → DateTime → Type 0
+SaysDateTime zone text dt =
+    (fraction : ℕ)
+    × TakesTimestamp text zone dt.date.year dt.date.month dt.date.day dt.time.hour dt.time.minute dt.time.second
+    fraction
+    × (dt.time.subsec_nanosecond ≡ fraction * 1000)
+
+-- and as its nanoseconds after 1970-01-01 00:00:00
+abbrev pub SaysNanos : {A : Type 0} → (A → ℤ) → List ℕ → List ℕ → A → Type 0
+SaysNanos nanos zone text v =
+    (year micros : ℤ)
+    × (month day hour minute second fraction : ℕ)
+    × TakesTimestamp text zone year month day hour minute second fraction
+    × IsTimestamp year month day hour minute second fraction micros
+    × (nanos v ≡ micros *ℤ pos 1000)
+
+-- TIMESTAMP (timestamp_in)
+abbrev pub SaysTimestamp : List ℕ → UnixTime → Type 0
+SaysTimestamp = SaysNanos nanos_of []
+
+-- TIMESTAMPTZ, in UTC (timestamptz_in)
+abbrev pub SaysInstant : List ℕ → Timestamp → Type 0
+SaysInstant = SaysNanos instant_nanos (codes "+00")

@@ -1,14 +1,14 @@
 //! Arrays of one dimension, and vectors of numbers.
 ghost use Rattle.std.specs.Fmt.{signed_decimal};
-ghost use Rattle.std.specs.Prelude.{◌≡◌, ◌||◌, ◌==◌, ◌++◌, ℕ, List, IfOk, OnOk, decimal, length};
+ghost use Rattle.std.specs.Prelude.{◌≡◌, ◌||◌, ◌==◌, ◌++◌, ℕ, List, IfOk, OnOk, decimal, length, option_map};
 ghost use Rattle.std.specs.List.{list_any};
-ghost use Rattle.pg_text.specs.Lists.{SaysVector, ShowsArray, ShowsElement, vector_text};
+ghost use Rattle.pg_text.specs.Lists.{SaysArray, SaysValue, SaysVector, ShowsArray, ShowsElement, vector_text};
 ghost use Rattle.pg_text.specs.Quotes.{element_text, is_array_sign, is_null_word};
 ghost use Rattle.pg_text.specs.Texts.{SaysSigned, SaysUnsigned, Shows};
 
 use crate::digits::push_number;
-use crate::items::Items;
-use crate::quotes::{Escape, is_escaped, is_space, push_quoted};
+use crate::items::{Items, between, said};
+use crate::quotes::{Escape, is_escaped, is_null_word, is_space, push_quoted};
 use crate::separators::push_separator;
 use crate::{FromText, ToText, no_value};
 use itoa::Integer;
@@ -71,13 +71,6 @@ fn needs_quotes(text: &[u8]) -> bool
     text.is_empty() || is_null_word(text) || has_array_sign(text)
 }
 
-/// Whether the text is the word NULL.
-fn is_null_word(text: &[u8]) -> bool
-    ensures { result ≡ is_null_word text.now }
-{
-    text.eq_ignore_ascii_case(b"null")
-}
-
 /// Whether a byte stands in no element without quotes.
 fn has_array_sign(text: &[u8]) -> bool
     ensures { result ≡ list_any is_array_sign text.now }
@@ -94,20 +87,24 @@ fn is_array_sign(byte: u8) -> bool
 
 /// The elements of the array that the text says. An array of several dimensions or with lower bounds
 /// is none.
-pub fn parse_array<T: FromText>(alloc: Global, text: &str) -> Result<Vec<Option<T>>, Fault> {
+pub fn parse_array<T: FromText>(alloc: Global, text: &str) -> Result<Vec<Option<T>>, Fault>
+    ensures { IfOk result (λ v. SaysArray T.says text.now v.items) }
+{
     let mut elements = Vec::new(alloc);
-    let mut rest = match text.as_bytes() {
-        b"{}" => return Ok(elements),
-        [b'{', inside @ .., b'}'] => inside,
-        _ => return Err(no_value()),
+    let Some(mut rest) = between(text.as_bytes(), b'{', b'}') else {
+        return Err(no_value());
     };
+    if rest.is_empty() {
+        return Ok(elements);
+    }
     let mut element = Vec::new(alloc);
     // An element takes a byte and a comma, but for the last one.
     for _ in 0..text.len() {
         let Some(item) = Items::OfArray.next(&mut rest, &mut element)? else {
             return Err(no_value());
         };
-        elements.push(parse_element(alloc, item.is_null, element.as_slice())?)?;
+        let text = said(item.is_null, element.as_slice())?;
+        elements.push(parse_element(alloc, text)?)?;
         if !item.has_comma {
             return Ok(elements);
         }
@@ -115,18 +112,13 @@ pub fn parse_array<T: FromText>(alloc: Global, text: &str) -> Result<Vec<Option<
     Err(no_value())
 }
 
-/// The element of a text.
-fn parse_element<T: FromText>(
-    alloc: Global,
-    is_null: bool,
-    text: &[u8],
-) -> Result<Option<T>, Fault> {
-    if is_null {
-        return Ok(None);
-    }
-    match str::from_utf8(text) {
-        Ok(text) => Ok(Some(T::from_text(alloc, text)?)),
-        Err(_) => Err(no_value()),
+/// The element of a text, or NULL.
+fn parse_element<T: FromText>(alloc: Global, text: Option<&str>) -> Result<Option<T>, Fault>
+    ensures { IfOk result (SaysValue T.says (option_map (λ t. t.now) text.entry)) }
+{
+    match text {
+        None => Ok(None),
+        Some(text) => Ok(Some(T::from_text(alloc, text)?)),
     }
 }
 

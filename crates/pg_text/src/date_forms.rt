@@ -1,10 +1,12 @@
 //! The texts that dates, times of day and timestamps are made of.
-ghost use Rattle.std.specs.Prelude.{◌≡◌, ◌<◌, ◌++◌, [], ℕ, ℤ, List, IfSome, OnOk};
-ghost use Rattle.pg_text.specs.Scans.{TakesClock, TakesDay, TakesEra};
-ghost use Rattle.pg_text.specs.Times.{clock_text, day_text, era_text, timestamp_text, year_of_era};
+ghost use Rattle.std.specs.Prelude.{◌≡◌, ◌<◌, ◌++◌, ◌/◌, ◌%◌, [], ℕ, ℤ, List, IfSome, OnOk, pos, ◌+ℤ◌, ◌-ℤ◌};
+ghost use Rattle.std.specs.Prelude.{◌*ℤ◌};
+ghost use Rattle.pg_text.specs.Calendar.{IsTimestamp, micros_of_day};
+ghost use Rattle.pg_text.specs.Scans.{SaysNanos, TakesClock, TakesDay, TakesEra, TakesTimestamp};
+ghost use Rattle.pg_text.specs.Times.{clock_text, day_text, era_text, seconds_text, timestamp_text, year_of_era};
 
 use crate::calendar::Civil;
-use crate::digits::{push_fraction, push_padded};
+use crate::digits::{push_fraction, push_padded, two_digits};
 use crate::scanner::Scanner;
 use std::alloc::AllocError;
 
@@ -22,7 +24,10 @@ pub struct Clock {
 
 impl Clock {
     /// The time that many seconds after midnight, and the microseconds after that second.
-    pub fn new(seconds: u32, micros: u32) -> Clock {
+    pub fn new(seconds: u32, micros: u32) -> Clock
+        ensures { (result.hour ≡ seconds / 3_600) × (result.minute ≡ seconds / 60 % 60) × (result.second ≡ seconds % 60)
+            × (result.micros ≡ micros) }
+    {
         Clock {
             hour: seconds / 3_600,
             minute: seconds / 60 % 60,
@@ -32,7 +37,10 @@ impl Clock {
     }
 
     /// The microseconds from midnight; `None` where there is no such time. 24:00:00 is none.
-    fn to_micros(self) -> Option<i64> {
+    fn to_micros(self) -> Option<i64>
+        ensures { IfSome result (λ n. (self.hour < 24) × (self.minute < 60) × (self.second < 60)
+            × (self.micros < 1_000_000) × (n ≡ pos (micros_of_day self.hour self.minute self.second self.micros))) }
+    {
         let Clock {
             hour,
             minute,
@@ -57,7 +65,10 @@ pub struct DateTime {
 impl DateTime {
     /// What stands that many seconds after 1970-01-01 00:00:00, and the microseconds after that
     /// second.
-    pub fn new(seconds: i64, micros: u32) -> DateTime {
+    pub fn new(seconds: i64, micros: u32) -> DateTime
+        ensures { micros < 1_000_000 → IsTimestamp result.date.year result.date.month result.date.day result.clock.hour
+            result.clock.minute result.clock.second result.clock.micros (seconds *ℤ pos 1_000_000 +ℤ pos micros) }
+    {
         let second_of_day = seconds.rem_euclid(DAY) as u32;
         DateTime {
             date: Civil::from_day(seconds.div_euclid(DAY)),
@@ -67,18 +78,48 @@ impl DateTime {
 
     /// The microseconds from midnight of a day, which is told in days from 1970-01-01; `None` where
     /// there is no such date or time, or they leave 64 bits.
-    pub fn micros_from(self, day: i64) -> Option<i64> {
-        let days = i128::from(self.date.to_day()?).checked_sub(i128::from(day))?;
-        // The first day may begin before what 64 bits hold, and the time of day not.
-        let micros = days
-            .checked_mul(86_400_000_000)?
-            .checked_add(i128::from(self.clock.to_micros()?))?;
-        i64::try_from(micros).ok()
+    pub fn micros_from(self, day: i64) -> Option<i64>
+        ensures { IfSome result (λ micros. IsTimestamp self.date.year self.date.month self.date.day self.clock.hour
+            self.clock.minute self.clock.second self.clock.micros (micros +ℤ day *ℤ pos 86_400_000_000)) }
+    {
+        micros_since(day, self.date.to_day()?, self.clock.to_micros()?)
     }
+}
+
+/// The microseconds from midnight of one day to so many after midnight of another; `None` where they
+/// leave 64 bits.
+fn micros_since(start: i64, day: i64, micros: i64) -> Option<i64>
+    ensures { IfSome result (λ n. n ≡ (day -ℤ start) *ℤ pos 86_400_000_000 +ℤ micros) }
+{
+    // The day may begin before what 64 bits hold, and the time of day not.
+    let days = i128::from(day) - i128::from(start);
+    i64::try_from(days * 86_400_000_000 + i128::from(micros)).ok()
 }
 
 /// Appends the date without its era. Years before year 1 are counted from 1 back.
 pub fn push_date(date: Civil, out: &mut Vec<u8>) -> Result<(), AllocError>
+    ensures { OnOk result (out.new.items ≡ out.old.items ++ day_text date.year date.month date.day) }
+{
+    match short_date(date) {
+        Some(text) => out.extend_from_slice(&text),
+        None => push_long_date(date, out),
+    }
+}
+
+/// The date without its era, whose year has four digits; `None` where it has more.
+fn short_date(date: Civil) -> Option<[u8; 10]>
+    ensures { IfSome result (λ text. text ≡ day_text date.year date.month date.day) }
+{
+    let year = u32::try_from(year_of_era(date.year)).ok()?;
+    let (y0, y1) = two_digits(year / 100)?;
+    let (y2, y3) = two_digits(year % 100)?;
+    let (m0, m1) = two_digits(date.month)?;
+    let (d0, d1) = two_digits(date.day)?;
+    Some([y0, y1, y2, y3, b'-', m0, m1, b'-', d0, d1])
+}
+
+/// The same of any date.
+fn push_long_date(date: Civil, out: &mut Vec<u8>) -> Result<(), AllocError>
     ensures { OnOk result (out.new.items ≡ out.old.items ++ day_text date.year date.month date.day) }
 {
     push_padded(year_of_era(date.year), 4, out)?;
@@ -114,12 +155,32 @@ pub fn push_clock(clock: Clock, out: &mut Vec<u8>) -> Result<(), AllocError>
     ensures { OnOk result (out.new.items ≡ out.old.items
         ++ clock_text clock.hour clock.minute clock.second clock.micros) }
 {
+    match short_clock(clock) {
+        Some(text) => out.extend_from_slice(&text)?,
+        None => push_long_clock(clock, out)?,
+    }
+    push_fraction(clock.micros, out)
+}
+
+/// The time of day to the second, whose hour has two digits; `None` where it has more.
+fn short_clock(clock: Clock) -> Option<[u8; 8]>
+    ensures { IfSome result (λ text. text ≡ seconds_text clock.hour clock.minute clock.second) }
+{
+    let (h0, h1) = two_digits(clock.hour)?;
+    let (m0, m1) = two_digits(clock.minute)?;
+    let (s0, s1) = two_digits(clock.second)?;
+    Some([h0, h1, b':', m0, m1, b':', s0, s1])
+}
+
+/// The same of any hour, as those of an interval.
+fn push_long_clock(clock: Clock, out: &mut Vec<u8>) -> Result<(), AllocError>
+    ensures { OnOk result (out.new.items ≡ out.old.items ++ seconds_text clock.hour clock.minute clock.second) }
+{
     push_padded(u64::from(clock.hour), 2, out)?;
     out.push(b':')?;
     push_padded(u64::from(clock.minute), 2, out)?;
     out.push(b':')?;
-    push_padded(u64::from(clock.second), 2, out)?;
-    push_fraction(clock.micros, out)
+    push_padded(u64::from(clock.second), 2, out)
 }
 
 /// Appends the date, the time of day, the zone and the era.
@@ -206,7 +267,10 @@ pub fn parse_clock(text: &str) -> Option<Clock>
 }
 
 /// The day and time of day of a text that has this zone.
-pub fn parse_datetime(text: &str, zone: &[u8]) -> Option<DateTime> {
+pub fn parse_datetime(text: &str, zone: &[u8]) -> Option<DateTime>
+    ensures { IfSome result (λ dt. TakesTimestamp text.now zone.now dt.date.year dt.date.month dt.date.day
+        dt.clock.hour dt.clock.minute dt.clock.second dt.clock.micros) }
+{
     let mut scanner = Scanner::new(text);
     let date = take_date(&mut scanner)?;
     scanner.expect(b" ")?;
@@ -214,4 +278,13 @@ pub fn parse_datetime(text: &str, zone: &[u8]) -> Option<DateTime> {
     scanner.expect(zone)?;
     let date = take_era(date, &mut scanner)?;
     Some(DateTime { date, clock })
+}
+
+/// The microseconds from midnight of a day, which is told in days from 1970-01-01, to the timestamp of a
+/// text that has this zone; `None` where it is no such text, or they leave 64 bits.
+pub fn parse_micros(text: &str, zone: &[u8], day: i64) -> Option<i64>
+    ensures { IfSome result
+        (SaysNanos (λ micros. (micros +ℤ day *ℤ pos 86_400_000_000) *ℤ pos 1_000) zone.now text.now) }
+{
+    parse_datetime(text, zone)?.micros_from(day)
 }

@@ -1,15 +1,15 @@
 //! Dates, times of day and timestamps, of `jiff` and of our own, with and without infinities.
 ghost use Rattle.std.specs.Prelude.{◌≡◌, ◌*◌, ◌/◌, [], IfSome};
 ghost use Rattle.postgres_types.specs.Special.{date_view, timestamp_view};
-ghost use Rattle.pg_text.specs.Scans.{SaysDate, SaysTime};
+ghost use Rattle.pg_text.specs.Scans.{SaysDate, SaysDateTime, SaysInstant, SaysTime, SaysTimestamp};
 ghost use Rattle.pg_text.specs.Specials.{SaysSpecial, ShowsSpecial};
 ghost use Rattle.pg_text.specs.Texts.{Shows};
-ghost use Rattle.pg_text.specs.Times.{date_text, datetime_text, time_text};
+ghost use Rattle.pg_text.specs.Times.{ShowsInstant, ShowsTimestamp, date_text, datetime_text, time_text};
 
 use crate::calendar::Civil;
 use crate::date_forms::{
-    Clock, DateTime, parse_clock, parse_date, parse_datetime, push_clock, push_date, push_datetime,
-    push_era,
+    Clock, DateTime, parse_clock, parse_date, parse_datetime, parse_micros, push_clock, push_date,
+    push_datetime, push_era,
 };
 use crate::{FromText, ToText, no_value};
 use jiff::civil;
@@ -117,55 +117,71 @@ impl ToText for civil::DateTime {
     }
 }
 
-/// The day and time of day as `jiff`'s; `None` where it has none.
-fn jiff_datetime(datetime: DateTime) -> Option<civil::DateTime> {
-    let date = jiff_date(datetime.date)?;
-    Some(date.to_datetime(jiff_time(datetime.clock)?))
+/// The day and time of day of a text, as `jiff`'s; `None` where it has none.
+fn parse_civil(text: &str) -> Option<civil::DateTime>
+    ensures { IfSome result (SaysDateTime [] text.now) }
+{
+    let DateTime { date, clock } = parse_datetime(text, b"")?;
+    let date = jiff_date(date)?;
+    Some(date.to_datetime(jiff_time(clock)?))
 }
 
 impl FromText for civil::DateTime {
+    ghost says = { SaysDateTime [] };
+
     fn from_text(_alloc: Global, text: &str) -> Result<civil::DateTime, Fault> {
-        parse_datetime(text, b"")
-            .and_then(jiff_datetime)
-            .ok_or(no_value())
+        match parse_civil(text) {
+            Some(datetime) => Ok(datetime),
+            None => Err(no_value()),
+        }
     }
 }
 
 /// `2000-01-31 23:59:59.5+00` (`timestamptz_out`).
 impl ToText for jiff::Timestamp {
+    ghost shows = { ShowsInstant };
+
     fn to_text(&self, _alloc: Global, out: &mut Vec<u8>) -> Result<(), AllocError> {
         let micros = self.as_microsecond();
         let seconds = micros.div_euclid(1_000_000);
-        push_datetime(
-            DateTime::new(seconds, micros.rem_euclid(1_000_000) as u32),
-            UTC,
-            out,
-        )
+        let datetime = DateTime::new(seconds, micros.rem_euclid(1_000_000) as u32);
+        push_datetime(datetime, UTC, out)
     }
 }
 
+/// The timestamp of a text, as `jiff`'s; `None` where it has none.
+fn parse_timestamp(text: &str) -> Option<jiff::Timestamp>
+    ensures { IfSome result (SaysInstant text.now) }
+{
+    let micros = parse_micros(text, UTC, 0)?;
+    jiff::Timestamp::from_microsecond(micros).ok()
+}
+
 impl FromText for jiff::Timestamp {
+    ghost says = { SaysInstant };
+
     fn from_text(_alloc: Global, text: &str) -> Result<jiff::Timestamp, Fault> {
-        let Some(micros) = parse_datetime(text, UTC).and_then(|datetime| datetime.micros_from(0))
-        else {
-            return Err(no_value());
-        };
-        jiff::Timestamp::from_microsecond(micros).map_err(|_| no_value())
+        match parse_timestamp(text) {
+            Some(timestamp) => Ok(timestamp),
+            None => Err(no_value()),
+        }
     }
 }
 
 /// `2000-01-31 23:59:59.5` (`timestamp_out`), by a calendar of our own, which has every year.
 impl ToText for UnixTime {
+    ghost shows = { ShowsTimestamp };
+
     fn to_text(&self, _alloc: Global, out: &mut Vec<u8>) -> Result<(), AllocError> {
         push_datetime(DateTime::new(self.secs(), self.nanos() / 1_000), b"", out)
     }
 }
 
 impl FromText for UnixTime {
+    ghost says = { SaysTimestamp };
+
     fn from_text(_alloc: Global, text: &str) -> Result<UnixTime, Fault> {
-        match parse_datetime(text, b"").and_then(|datetime| datetime.micros_from(
-            POSTGRES_EPOCH_DAY,
-        )) {
+        match parse_micros(text, b"", POSTGRES_EPOCH_DAY) {
             Some(micros) => Ok(UnixTime::from_postgres_micros(micros)),
             None => Err(no_value()),
         }
@@ -201,6 +217,8 @@ impl<T: FromText> FromText for Date<T> {
 impl<T: ToText> ToText for Timestamp<T> {
     ghost shows = { λ v. ShowsSpecial T.shows (timestamp_view v) };
 
+    // It is called for each value.
+    #[inline(always)]
     fn to_text(&self, alloc: Global, out: &mut Vec<u8>) -> Result<(), AllocError> {
         match self {
             Timestamp::PosInfinity => out.extend_from_slice(b"infinity"),
@@ -213,6 +231,8 @@ impl<T: ToText> ToText for Timestamp<T> {
 impl<T: FromText> FromText for Timestamp<T> {
     ghost says = { λ text v. SaysSpecial T.says text (timestamp_view v) };
 
+    // A call would hand over a `Result` with a fault, which has 96 bytes.
+    #[inline(always)]
     fn from_text(alloc: Global, text: &str) -> Result<Timestamp<T>, Fault> {
         match text {
             "infinity" => Ok(Timestamp::PosInfinity),

@@ -1,6 +1,6 @@
 //! Numbers in decimal digits.
 
-ghost use Rattle.std.specs.Prelude.{◌≡◌, ◌<◌, ◌≤◌, ◌-◌, ◌==◌, ◌++◌, OnOk, drop, length, replicate};
+ghost use Rattle.std.specs.Prelude.{◌≡◌, ◌<◌, ◌≤◌, ◌-◌, ◌==◌, ◌∷◌, [], ◌++◌, IfSome, OnOk, drop, length, replicate};
 ghost use Rattle.std.specs.Fmt.{digit_glyph, digits};
 ghost use Rattle.std.specs.List.{suffix_len};
 ghost use Rattle.pg_text.specs.Times.{fraction_text, padded_text};
@@ -26,6 +26,37 @@ pub fn push_padded(number: u64, width: usize, out: &mut Vec<u8>) -> Result<(), A
     out.extend_from_slice(digits)
 }
 
+/// The two digits of a number, of which the first may be 0; `None` where it has more.
+pub fn two_digits(number: u32) -> Option<(u8, u8)>
+    ensures { IfSome result (λ digits. padded_text 2 number ≡ digits.0 ∷ digits.1 ∷ []) }
+{
+    if number < 100 {
+        Some((b'0' + (number / 10) as u8, b'0' + (number % 10) as u8))
+    } else {
+        None
+    }
+}
+
+/// The six digits of a number, of which the first may be 0; `None` where it has more.
+fn six_digits(number: u32) -> Option<[u8; 6]>
+    ensures { IfSome result (λ digits. digits ≡ padded_text 6 number) }
+{
+    let (d0, d1) = two_digits(number / 10_000)?;
+    let (d2, d3) = two_digits(number / 100 % 100)?;
+    let (d4, d5) = two_digits(number % 100)?;
+    Some([d0, d1, d2, d3, d4, d5])
+}
+
+/// Appends the number in at least six digits, of which the first may be 0.
+fn push_six_digits(number: u32, out: &mut Vec<u8>) -> Result<(), AllocError>
+    ensures { OnOk result (out.new.items ≡ out.old.items ++ padded_text 6 number) }
+{
+    match six_digits(number) {
+        Some(digits) => out.extend_from_slice(&digits),
+        None => push_padded(u64::from(number), 6, out),
+    }
+}
+
 /// Appends so many zeros.
 fn push_zeros(count: usize, out: &mut Vec<u8>) -> Result<(), AllocError>
     ensures { OnOk result (out.new.items ≡ out.old.items ++ replicate count 48) }
@@ -46,7 +77,7 @@ pub fn push_fraction(millionths: u32, out: &mut Vec<u8>) -> Result<(), AllocErro
     }
     out.push(b'.')?;
     let start = out.len();
-    push_padded(u64::from(millionths), 6, out)?;
+    push_six_digits(millionths, out)?;
     let len = len_without_zeros(&out.as_slice()[start..]);
     out.truncate(start + len);
     Ok(())

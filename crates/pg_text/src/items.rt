@@ -1,12 +1,18 @@
 //! The items of an array's or a composite type's text, between its brackets.
+ghost use Rattle.std.specs.Prelude.{◌≡◌, ◌∷◌, ◌++◌, [], ℕ, List, IfOk, IfSome, option_map};
+ghost use Rattle.pg_text.specs.Items.{EndsAt, SaysItem, TakesItem, may_end, needs_quotes, said_after, said_from};
+ghost use Rattle.pg_text.specs.Items.{unless_null};
 
+use crate::no_value;
+use crate::quotes::{is_null_word, is_space};
+use postgres_types::Fault;
 use std::alloc::AllocError;
 
 /// What tells the items of a text apart.
 #[derive(Debug, Clone, Copy, PartialEq, Eq)]
 pub enum Items {
-    /// An array's (`array_in`): an item without quotes holds no space, brace or quote, and is NULL
-    /// where it spells that word.
+    /// An array's (`array_in`): an item is in quotes as a whole, or holds no space, brace or quote, and
+    /// is NULL where it spells that word.
     OfArray,
     /// A composite type's (`record_in`): two quotes in quotes are one, quotes may stand anywhere in
     /// an item, and NULL is no byte at all.
@@ -16,6 +22,8 @@ pub enum Items {
 /// Where in an item a byte stands.
 #[derive(Debug, Clone, Copy, PartialEq, Eq)]
 enum Place {
+    /// Before its first byte.
+    Start,
     Plain,
     Quoted,
     /// After a quote that ended the quotes, or is the first of two.
@@ -23,6 +31,15 @@ enum Place {
     /// After a backslash.
     PlainEscaped,
     QuotedEscaped,
+}
+
+impl Place {
+    /// Whether the item may end here.
+    fn may_end(self) -> bool
+        ensures { result ≡ may_end self }
+    {
+        matches!(self, Place::Start | Place::Plain | Place::Closed)
+    }
 }
 
 /// What a byte means.
@@ -39,16 +56,21 @@ enum Step {
 }
 
 impl Items {
-    /// Whether the byte without quotes belongs to an item.
-    fn is_plain(self, byte: u8) -> bool {
+    /// Whether the byte stands in no item without quotes or a backslash.
+    fn needs_quotes(self, byte: u8) -> bool
+        ensures { result ≡ needs_quotes self byte }
+    {
         match self {
-            Items::OfArray => !matches!(byte, b'{' | b'}' | b' ' | b'\t'..=b'\r'),
-            Items::OfRecord => !matches!(byte, b'(' | b')'),
+            Items::OfArray => byte == b'{' || byte == b'}' || is_space(byte),
+            Items::OfRecord => byte == b'(' || byte == b')',
         }
     }
 
     /// What the byte means at this place.
-    fn step(self, place: Place, byte: u8) -> Step {
+    fn step(self, place: Place, byte: u8) -> Step
+        ensures said { (text : List ℕ) → said_from self place (byte ∷ text) ≡ said_after self byte result text }
+        ensures ends { EndsAt place byte result }
+    {
         match (place, byte) {
             (Place::PlainEscaped, _) => Step::Take(Place::Plain),
             (Place::QuotedEscaped, _) => Step::Take(Place::Quoted),
@@ -56,29 +78,23 @@ impl Items {
             (Place::Quoted, b'\\') => Step::Pass(Place::QuotedEscaped),
             (Place::Quoted, _) => Step::Take(Place::Quoted),
             (_, b',') => Step::End,
-            (Place::Closed, _) if self == Items::OfArray => Step::Refuse,
+            (Place::Plain, b'"') | (Place::Closed, _) if self == Items::OfArray => Step::Refuse,
             (Place::Closed, b'"') => Step::Take(Place::Quoted),
             (_, b'"') => Step::Pass(Place::Quoted),
             (_, b'\\') => Step::Pass(Place::PlainEscaped),
-            (_, other) if self.is_plain(other) => Step::Take(Place::Plain),
-            _ => Step::Refuse,
-        }
-    }
-
-    /// Whether an item without quotes is NULL.
-    fn is_null(self, item: &[u8]) -> bool {
-        match self {
-            Items::OfArray => item.eq_ignore_ascii_case(b"null"),
-            Items::OfRecord => item.is_empty(),
+            (_, other) if self.needs_quotes(other) => Step::Refuse,
+            _ => Step::Take(Place::Plain),
         }
     }
 
     /// Takes the item at the front of the text, and the comma after it, and makes `out` what it says.
-    /// `None` where the text has no item there.
-    pub fn next(self, text: &mut &[u8], out: &mut Vec<u8>) -> Result<Option<Item>, AllocError> {
+    /// `None` where the text has no item there. Then, and out of memory, `out` holds a part of it.
+    pub fn next(self, text: &mut &[u8], out: &mut Vec<u8>) -> Result<Option<Item>, AllocError>
+        ensures { IfOk result (λ found. IfSome found (λ item. TakesItem self text.old.now text.new.now item.has_comma
+            (unless_null item.is_null out.new.items))) }
+    {
         out.clear();
-        let mut place = Place::Plain;
-        let mut is_marked = false;
+        let mut place = Place::Start;
         let bytes = *text;
         for (at, byte) in bytes.iter().enumerate() {
             match self.step(place, *byte) {
@@ -86,30 +102,33 @@ impl Items {
                     out.push(*byte)?;
                     place = next;
                 }
-                Step::Pass(next) => {
-                    is_marked = true;
-                    place = next;
-                }
+                Step::Pass(next) => place = next,
                 Step::End => {
                     *text = &bytes[at + 1..];
-                    return Ok(self.finished(is_marked, out, true));
+                    return Ok(self.item(&bytes[..at], true));
                 }
                 Step::Refuse => return Ok(None),
             }
         }
         *text = &[];
-        match place {
-            Place::Plain | Place::Closed => Ok(self.finished(is_marked, out, false)),
-            Place::Quoted | Place::PlainEscaped | Place::QuotedEscaped => Ok(None),
+        if place.may_end() {
+            Ok(self.item(bytes, false))
+        } else {
+            Ok(None)
         }
     }
 
-    /// The item of these bytes. One with quotes or a backslash is never NULL.
-    fn finished(self, is_marked: bool, item: &[u8], has_comma: bool) -> Option<Item> {
-        if self == Items::OfArray && item.is_empty() && !is_marked {
-            return None;
-        }
-        let is_null = !is_marked && self.is_null(item);
+    /// The item of that text, if an item's text may be so long.
+    fn item(self, text: &[u8], has_comma: bool) -> Option<Item>
+        ensures { IfSome result (λ item. (item.has_comma ≡ has_comma) × ((said : List ℕ)
+            → said_from self Place.Start text.now ≡ Some said
+            → SaysItem self text.now (unless_null item.is_null said))) }
+    {
+        let is_null = match self {
+            Items::OfArray if text.is_empty() => return None,
+            Items::OfArray => is_null_word(text),
+            Items::OfRecord => text.is_empty(),
+        };
         Some(Item { is_null, has_comma })
     }
 }
@@ -121,4 +140,27 @@ pub struct Item {
     pub is_null: bool,
     /// Whether a comma came after it, so that another item comes.
     pub has_comma: bool,
+}
+
+/// What an item says, from its bytes; `None` for NULL. Bytes that are no text are the fault `User`.
+pub fn said(is_null: bool, bytes: &[u8]) -> Result<Option<&str>, Fault>
+    ensures { IfOk result (λ text. option_map (λ t. t.now) text ≡ unless_null is_null bytes.now) }
+{
+    if is_null {
+        return Ok(None);
+    }
+    match str::from_utf8(bytes) {
+        Ok(text) => Ok(Some(text)),
+        Err(_) => Err(no_value()),
+    }
+}
+
+/// What stands between the text's first byte and its last, where they are these.
+pub fn between(text: &[u8], first: u8, last: u8) -> Option<&[u8]>
+    ensures { IfSome result (λ inside. text.now ≡ first ∷ (inside.now ++ last ∷ [])) }
+{
+    match text {
+        [a, inside @ .., b] if *a == first && *b == last => Some(inside),
+        _ => None,
+    }
 }

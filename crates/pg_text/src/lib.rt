@@ -22,7 +22,7 @@ mod numbers;
 mod quotes;
 pub mod records;
 mod scanner;
-mod separators;
+pub mod separators;
 mod small;
 mod texts;
 

@@ -1,6 +1,6 @@
 //! Texts in double quotes, within a text of many values.
 ghost use Rattle.std.specs.Prelude.{◌≡◌, ◌++◌, OnOk};
-ghost use Rattle.pg_text.specs.Quotes.{escape_of, escaped, is_escaped, is_space, quoted};
+ghost use Rattle.pg_text.specs.Quotes.{escape_of, escaped, is_escaped, is_null_word, is_space, quoted};
 
 use std::alloc::AllocError;
 
@@ -59,4 +59,11 @@ pub fn is_space(byte: u8) -> bool
     ensures { result ≡ is_space byte }
 {
     byte == b' ' || byte >= b'\t' && byte <= b'\r'
+}
+
+/// Whether the text is the word NULL.
+pub fn is_null_word(text: &[u8]) -> bool
+    ensures { result ≡ is_null_word text.now }
+{
+    text.eq_ignore_ascii_case(b"null")
 }

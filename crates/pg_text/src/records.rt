@@ -1,7 +1,8 @@
 //! The fields of composite types, in the texts of their values: in parentheses, with commas between, and nothing for
 //! NULL (`record_out`).
-ghost use Rattle.std.specs.Prelude.{◌≡◌, ◌||◌, ◌==◌, ◌++◌, OnOk, length};
+ghost use Rattle.std.specs.Prelude.{◌≡◌, ◌||◌, ◌==◌, ◌++◌, IfOk, OnOk, length};
 ghost use Rattle.std.specs.List.{list_any};
+ghost use Rattle.pg_text.specs.Items.{TakesItem, unless_null};
 ghost use Rattle.pg_text.specs.Quotes.{field_text, is_record_sign};
 
 use crate::items::Items;
@@ -45,7 +46,10 @@ fn is_record_sign(byte: u8) -> bool
 
 /// Takes the field at the front of the fields, after which another one comes or none, makes `field` its text, and
 /// answers whether it is NULL. Where there is no such field it is the fault `User`.
-pub fn take_field(rest: &mut &[u8], has_next: bool, field: &mut Vec<u8>) -> Result<bool, Fault> {
+pub fn take_field(rest: &mut &[u8], has_next: bool, field: &mut Vec<u8>) -> Result<bool, Fault>
+    ensures { IfOk result (λ is_null. TakesItem Items.OfRecord rest.old.now rest.new.now has_next
+        (unless_null is_null field.new.items)) }
+{
     match Items::OfRecord.next(rest, field)? {
         Some(item) if item.has_comma == has_next => Ok(item.is_null),
         _ => Err(no_value()),

@@ -1,6 +1,6 @@
 //! Reading a text from its front.
-ghost use Rattle.std.specs.Prelude.{◌≡◌, ◌==◌, ◌++◌, IfSome, MatchBool, length};
-ghost use Rattle.pg_text.specs.Scans.{SaysMillionths, TakesFraction, TakesNumber};
+ghost use Rattle.std.specs.Prelude.{◌≡◌, ◌≤◌, ◌-◌, ◌*◌, ◌^◌, ◌==◌, ◌++◌, IfSome, MatchBool, length};
+ghost use Rattle.pg_text.specs.Scans.{TakesFraction, TakesNumber};
 
 /// What is left of a text.
 #[derive(Debug, Clone, Copy)]
@@ -51,30 +51,24 @@ impl<'a> Scanner<'a> {
         if self.take(word) { Some(()) } else { None }
     }
 
-    /// Takes the decimal digits that come next.
-    pub fn digits(&mut self) -> &'a [u8]
-        ensures { self.old.rest.now ≡ result.now ++ self.new.rest.now }
-    {
-        let len = self
-            .rest
-            .iter()
-            .take_while(|byte| byte.is_ascii_digit())
-            .count();
-        match self.rest.split_at_checked(len) {
-            Some((digits, rest)) => {
-                self.rest = rest;
-                digits
-            }
-            None => &[],
-        }
-    }
-
     /// Takes the number whose decimal digits come next; `None` where there is no digit, or the
     /// number leaves 64 bits.
     pub fn number(&mut self) -> Option<u64>
         ensures { IfSome result (λ n. TakesNumber self.old.rest.now n self.new.rest.now) }
     {
-        str::from_utf8(self.digits()).ok()?.parse().ok()
+        let text = self.rest;
+        let mut number: u64 = 0;
+        let mut len = 0;
+        while len < text.len() && text[len].is_ascii_digit() {
+            let digit = u64::from(text[len] - b'0');
+            number = number.checked_mul(10)?.checked_add(digit)?;
+            len += 1;
+        }
+        if len == 0 {
+            return None;
+        }
+        self.rest = &text[len..];
+        Some(number)
     }
 
     /// The same of a number of 32 bits.
@@ -92,11 +86,9 @@ impl<'a> Scanner<'a> {
         if !self.take(b".") {
             return Some(0);
         }
-        let digits = self.digits();
-        if digits.len() > 6 {
-            return None;
-        }
-        millionths(digits)
+        let len = self.rest.len();
+        let number = self.number_u32()?;
+        millionths(number, len - self.rest.len())
     }
 
     /// Takes a text in double quotes, in which a backslash stands before a quote and a backslash,
@@ -125,11 +117,10 @@ impl<'a> Scanner<'a> {
     }
 }
 
-/// The parts of a million that the digits after a point are; `None` where there is no digit.
-fn millionths(digits: &[u8]) -> Option<u32>
-    ensures { IfSome result (λ micros. SaysMillionths digits.now micros) }
+/// The parts of a million that the number of so many digits after a point is; `None` where these are more than six.
+fn millionths(number: u32, places: usize) -> Option<u32>
+    ensures { IfSome result (λ micros. (places ≤ 6) × (micros ≡ number * 10 ^ (6 - places))) }
 {
-    let number: u32 = str::from_utf8(digits).ok()?.parse().ok()?;
-    let places = (6usize.saturating_sub(digits.len())) as u32;
-    number.checked_mul(10u32.checked_pow(places)?)
+    let zeros = 6usize.checked_sub(places)?;
+    number.checked_mul(10u32.checked_pow(zeros as u32)?)
 }

@@ -151,14 +151,17 @@ fn spells(alloc: Global, name: &str, cell: Option<&[u8]>, text: &[u8]) -> Result
 /// The OIDs that the server gave user-defined types, each of which stands in a cell of these tests.
 const SERVERS_OIDS: [u32; 7] = [16_385, 16_513, 16_698, 16_804, 16_805, 16_806, 16_815];
 
-/// The bytes with 0 in the place of these OIDs.
+/// Of these the OIDs of composite types.
+const COMPOSITE_OIDS: [u32; 2] = [16_804, 16_815];
+
+/// The bytes with what is written in the place of these OIDs.
 fn without_oids(alloc: Global, bytes: &[u8]) -> Result<Vec<u8>, Fail> {
     let mut out = Vec::new(alloc);
     let mut rest = bytes;
     for _ in 0..bytes.len() {
         match rest {
             [a, b, c, d, after @ ..] if is_servers_oid([*a, *b, *c, *d]) => {
-                out.extend_from_slice(&[0; 4])?;
+                out.extend_from_slice(&written_oid([*a, *b, *c, *d]))?;
                 rest = after;
             }
             [first, after @ ..] => {
@@ -174,6 +177,15 @@ fn without_oids(alloc: Global, bytes: &[u8]) -> Result<Vec<u8>, Fail> {
 /// Whether the bytes are one of these OIDs.
 fn is_servers_oid(bytes: [u8; 4]) -> bool {
     SERVERS_OIDS.contains(&u32::from_be_bytes(bytes))
+}
+
+/// What is written in the place of one of these OIDs: that of BYTEA for a composite type, and 0 for another.
+fn written_oid(bytes: [u8; 4]) -> [u8; 4] {
+    if COMPOSITE_OIDS.contains(&u32::from_be_bytes(bytes)) {
+        17u32.to_be_bytes()
+    } else {
+        [0; 4]
+    }
 }
 
 /// Each row of the table.

@@ -1,19 +1,14 @@
 -- What the proof of `escape` answers by hand.
-use Rattle.std.proofs.Common.{rules, tests, ◌≡◌, ◌∙◌, sym, refl, true, arith}
+use Rattle.std.proofs.Common.{◌≡◌, ◌∙◌, sym, refl, true, arith}
 use Rattle.std.specs.List.{list_all}
-use Rattle.std.proofs.lemmas.Iterator.{YieldsList-from_slice}
-use Rattle.std.proofs.lemmas.Iterator.Search.{all_from_yields_List}
 use Rattle.pg_copy.specs.Escapes.{is_plain}
 use Rattle.pg_copy.proofs.EscapeLaws.{appended, escaped_next, plain_text}
 use Rattle.pg_copy.proofs.escapes.escape.Goals as goal
 
-pub returns-then-all-clause-ok : goal.returns-then-all-clause-ok
-returns-then-all-clause-ok c =
+pub returns-then-is_plain-clause-ok : goal.returns-then-is_plain-clause-ok
+returns-then-is_plain-clause-ok c =
     let text = c.args.text.now in
-    let all : c.all.result ≡ list_all is_plain text
-    = all_from_yields_List is_plain _ _ c.all.result c.all.ensures.ran (YieldsList-from_slice text cc)
-    (λ x b q k. search (rules, tests)) in
-    let is : list_all is_plain text ≡ true = sym all ∙ c.if-all.true in
+    let is : list_all is_plain text ≡ true = sym c.is_plain.ensures ∙ c.if-is_plain.true in
     appended c.extend_from_slice.result c.args.out.now.items text c.extend_from_slice.new.self.items
     c.extend_from_slice.ensures.items (plain_text text is)
 

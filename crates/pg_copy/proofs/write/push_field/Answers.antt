@@ -1,19 +1,27 @@
 -- What the proof of `push_field` answers by hand.
 use Rattle.std.proofs.Common.{◌≡◌, ℕ, List, [], ◌∷◌, Some, OnOk, subst}
 use Rattle.pg_copy.specs.Outputs.{Gains}
-use Rattle.pg_copy.specs.TextLines.{Unescapes}
+use Rattle.pg_copy.specs.TextLines.{LacksEscapes, Unescapes}
 use Rattle.pg_copy.specs.WrittenRows.{FrameOf}
 use Rattle.pg_copy.proofs.RowLaws.{gains_field}
-use Rattle.pg_copy.proofs.TextLaws.{not_same, says_plain, says_unescaped}
+use Rattle.pg_copy.proofs.TextLaws.{none_found, not_same, says_plain, says_unescaped}
+use Rattle.pg_copy.proofs.write.push_field.Goals.{then-is_plain-via-then-is_plain}
+use Rattle.pg_copy.proofs.write.push_field.Goals.{then-is_plain-via-else-is_plain+then-is_none}
 use Rattle.pg_copy.proofs.write.push_field.Goals as goal
 
-pub returns-then-is_none-clause-ok : goal.returns-then-is_none-clause-ok
-returns-then-is_none-clause-ok c =
+pub returns-then-is_plain-clause-ok : goal.returns-then-is_plain-clause-ok
+returns-then-is_plain-clause-ok c =
     let field : List ℕ = c.args.field.now in
     let not_null : field ≡ 92 ∷ 78 ∷ [] → ⊥ =
     not_same field c.as_slice.result.now c.eq.result c.eq.ensures c.as_slice.ensures c.if-eq.false in
+    let plain : LacksEscapes field =
+    elim c.then-is_plain.branch [
+      | then-is_plain-via-then-is_plain w ↦ c.requires w.if-is_plain.true
+      | then-is_plain-via-else-is_plain+then-is_none w ↦
+          none_found field w.memchr2.result w.memchr2.ensures w.if-is_none.ensures
+    ] in
     gains_field c.args.column.now field (Some field) c.args.out.now.items c.push_utf8.new.out.items c.push_utf8.result
-    (says_plain field c.memchr2.result not_null c.memchr2.ensures c.if-is_none.ensures) c.push_utf8.ensures.ok
+    (says_plain field not_null plain) c.push_utf8.ensures.ok
 
 pub returns-clause-ok : goal.returns-clause-ok
 returns-clause-ok c =

@@ -75,10 +75,9 @@ fn no_date_is_past_its_month(_rt: HostRuntime) -> Result<(), Fail> {
 }
 
 #[test]
-fn the_ends_of_64_bits_are_taken_for_a_day(_rt: HostRuntime) -> Result<(), Fail> {
+fn the_ends_of_64_bits_have_their_dates(_rt: HostRuntime) -> Result<(), Fail> {
     for number in [i64::MIN, i64::MAX] {
-        let date = Civil::from_day(number);
-        holds(date.month > 0 && date.day > 0, "no day")?;
+        same(Civil::from_day(number).to_day(), Some(number))?;
     }
     Ok(())
 }

@@ -119,6 +119,7 @@ const NO_ARRAYS: &[(&str, &[u8])] = &[
     ("int4[]", b"{x}"),
     ("text[]", b"{\"a}"),
     ("text[]", b"{\"a\"b}"),
+    ("text[]", b"{a\"b\"}"),
     ("text[]", b"{a b}"),
 ];
 

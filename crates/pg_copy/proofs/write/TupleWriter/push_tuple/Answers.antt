@@ -1,9 +1,12 @@
 -- What the proof of `TupleWriter::push_tuple` answers by hand.
-use Rattle.std.proofs.Common.{◌+◌, ◌≤◌, ℕ, List, Some, ◌++◌, length, refl, sym, subst, arith}
+use Rattle.std.proofs.Common.{rules, ◌≡◌, ◌+◌, ◌≤◌, ℕ, false, is_some, List, Some, ◌++◌, length, refl}
+use Rattle.std.proofs.Common.{sym, subst, arith}
 use Rattle.pg_copy.specs.TextLines.{fields_of}
-use Rattle.pg_copy.specs.WrittenRows.{CountFault, text_of}
+use Rattle.pg_copy.specs.WrittenCells.{text_of}
+use Rattle.pg_copy.specs.WrittenRows.{CountFault}
 use Rattle.pg_copy.specs.declared.columns.Column.{Column}
-use Rattle.pg_copy.proofs.RowLaws.{SoFar, count_refused, has_more, so_far_next, so_far_none}
+use Rattle.pg_copy.proofs.RowLaws.{SoFar, count_refused, has_more, plain_field, so_far_next, so_far_none}
+use Rattle.pg_copy.proofs.TextLaws.{none_found}
 use Rattle.pg_copy.proofs.write.TupleWriter.push_tuple.Goals as goal
 
 pub loop-place-init : goal.loop-place-init
@@ -13,6 +16,20 @@ loop-place-init c =
       subst (SoFar c.args.self.now.columns.now c.args.line.now 0 (Some c.args.line.now) start)
           (sym c.in_ok-extend_from_slice.ensures.ok) (so_far_none c.args.self.now.columns.now c.args.line.now start),
     )
+
+pub push_field-requires : goal.push_field-requires
+push_field-requires c = λ plain.
+    let columns : List Column = c.args.self.now.columns.now in
+    let line : List ℕ = c.args.line.now in
+    let start : List ℕ = c.args.pending.now.items ++ c.args.self.now.count in
+    let mid : List ℕ = c.loop-place.pending.items in
+    let place : ℕ = c.loop-place.place in
+    let s : SoFar columns line place (Some c.in-Some.fields.now) start mid
+    = subst (λ (rest : _). SoFar columns line place (text_of rest) start mid) {y = Some c.in-Some.fields} c.in-Some.is
+    c.loop-place.invariant.1 in
+    let none : is_some c.memchr2.result ≡ false = search rules in
+    plain_field columns line c.in-Some.fields.now c.split_field.result.0.now (text_of c.split_field.result.1) place
+    start mid s c.split_field.ensures (none_found line c.memchr2.result c.memchr2.ensures none)
 
 pub loop-place-preserved : goal.loop-place-preserved
 loop-place-preserved c =

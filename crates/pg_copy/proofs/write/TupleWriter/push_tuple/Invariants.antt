@@ -1,6 +1,6 @@
 -- The invariant of `push_tuple`: the frames of so many columns follow the number of columns.
 use Rattle.std.proofs.Common.{◌≡◌, ◌++◌}
-use Rattle.pg_copy.specs.WrittenRows.{text_of}
+use Rattle.pg_copy.specs.WrittenCells.{text_of}
 use Rattle.pg_copy.proofs.RowLaws.{SoFar}
 use Rattle.pg_copy.proofs.write.TupleWriter.push_tuple.Given as goal
 

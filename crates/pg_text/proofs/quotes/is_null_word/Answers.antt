@@ -3,7 +3,7 @@ use Rattle.std.proofs.Common.{◌≡◌, Bool, true, false, refl, sym, map}
 use Rattle.std.specs.Prelude.{codes}
 use Rattle.std.specs.Char.{to_ascii_lowercase}
 use Rattle.std.specs.Cmp.Lexicographic.{bytes_decides}
-use Rattle.pg_text.proofs.arrays.is_null_word.Goals as goal
+use Rattle.pg_text.proofs.quotes.is_null_word.Goals as goal
 
 same_test : (a b : Bool) → (a ≡ true → b ≡ true) → (b ≡ true → a ≡ true) → a ≡ b
 same_test true b p q = sym (p refl)

@@ -1,0 +1,11 @@
+-- The loop of `Scanner::number`: the number of so many digits.
+use Rattle.std.proofs.Common.{◌≡◌, ◌≤◌, ◌-◌, length, take}
+use Rattle.std.specs.Str.Parse.{AllDigits, digits_value}
+use Rattle.pg_text.proofs.scanner.Scanner.number.Given as goal
+
+abbrev pub invariant-loop-len : goal.invariant-loop-len
+invariant-loop-len l =
+    (l.len ≤ length l.text) × AllDigits 10 (take l.len l.text) × (l.number ≡ digits_value 10 (take l.len l.text))
+
+abbrev pub decreases-loop-len : goal.decreases-loop-len
+decreases-loop-len l = length l.text - l.len
