@@ -2,18 +2,22 @@
 //! lines into a binary COPY.
 //!
 //! The exit status is 0 where the whole input was turned, and 1 otherwise; a message on standard error
-//! says why.
+//! says why, and where it is a terminal, how far the COPY is.
 #![tactic(auto)]
+
+mod progress;
 
 use anyhow::{Result, bail};
 use pg_copy::arguments::{Request, parse};
 use pg_copy::columns::Column;
+use pg_copy::copy_fault::CopyFault;
 use pg_copy::read::read;
 use pg_copy::types::Base;
 use pg_copy::write::write;
+use progress::Progress;
 use std::alloc::Global;
-use std::env;
 use std::fmt::Write;
+use std::{env, io};
 
 /// What `--help` prints before the names of types.
 const HELP: &str = "\
@@ -38,7 +42,8 @@ Names are those that format_type prints, too: integer, character varying(20), ti
 [] after a type says arrays of it. A domain is named by its base type, an enumerated type enum, and a composite type
 by its fields: (name text, price bigint).
 Whole rows alone are written. A fault is told on standard error, with its row or line and its column, and the status
-is 1.
+is 1. Where standard error is a terminal and standard output is none, the rows and the MB that were read are shown
+there.
 ";
 
 /// Which way a COPY is turned.
@@ -50,17 +55,36 @@ enum Direction {
     Write,
 }
 
+impl Direction {
+    /// Turns the input.
+    fn copy<R: io::Read, W: io::Write>(
+        self,
+        alloc: Global,
+        columns: &[Column],
+        input: &mut R,
+        output: &mut W,
+    ) -> Result<(), CopyFault> {
+        match self {
+            Direction::Read => read(alloc, columns, input, output),
+            Direction::Write => write(alloc, columns, input, output),
+        }
+    }
+}
+
 fn main(rt: HostRuntime) -> Result<()> {
     let words: Vec<String> = env::args(&rt)?.skip(1).collect(rt.alloc())?;
     let Some((direction, columns)) = asked(rt.alloc(), words.as_slice())? else {
         return help(&rt);
     };
-    let (alloc, mut input, mut output) = (rt.alloc(), rt.stdin(), rt.stdout());
-    match direction {
-        Direction::Read => read(alloc, columns.as_slice(), &mut input, &mut output)?,
-        Direction::Write => write(alloc, columns.as_slice(), &mut input, &mut output)?,
-    }
-    Ok(())
+    let (columns, mut input, mut output) = (columns.as_slice(), rt.stdin(), rt.stdout());
+    let Some(progress) = Progress::start(rt) else {
+        return Ok(direction.copy(rt.alloc(), columns, &mut input, &mut output)?);
+    };
+    let mut input = progress.count(input, matches!(direction, Direction::Write));
+    let mut output = progress.count(output, matches!(direction, Direction::Read));
+    let outcome = direction.copy(rt.alloc(), columns, &mut input, &mut output);
+    progress.finish();
+    Ok(outcome?)
 }
 
 /// Prints what `--help` asks for.
