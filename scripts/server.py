@@ -129,10 +129,11 @@ class Server:
 
 
 def make_program(name):
-    """Has a script at the top prove and build its program: the script, which runs it."""
-    words = ["--help"] if name != "pgcell" else []
-    subprocess.run([f"{TOP}/{name}", *words], stdin=subprocess.DEVNULL, stdout=subprocess.DEVNULL, check=True)
-    return f"{TOP}/{name}"
+    """Has scripts/launch prove and build a program: the command that runs it."""
+    command = [f"{TOP}/scripts/launch", name]
+    words = ["--help"] if name.startswith("copy_") else []
+    subprocess.run([*command, *words], stdin=subprocess.DEVNULL, stdout=subprocess.DEVNULL, check=True)
+    return command
 
 
 def run_with_server(main):

@@ -1,92 +1,107 @@
-//! Reads rows of a result, binds two parameters, and names the fault of a damaged cell.
+//! Reads rows of nine columns, binds four parameters, and names what is refused.
 #![tactic(auto)]
 
 use anyhow::Result;
 use jiff::Timestamp;
-use postgres_types::private::{BytesMut, read_value};
-use postgres_types::protocol::int2_from_sql;
-use postgres_types::{Fault, ToSql, Type, from_sql_nullable, params_to_sql};
+use pg_client::{Bind, Column, PlacedFault, Row};
+use postgres_types::private::BytesMut;
+use postgres_types::{Interval, IpInet, Type};
+use serde_json::Value;
 use std::alloc::Global;
 use uuid::Uuid;
 
-/// A row of `SELECT id, note, at`, of the types int8, text and timestamptz.
+/// A row of `SELECT id, note, at, parts, key, doc, span, host, done FROM event`.
 #[derive(Debug, Drop)]
 struct Event {
     id: i64,
     note: Option<String>,
     at: Timestamp,
+    parts: Vec<i32>,
+    key: Uuid,
+    doc: Value,
+    span: Interval,
+    host: IpInet,
+    done: bool,
+}
+
+/// Its columns.
+fn event_columns() -> [Column; 9] {
+    [
+        Column::new("id", Type::INT8),
+        Column::new("note", Type::TEXT),
+        Column::new("at", Type::TIMESTAMPTZ),
+        Column::new("parts", Type::INT4_ARRAY),
+        Column::new("key", Type::UUID),
+        Column::new("doc", Type::JSONB),
+        Column::new("span", Type::INTERVAL),
+        Column::new("host", Type::INET),
+        Column::new("done", Type::BOOL),
+    ]
 }
 
 /// Reads the body of a DataRow message.
-fn read_event(alloc: Global, body: &[u8]) -> Result<Event, Fault> {
-    if body.len() < 2 {
-        return Err(Fault::Size);
-    }
-    let (count, mut columns) = body.split_at(2);
-    if int2_from_sql(count)? != 3 {
-        return Err(Fault::Count);
-    }
-    let id = read_value(alloc, &Type::INT8, &mut columns)?;
-    let note = read_value(alloc, &Type::TEXT, &mut columns)?;
-    let at = read_value(alloc, &Type::TIMESTAMPTZ, &mut columns)?;
-    if !columns.is_empty() {
-        return Err(Fault::Size);
-    }
-    Ok(Event { id, note, at })
+fn read_event(alloc: Global, body: &[u8], columns: &[Column]) -> Result<Event, PlacedFault> {
+    let mut row = Row::new(body, columns)?;
+    let event = Event {
+        id: row.next(alloc)?,
+        note: row.next(alloc)?,
+        at: row.next(alloc)?,
+        parts: row.next(alloc)?,
+        key: row.next(alloc)?,
+        doc: row.next(alloc)?,
+        span: row.next(alloc)?,
+        host: row.next(alloc)?,
+        done: row.next(alloc)?,
+    };
+    row.finish(alloc)?;
+    Ok(event)
 }
 
-/// -7, `late`, and 2024-02-29 12:00:00 UTC.
-const LATE: [u8; 34] = [
-    0, 3, 0, 0, 0, 8, 255, 255, 255, 255, 255, 255, 255, 249, 0, 0, 0, 4, b'l', b'a', b't', b'e',
-    0, 0, 0, 8, 0, 2, 181, 130, 196, 120, 16, 0,
-];
+/// Binds the parameters of `INSERT INTO event (note, parts, id, key) VALUES ($1, $2, $3, $4)`.
+fn bind_event(alloc: Global, event: &Event, out: &mut BytesMut) -> Result<(), PlacedFault> {
+    let mut bind = Bind::new(alloc, out)?;
+    bind.push(&event.note.as_deref(), &Type::TEXT)?;
+    bind.push(&event.parts.as_slice(), &Type::INT4_ARRAY)?;
+    bind.push(&event.id, &Type::INT8)?;
+    bind.push(&None::<Uuid>, &Type::UUID)?;
+    bind.finish()
+}
 
-/// 42, NULL, and 2000-01-01 00:00:01 UTC.
-const NOTELESS: [u8; 30] = [
-    0, 3, 0, 0, 0, 8, 0, 0, 0, 0, 0, 0, 0, 42, 255, 255, 255, 255, 0, 0, 0, 8, 0, 0, 0, 0, 0, 15,
-    66, 64,
+/// -7, `late`, 2024-02-29 12:00:00 UTC, the array of 1 and -2, a UUID, `{"a":1}`, 1 month 2 days
+/// and 3 seconds, 10.0.0.1, and true.
+const LATE: [u8; 143] = [
+    0, 9, 0, 0, 0, 8, 255, 255, 255, 255, 255, 255, 255, 249, 0, 0, 0, 4, b'l', b'a', b't', b'e', //
+    0, 0, 0, 8, 0, 2, 181, 130, 196, 120, 16, 0, //
+    0, 0, 0, 36, 0, 0, 0, 1, 0, 0, 0, 0, 0, 0, 0, 23, 0, 0, 0, 2, 0, 0, 0, 1, //
+    0, 0, 0, 4, 0, 0, 0, 1, 0, 0, 0, 4, 255, 255, 255, 254, //
+    0, 0, 0, 16, 0, 17, 34, 51, 68, 85, 102, 119, 136, 153, 170, 187, 204, 221, 238, 255, //
+    0, 0, 0, 8, 1, b'{', b'"', b'a', b'"', b':', b'1', b'}', //
+    0, 0, 0, 16, 0, 0, 0, 0, 0, 45, 198, 192, 0, 0, 0, 2, 0, 0, 0, 1, //
+    0, 0, 0, 8, 2, 32, 0, 4, 10, 0, 0, 1, 0, 0, 0, 1, 1,
 ];
 
 /// What there is to say of the body of a row.
 fn describe(alloc: Global, body: &[u8]) -> Result<String> {
-    match read_event(alloc, body) {
-        Ok(event) => {
-            let id = event.id;
-            let note = event.note.as_deref().unwrap_or("no note");
-            let at = event.at;
-            Ok(format!(in alloc; "row {id}, {note}, {at}")?)
-        }
-        Err(fault) => {
-            let code = fault.code();
-            Ok(format!(in alloc; "fault {code}, {fault}")?)
-        }
+    match read_event(alloc, body, &event_columns()) {
+        Ok(event) => Ok(format!(in alloc; "{event:?}")?),
+        Err(fault) => Ok(format!(in alloc; "{fault}")?),
     }
-}
-
-/// Binds an int4[] and a uuid that is NULL.
-fn bind(alloc: Global) -> Result<BytesMut, Fault> {
-    let params: [Box<dyn ToSql>; 2] = [
-        Box::new(alloc, vec![in alloc; 1i32, -2]?)?,
-        Box::new(alloc, None::<Uuid>)?,
-    ];
-    let mut out = BytesMut::new(alloc);
-    let types = [Type::INT4_ARRAY, Type::UUID];
-    params_to_sql(alloc, &params, &types, &mut out).map_err(|(_place, fault)| fault)?;
-    Ok(out)
 }
 
 fn main(rt: HostRuntime) -> Result<()> {
     let alloc = rt.alloc();
     println!(rt; "{}", describe(alloc, &LATE)?)?;
-    println!(rt; "{}", describe(alloc, &NOTELESS)?)?;
-    println!(rt; "{}", describe(alloc, &[0, 2])?)?;
-    let mut trailing = NOTELESS.to_vec(alloc)?;
+    println!(rt; "{}", describe(alloc, &[0, 3])?)?;
+    println!(rt; "{}", describe(alloc, &LATE[..30])?)?;
+    let mut trailing = LATE.to_vec(alloc)?;
     trailing.push(0)?;
-    println!(rt; "{}", describe(alloc, &trailing)?)?;
-    println!(rt; "{:?}", bind(alloc)?.as_slice())?;
-    let damaged: Result<&str, Fault> = from_sql_nullable(alloc, &Type::TEXT, Some(&[0x6a, 0xff]));
-    if let Err(fault) = damaged {
-        println!(rt; "fault {}, {fault}", fault.code())?;
-    }
+    println!(rt; "{}", describe(alloc, trailing.as_slice())?)?;
+    let mut out = BytesMut::new(alloc);
+    bind_event(
+        alloc,
+        &read_event(alloc, &LATE, &event_columns())?,
+        &mut out,
+    )?;
+    println!(rt; "{:?}", out.as_slice())?;
     Ok(())
 }

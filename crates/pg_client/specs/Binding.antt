@@ -1,0 +1,67 @@
+-- Binding parameters one by one.
+use Rattle.std.specs.Prelude.{◌≡◌, ◌==◌, ◌+◌, ◌++◌, ℕ, List, [], ◌∷◌, length, Some, Result, Ok, Err, codes}
+use Rattle.std.specs.Prelude.{IfSome, if◌then◌else◌, ⊤}
+use Rattle.std.specs.Borrow.{MutBor}
+use Rattle.std.specs.Int.{to_be_bytes, w16}
+use Rattle.bytes.specs.Filled.{Filled}
+use Rattle.pg_base.specs.Appending.{Wire}
+use Rattle.pg_base.specs.Cells.{Cell, frames}
+use Rattle.pg_types.specs.Faults.{refusal_of, transmit, user}
+use Rattle.pg_types.specs.declared.format.Format.{Format}
+use Rattle.pg_types.specs.declared.format.Format.TheVariants.{Binary, Text}
+use Rattle.postgres_types.specs.ArrayWriting.{element_frame_cell}
+use Rattle.postgres_types.specs.ParamWriting.{FrameFollows}
+use Rattle.pg_client.specs.BindBytes.{all_binary, bind_bytes}
+use Rattle.pg_client.specs.declared.bind.Bind.{Bind}
+use Rattle.pg_client.specs.declared.placed_fault.Place.TheVariants as place
+use Rattle.pg_client.specs.declared.placed_fault.PlacedFault.{PlacedFault}
+
+-- the buffer, to which parameters are appended
+abbrev pub out_of : Bind → MutBor Filled
+out_of bind = bind.out
+
+-- how many were pushed
+abbrev pub count_of : Bind → ℕ
+count_of bind = bind.count
+
+-- the most parameters: their number has two bytes, without a sign
+abbrev pub max_params : ℕ
+max_params = 65535
+
+-- what a parameter is written as after n others: one too many is Transmit, and one in the text format User
+abbrev pub in_binary : Format → Wire → Wire
+in_binary Binary w = w
+in_binary Text w = Err (user (codes "parameter in text format"))
+
+abbrev pub param_wire : ℕ → Format → Wire → Wire
+param_wire n format w = if n == max_params then Err transmit else in_binary format w
+
+-- what a buffer holds while parameters of these cells are bound, after the bytes before: 0 stands in the place of their
+-- number
+pub record Binds (before : List ℕ) (cells : List Cell) (bind : Bind) : Type 0 where
+  -- the frames
+  pub bytes : List ℕ
+  -- they are those of the cells
+  pub frames_are : frames cells ≡ Some bytes
+  -- and follow the number
+  pub items_are : (out_of bind).now.items ≡ (before ++ (all_binary ++ to_be_bytes w16 0)) ++ bytes
+  -- where the number stands
+  pub at_is : bind.at ≡ length before + 4
+  -- how many they are
+  pub count_is : count_of bind ≡ length cells
+
+-- the frame of the parameter was appended; or it is refused at its place, or memory ran out, and the bytes are as they
+-- were
+abbrev pub PushesFrame : Wire → ℕ → List ℕ → List ℕ → Result ⊤ PlacedFault → Type 0
+PushesFrame w n old new (Ok done) = FrameFollows w old new
+PushesFrame w n old new (Err f) =
+    (new ≡ old) × (f.place ≡ place.Parameter n) × IfSome (refusal_of f.fault) (λ r. element_frame_cell w ≡ Err r)
+
+-- the cell that was written is bound after the others; where it is refused, they are as they were
+abbrev pub BindsMore : Wire → List ℕ → List Cell → Bind → Result ⊤ PlacedFault → Type 0
+BindsMore w before cells bind (Ok done) = (c : Cell) × (w ≡ Ok c) × Binds before (cells ++ c ∷ []) bind
+BindsMore w before cells bind (Err f) = Binds before cells bind
+
+-- the parameters of the cells follow the bytes before
+abbrev pub HoldsBind : List ℕ → List Cell → List ℕ → Type 0
+HoldsBind before cells items = (b : List ℕ) × (bind_bytes cells ≡ Some b) × (items ≡ before ++ b)

@@ -1,0 +1,10 @@
+-- The words of this crate's contracts.
+pub mod BindBytes
+pub mod Binding
+pub mod CatalogRows
+pub mod CatalogTypes
+pub mod Places
+pub mod RowPlaces
+pub mod Rows
+pub mod TypeTables
+pub mod WholeCatalogs

@@ -1,0 +1,116 @@
+-- Rows: the body of a DataRow message (documentation, "Message Formats"), a number of columns in two bytes and the
+-- frame of each column's cell.
+use Rattle.std.specs.Prelude.{◌≡◌, ◌≢◌, ◌⊎◌, ◌<◌, ◌≤◌, ◌+◌, ℕ, suc, pos, Bool, true, false, List, [], ◌∷◌, length, take}
+use Rattle.std.specs.Prelude.{drop}
+use Rattle.std.specs.Prelude.{Option, Some, None, Result, Ok, Err, codes, slice_get, ⊤}
+use Rattle.std.specs.Int.{w16}
+use Rattle.pg_base.specs.Cells.{Cell, IsBe, SpellsAll, SpellsNone}
+use Rattle.pg_types.specs.Content.{Content, IsBuiltIn}
+use Rattle.pg_types.specs.Faults.{Outcome, field_count, size, user, wrong_type}
+use Rattle.pg_read.specs.FrameReading.{BeginsWithCells}
+use Rattle.postgres_types.specs.Records.{IsRefused}
+use Rattle.pg_client.specs.Places.{AnswersAt, IsFaultAt, NeverMemoryAt, RefusesAt, column_place}
+use Rattle.pg_client.specs.declared.column.Column.{Column}
+use Rattle.pg_client.specs.declared.placed_fault.Place.TheVariants as place
+use Rattle.pg_client.specs.declared.placed_fault.PlacedFault.{PlacedFault}
+use Rattle.pg_client.specs.declared.row.Row.{Row}
+
+-- the columns of a row
+abbrev pub columns_of : Row → List Column
+columns_of row = row.columns.now
+
+-- the frames of all its columns
+abbrev pub frames_of : Row → List ℕ
+frames_of row = row.frames.now
+
+-- how many columns were taken in turn
+abbrev pub taken_of : Row → ℕ
+taken_of row = row.taken
+
+-- the frames after theirs
+abbrev pub rest_of : Row → List ℕ
+rest_of row = row.rest.now
+
+-- the body begins with this number of columns, in two bytes
+abbrev pub HasCount : ℕ → List ℕ → Type 0
+HasCount n body = IsBe w16 (take 2 body) (pos n)
+
+-- where it does not: a truncated number is Size, and another FieldCount
+abbrev pub CountFault : ℕ → List ℕ → PlacedFault → Type 0
+CountFault n body f =
+    ((length body < 2) × IsFaultAt place.Row size f)
+    ⊎ ((2 ≤ length body) × (HasCount n body → ⊥) × IsFaultAt place.Row field_count f)
+
+-- the row of the body, of which no column was taken; or the number of its columns is refused
+abbrev pub IsRowOf : List ℕ → List Column → Result Row PlacedFault → Type 0
+IsRowOf body columns (Ok row) =
+    HasCount (length columns) body × (columns_of row ≡ columns) × (frames_of row ≡ drop 2 body) × (taken_of row ≡ 0)
+    × (rest_of row ≡ drop 2 body)
+IsRowOf body columns (Err f) = CountFault (length columns) body f
+
+-- what a cell of a column is read as: WrongType where the Rust type does not accept the column's
+abbrev pub ReadsAs : {A : Type 0} → Bool → Content → (Cell → Outcome A → Type 0) → Cell → Outcome A → Type 0
+ReadsAs true ty reads c outcome = reads c outcome
+ReadsAs false ty reads c outcome = IsRefused (wrong_type ty (codes "T")) outcome
+
+-- where that takes no memory: WrongType takes none of a built-in type
+abbrev pub FreeAs : Bool → Content → (Cell → Type 0) → Cell → Type 0
+FreeAs true ty free c = free c
+FreeAs false ty free c = IsBuiltIn ty
+
+-- a column's cell was read; or it is truncated, or one before it is, which is Size at that column
+abbrev pub ReadsCell : {A : Type 0} → ℕ → List Column → (Cell → Outcome A → Type 0) → (Cell → Type 0) → Option Cell → ℕ
+    → Result A PlacedFault → Type 0
+ReadsCell n columns reads free (Some c) truncated result =
+    AnswersAt (column_place columns n) (reads c) result × (free c → NeverMemoryAt result)
+ReadsCell n columns reads free None truncated result = RefusesAt (column_place columns truncated) size result
+
+-- the column at that place was read, of the frames of all columns
+abbrev pub ReadsColumn : {A : Type 0} → ℕ → List Column → (Cell → Outcome A → Type 0) → (Cell → Type 0) → List ℕ
+    → Result A PlacedFault → Type 0
+ReadsColumn n columns reads free s result =
+    BeginsWithCells (λ cs rest. ReadsCell n columns reads free (slice_get cs n) (length cs) result) s (suc n)
+
+-- there is no column at that place
+abbrev pub NoColumn : {A : Type 0} → ℕ → Result A PlacedFault → Type 0
+NoColumn n result = RefusesAt (place.Column n None) (user (codes "no such column")) result
+
+-- the columns and their frames are the same, and so many columns were taken, after which these bytes stand
+pub record StandsAt (taken : ℕ) (rest : List ℕ) (old new : Row) : Type 0 where
+  pub columns : columns_of new ≡ columns_of old
+  pub frames : frames_of new ≡ frames_of old
+  pub taken_is : taken_of new ≡ taken
+  pub rest_is : rest_of new ≡ rest
+
+-- the next column was read, and then it is taken, whatever the answer; or it is truncated, and the row as it was
+abbrev pub ReadsNextCell : {A : Type 0} → (Cell → Outcome A → Type 0) → (Cell → Type 0) → Row → List Cell → List ℕ
+    → Result A PlacedFault → Row → Type 0
+ReadsNextCell reads free old [] rest result new =
+    RefusesAt (column_place (columns_of old) (taken_of old)) size result × StandsAt (taken_of old) (rest_of old) old new
+ReadsNextCell reads free old (c ∷ cs) rest result new =
+    AnswersAt (column_place (columns_of old) (taken_of old)) (reads c) result × (free c → NeverMemoryAt result)
+    × StandsAt (taken_of old + 1) rest old new
+
+abbrev pub ReadsNext : {A : Type 0} → (Cell → Outcome A → Type 0) → (Cell → Type 0) → Row → Result A PlacedFault → Row
+    → Type 0
+ReadsNext reads free old result new =
+    BeginsWithCells (λ cs rest. ReadsNextCell reads free old cs rest result new) (rest_of old) 1
+
+-- so many cells were passed over; or the one after the first k is truncated
+abbrev pub PassesCells : ℕ → List ℕ → Result ⊤ ℕ → List ℕ → Type 0
+PassesCells n old (Ok done) new = (cs : List Cell) × (length cs ≡ n) × SpellsAll old cs new
+PassesCells n old (Err k) new =
+    (cs : List Cell) × (length cs ≡ k) × (k < n) × SpellsAll old cs new × SpellsNone new
+
+-- why the columns from the first on, of which these cells are whole, do not end the row: the next one is truncated, or
+-- bytes trail the last one
+abbrev pub EndFault : List Column → ℕ → ℕ → List Cell → List ℕ → PlacedFault → Type 0
+EndFault columns first n cs rest f =
+    ((length cs < n) × SpellsNone rest × IsFaultAt (column_place columns (first + length cs)) size f)
+    ⊎ ((length cs ≡ n) × (rest ≢ []) × IsFaultAt place.Row size f)
+
+-- the bytes are the frames of n columns, of which the first is at that place; or it is said why not
+abbrev pub EndsRow : List Column → ℕ → ℕ → List ℕ → Result ⊤ PlacedFault → Type 0
+EndsRow columns first n s (Ok done) = (cs : List Cell) × (length cs ≡ n) × SpellsAll s cs []
+EndsRow columns first n s (Err f) =
+    (cs : List Cell) × (rest : List ℕ) × SpellsAll s cs rest × EndFault columns first n cs rest f

@@ -1,0 +1,45 @@
+-- What a catalog has of the rows that it was made of.
+use Rattle.std.specs.Prelude.{◌≡◌, ℕ, List, map, Some, IsSome}
+use Rattle.std.specs.Option.{IsSomeAnd}
+use Rattle.std.specs.List.{Contains, slice_get}
+use Rattle.std.specs.Ordering.{nat_cmp}
+use Rattle.std.specs.BTreeMap.{get}
+use mathlib.Core.Logic.{◌⊎◌}
+use Rattle.pg_types.specs.declared.types.PgType.{PgType}
+use Rattle.pg_types.specs.BuiltInRows.{row_oid}
+use Rattle.pg_types.specs.Content.{Content, content}
+use Rattle.pg_client.specs.TypeTables.{Table}
+use Rattle.pg_client.specs.CatalogTypes.{Describes}
+use Rattle.pg_client.specs.declared.catalog.TypeRow.{TypeRow}
+use Rattle.pg_client.specs.declared.catalog.refused.RefusedType.{RefusedType}
+
+-- one of the rows describes the type, whose parts are in the table
+abbrev pub IsDescribed : Table → List TypeRow → Content → Type 0
+IsDescribed table rows ty = (place : ℕ) × IsSomeAnd (slice_get rows place) (λ row. Describes table row ty)
+
+-- each type of the table is what one of the rows describes
+abbrev pub AreDescribed : Table → List TypeRow → Type 0
+AreDescribed table rows =
+    (oid : ℕ) (own : PgType) → get nat_cmp table oid ≡ Some own → IsDescribed table rows (content own)
+
+-- an OID has a type, built-in or of the table, or that of a refused row
+abbrev pub IsTold : Table → List RefusedType → ℕ → Type 0
+IsTold table refused oid =
+    ((built_in : _) × (row_oid built_in ≡ oid)) ⊎
+    (IsSome (get nat_cmp table oid) ⊎ Contains (map (λ own. own.oid) refused) oid)
+
+-- each row is told
+abbrev pub AreTold : Table → List RefusedType → List TypeRow → Type 0
+AreTold table refused rows =
+    (place : ℕ) (row : TypeRow) → slice_get rows place ≡ Some row → IsTold table refused row.oid
+
+-- the rows at these places are told
+abbrev pub AreToldAt : Table → List RefusedType → List TypeRow → List ℕ → Type 0
+AreToldAt table refused rows places =
+    (place : ℕ) (row : TypeRow) → Contains places place → slice_get rows place ≡ Some row → IsTold table refused row.oid
+
+-- each type that there is besides those of the first table is described where those were, and what was told still is
+abbrev pub Keeps : List TypeRow → Table → List RefusedType → Table → List RefusedType → Type 0
+Keeps rows table refused table' refused' =
+    (AreDescribed table rows → AreDescribed table' rows)
+    × ((oid : ℕ) → IsTold table refused oid → IsTold table' refused' oid)

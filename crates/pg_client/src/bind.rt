@@ -1,0 +1,150 @@
+//! The parameters of a Bind message.
+ghost use Rattle.std.specs.Prelude.{◌≡◌, ◌≤◌, ◌+◌, ◌++◌, List, [], ℕ, IfErr, IfOk, IsTrue, OnErr, OnOk, length};
+ghost use Rattle.pg_base.specs.Appending.{KeepsCapacity};
+ghost use Rattle.pg_base.specs.Cells.{Cell};
+ghost use Rattle.pg_types.specs.Content.{content};
+ghost use Rattle.pg_types.specs.Faults.{NeverMemory};
+ghost use Rattle.pg_client.specs.Places.{NeverMemoryAt};
+ghost use Rattle.pg_client.specs.BindBytes.{all_binary, with_count};
+ghost use Rattle.postgres_types.specs.ParamWriting.{AppendsFrame, frame_len};
+ghost use Rattle.postgres_types.specs.Writing.{checked};
+
+use crate::placed_fault::{Place, PlacedFault};
+use postgres_types::private::BytesMut;
+use postgres_types::{Fault, Format, ToSql, Type, frame_value};
+use std::alloc::Global;
+
+/// The most parameters of a Bind message: their number has 2 bytes, without a sign.
+pub const MAX_PARAMS: u16 = 65_535;
+
+/// One format code, which stands for all: that of the binary format.
+const ALL_BINARY: [u8; 4] = [0, 1, 0, 1];
+
+/// The same, and the place of the number of parameters.
+const HEAD: [u8; 6] = [0, 1, 0, 1, 0, 0];
+
+/// The parameters of a Bind message, which are appended to a buffer: one format code for all, the
+/// number of the parameters in 2 bytes, the frame of each one's cell, and one format code for all
+/// columns of the result. The code is 1 in 2 bytes, that of the binary format.
+///
+/// What the message has before, the portal and the statement, the caller appends before.
+/// [`finish`](Bind::finish) puts the number right: until then the buffer holds no whole message.
+#[derive(Debug, Drop)]
+pub struct Bind<'b> {
+    out: &'b mut BytesMut,
+    alloc: Global,
+    /// Where the number of parameters stands.
+    at: usize,
+    /// How many were pushed.
+    count: u16,
+    ghost placed: { at + 2 ≤ length out.now.items },
+}
+
+impl<'b> Bind<'b> {
+    ghost use Rattle.pg_client.specs.Binding.{Binds, BindsMore, HoldsBind, PushesFrame, count_of, out_of, param_wire};
+
+    /// Parameters that are appended to the buffer, none so far. `Memory`, at [`Place::Bind`],
+    /// leaves its bytes as they were.
+    pub fn new(alloc: Global, out: &'b mut BytesMut) -> Result<Bind<'b>, PlacedFault>
+        ensures binds { IfOk result (Binds out.old.items []) }
+        ensures same_reference { IfOk result (λ bind. (out_of bind).ghost_name ≡ out.entry.ghost_name) }
+        ensures err { IfErr result (λ fault. fault ≡ record { place = Place.Bind; fault = Fault.Memory }) }
+    {
+        let at = out.len() + ALL_BINARY.len();
+        match out.extend_from_slice(&HEAD) {
+            Ok(()) => Ok(Bind {
+                out,
+                alloc,
+                at,
+                count: 0,
+            }),
+            Err(_) => Err(PlacedFault::new(Place::Bind, Fault::Memory)),
+        }
+    }
+
+    /// Appends the frame of the value, owned or borrowed, as [`frame_value`] does.
+    ///
+    /// A refusal is at the parameter's place, counted from 0: that of its checked writing;
+    /// `Transmit` where its cell passes 2,147,483,647 bytes, or where it is one more than
+    /// [`MAX_PARAMS`]; `User`, with the text `parameter in text format`, where its conversion
+    /// writes that. It leaves the buffer's bytes as they were, `Memory` too, and further parameters
+    /// can be pushed. Where the buffer has room for the frame, a value that is written by room is
+    /// never refused with `Memory`.
+    pub fn push<T: ToSql>(&mut self, value: &T, ty: &Type) -> Result<(), PlacedFault>
+        ensures same_reference { (out_of self.new).ghost_name ≡ (out_of self.old).ghost_name }
+        ensures frame { PushesFrame (param_wire (count_of self.old) (T.format (content ty.now) value.now)
+            (checked T.accepted T.name T.wire (content ty.now) value.now)) (count_of self.old)
+            (out_of self.old).now.items (out_of self.new).now.items result }
+        ensures room { T.by_room value.now → IsTrue (T.accepted (content ty.now))
+            → frame_len (T.wire (content ty.now) value.now) ≤ (out_of self.old).now.spare → NeverMemoryAt result }
+        ensures capacity { KeepsCapacity (out_of self.old).now (out_of self.new).now }
+        ensures binds { (before : List ℕ) (cells : List Cell) → Binds before cells self.old
+            → BindsMore (param_wire (count_of self.old) (T.format (content ty.now) value.now)
+            (checked T.accepted T.name T.wire (content ty.now) value.now)) before cells self.new result }
+    {
+        let place = usize::from(self.count);
+        match self.append(value, ty) {
+            Ok(()) => Ok(()),
+            Err(fault) => Err(PlacedFault::new(Place::Parameter(place), fault)),
+        }
+    }
+
+    /// Appends the frame of the value, and counts it.
+    fn append<T: ToSql>(&mut self, value: &T, ty: &Type) -> Result<(), Fault>
+        ensures same_reference { self.new.out.ghost_name ≡ self.old.out.ghost_name }
+        ensures frame { AppendsFrame (param_wire self.old.count (T.format (content ty.now) value.now)
+            (checked T.accepted T.name T.wire (content ty.now) value.now))
+            self.old.out.now.items self.new.out.now.items result }
+        ensures room { T.by_room value.now → IsTrue (T.accepted (content ty.now))
+            → frame_len (T.wire (content ty.now) value.now) ≤ self.old.out.now.spare → NeverMemory result }
+        ensures capacity { KeepsCapacity self.old.out.now self.new.out.now }
+        ensures at { self.new.at ≡ self.old.at }
+        ensures counted { OnOk result (self.new.count ≡ self.old.count + 1) }
+        ensures kept { OnErr result (self.new.count ≡ self.old.count) }
+    {
+        if self.count == MAX_PARAMS {
+            return Err(Fault::Transmit);
+        }
+        if let Format::Text = value.encode_format(ty) {
+            return Err(Fault::user("parameter in text format"));
+        }
+        frame_value(self.alloc, value, ty, self.out)?;
+        self.count += 1;
+        Ok(())
+    }
+
+    /// Puts the number of the parameters into its place, and appends the format code of the
+    /// result's columns. `Memory`, at [`Place::Bind`], leaves the bytes as they were.
+    pub fn finish(self) -> Result<(), PlacedFault>
+        ensures ok { OnOk result ((before : List ℕ) (cells : List Cell) → Binds before cells self.entry
+            → HoldsBind before cells self.exit.0.now.items) }
+        ensures err { IfErr result (λ fault. (self.exit.0.now.items ≡ (out_of self.entry).now.items)
+            × (fault ≡ record { place = Place.Bind; fault = Fault.Memory })) }
+    {
+        let Bind { out, at, count, .. } = self;
+        end(at, count, out)
+    }
+}
+
+/// Appends the format code of the result's columns, and puts the number of the parameters into its
+/// place.
+fn end(at: usize, count: u16, out: &mut BytesMut) -> Result<(), PlacedFault>
+    requires { at + 2 ≤ length out.old.items }
+    ensures ok { OnOk result (out.new.items ≡ with_count at count (out.old.items ++ all_binary)) }
+    ensures err { IfErr result (λ fault. (out.new.items ≡ out.old.items)
+        × (fault ≡ record { place = Place.Bind; fault = Fault.Memory })) }
+{
+    if out.extend_from_slice(&ALL_BINARY).is_err() {
+        return Err(PlacedFault::new(Place::Bind, Fault::Memory));
+    }
+    set_count(at, count, out);
+    Ok(())
+}
+
+/// Writes the number over the 2 bytes from that place on, big-endian.
+fn set_count(at: usize, count: u16, out: &mut BytesMut)
+    requires { at + 2 ≤ length out.old.items }
+    ensures { out.new.items ≡ with_count at count out.old.items }
+{
+    out.as_mut_slice()[at..at + 2].copy_from_slice(&count.to_be_bytes());
+}

@@ -1,0 +1,76 @@
+//! Faults, and where they were met.
+ghost use Rattle.std.specs.Prelude.{◌≡◌, ◌+◌};
+
+use crate::column::ColumnName;
+use postgres_types::Fault;
+use std::error::Error;
+use std::fmt;
+
+/// A part of a message. Columns and parameters are counted from 0, and shown from 1.
+#[derive(Debug, Clone, Copy)]
+pub enum Place {
+    /// A row as a whole: its number of columns, or what comes after its columns.
+    Row,
+    /// The column at that place, and its name, where it has one.
+    Column(usize, Option<ColumnName>),
+    /// The parameters of a Bind message as a whole.
+    Bind,
+    /// The parameter at that place.
+    Parameter(usize),
+}
+
+/// Shows `row`, `column 3 "at"`, `column 3` where the column has no name, `bind`, or `parameter 2`.
+impl fmt::Display for Place {
+    ghost use Rattle.std.specs.Prelude.{Some};
+    ghost use Rattle.pg_client.specs.Places.{place_text};
+
+    ghost output = { λ place. Some (place_text place) };
+
+    fn fmt<W: fmt::Write>(&self, f: &mut fmt::Formatter<W>) -> fmt::Result {
+        match self {
+            Place::Row => f.write_str("row"),
+            Place::Column(place, None) => write!(f, "column {}", number(*place)),
+            Place::Column(place, Some(name)) => {
+                write!(f, "column {} \"{name}\"", number(*place))
+            }
+            Place::Bind => f.write_str("bind"),
+            Place::Parameter(place) => write!(f, "parameter {}", number(*place)),
+        }
+    }
+}
+
+/// The number of what stands at that place.
+fn number(place: usize) -> u128
+    ensures { result ≡ place + 1 }
+{
+    place as u128 + 1
+}
+
+/// A refusal of a column or of a parameter, or of a message as a whole: its fault, and the place.
+#[derive(Debug, Drop)]
+pub struct PlacedFault {
+    /// Where it was met.
+    pub place: Place,
+    /// Why the value is not read or not written.
+    pub fault: Fault,
+}
+
+/// Shows the place and the fault in one line: `column 3 "at": invalid buffer size`.
+impl fmt::Display for PlacedFault {
+    fn fmt<W: fmt::Write>(&self, f: &mut fmt::Formatter<W>) -> fmt::Result {
+        let place = &self.place;
+        let fault = &self.fault;
+        write!(f, "{place}: {fault}")
+    }
+}
+
+impl Error for PlacedFault {}
+
+impl PlacedFault {
+    /// The fault at that place.
+    pub fn new(place: Place, fault: Fault) -> PlacedFault
+        ensures { result ≡ record { place = place; fault = fault } }
+    {
+        PlacedFault { place, fault }
+    }
+}

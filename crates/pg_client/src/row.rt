@@ -1,0 +1,217 @@
+//! The row of a DataRow message.
+ghost use Rattle.std.specs.Prelude.{◌≡◌, ◌-◌, ◌↔◌, None, Some, IfNone, IfSome, IsTrue, codes, length, pos, slice_get};
+ghost use Rattle.std.specs.Int.{w16};
+ghost use Rattle.pg_base.specs.Cells.{IsBe, cell_of};
+ghost use Rattle.pg_client.specs.Places.{AnswersAt, IsFaultAt, NeverMemoryAt, column_place};
+ghost use Rattle.pg_client.specs.Rows.{EndsRow, FreeAs, IsRowOf, NoColumn, PassesCells, ReadsAs, ReadsColumn};
+ghost use Rattle.pg_client.specs.Rows.{ReadsNext};
+ghost use Rattle.pg_client.specs.Rows.{StandsAt, columns_of, frames_of, rest_of, taken_of};
+ghost use Rattle.pg_types.specs.Content.{content};
+ghost use Rattle.pg_types.specs.Faults.{Answers, NeverMemory, user};
+ghost use Rattle.pg_read.specs.FrameReading.{TakesCell};
+
+use crate::column::Column;
+use crate::placed_fault::{Place, PlacedFault};
+use postgres_types::private::read_value;
+use postgres_types::{Fault, FromSql, Type, check_type, from_sql_nullable};
+use std::alloc::Global;
+
+/// The body of a DataRow message: the number of columns in 2 bytes, big-endian, and of each column
+/// the frame of its cell, a length of 4 bytes, -1 for NULL, and that many bytes.
+///
+/// A row takes no memory. Values take that of their types.
+#[derive(Debug, Drop)]
+pub struct Row<'a, 'c> {
+    columns: &'c [Column],
+    /// The frames of all columns.
+    frames: &'a [u8],
+    /// How many columns were taken in turn.
+    taken: usize,
+    /// The frames after theirs.
+    rest: &'a [u8],
+}
+
+impl<'a, 'c> Row<'a, 'c> {
+    /// The row of that body, which has these columns.
+    ///
+    /// A truncated number of columns is `Size`, and another number, a negative one too, is
+    /// `FieldCount`, at [`Place::Row`]. The frames are not looked at.
+    pub fn new(body: &'a [u8], columns: &'c [Column]) -> Result<Row<'a, 'c>, PlacedFault>
+        ensures { IsRowOf body.entry.now columns.entry.now result }
+    {
+        let Some((count, frames)) = body.split_first_chunk::<2>() else {
+            return Err(PlacedFault::new(Place::Row, Fault::Size));
+        };
+        if !is_count(*count, columns.len()) {
+            return Err(PlacedFault::new(Place::Row, Fault::FieldCount));
+        }
+        Ok(Row {
+            columns,
+            frames,
+            taken: 0,
+            rest: frames,
+        })
+    }
+
+    /// Reads the column at that place, counted from 0, in any order and as often as wanted: answers
+    /// what `read_value` reads of its frame.
+    ///
+    /// A refusal is at the column. It is the fault of the conversion, or `WrongType` with the name
+    /// `T` where `T` does not accept the column's type. Where the frame of the column, or of one
+    /// before it, is truncated, it is `Size`, at that one; where there is no column at the place it
+    /// is `User`, with the text `no such column`.
+    pub fn get<T: FromSql<'a>>(&self, alloc: Global, place: usize) -> Result<T, PlacedFault>
+        ensures column { IfSome (slice_get (columns_of self.now) place) (λ column. ReadsColumn place
+            (columns_of self.now)
+            (ReadsAs (T.accepted (content column.ty)) (content column.ty) (T.reads (content column.ty)))
+            (FreeAs (T.accepted (content column.ty)) (content column.ty) T.memory_free) (frames_of self.now) result) }
+        ensures no_column { IfNone (slice_get (columns_of self.now) place) (NoColumn place result) }
+    {
+        let Some(column) = column_at(self.columns, place) else {
+            return Err(no_column(place));
+        };
+        let mut rest = self.frames;
+        if let Err(truncated) = pass_cells(alloc, place, &mut rest) {
+            return Err(PlacedFault::new(place_of(self.columns, truncated), Fault::Size));
+        }
+        match take_cell(alloc, &mut rest) {
+            Ok(cell) => convert(alloc, column, place, cell),
+            Err(fault) => Err(PlacedFault::new(place_of(self.columns, place), fault)),
+        }
+    }
+
+    /// Reads the next column in turn, as [`get`](Row::get) does, and moves on to the one after it,
+    /// whether its value is answered or refused. Where its frame is truncated, or there is no
+    /// further column, the row stays as it was.
+    pub fn next<T: FromSql<'a>>(&mut self, alloc: Global) -> Result<T, PlacedFault>
+        ensures column { IfSome (slice_get (columns_of self.old) (taken_of self.old)) (λ column. ReadsNext
+            (ReadsAs (T.accepted (content column.ty)) (content column.ty) (T.reads (content column.ty)))
+            (FreeAs (T.accepted (content column.ty)) (content column.ty) T.memory_free) self.old result self.new) }
+        ensures no_column { IfNone (slice_get (columns_of self.old) (taken_of self.old))
+            (NoColumn (taken_of self.old) result × StandsAt (taken_of self.old) (rest_of self.old) self.old self.new) }
+    {
+        let place = self.taken;
+        let Some(column) = column_at(self.columns, place) else {
+            return Err(no_column(place));
+        };
+        let mut rest = self.rest;
+        match take_cell(alloc, &mut rest) {
+            Ok(cell) => {
+                self.taken = place + 1;
+                self.rest = rest;
+                convert(alloc, column, place, cell)
+            }
+            Err(fault) => Err(PlacedFault::new(place_of(self.columns, place), fault)),
+        }
+    }
+
+    /// Ends the reading in turn. Columns that [`next`](Row::next) has not taken are passed over, so
+    /// a row of which some are not wanted, or which is read by [`get`](Row::get), ends the same.
+    ///
+    /// Bytes that trail the last column are `Size`, at [`Place::Row`]; where the frame of a column
+    /// is truncated it is `Size`, at the column.
+    pub fn finish(self, alloc: Global) -> Result<(), PlacedFault>
+        ensures { EndsRow (columns_of self.entry) (taken_of self.entry)
+            (length (columns_of self.entry) - taken_of self.entry) (rest_of self.entry) result }
+    {
+        let left = self.columns.len().saturating_sub(self.taken);
+        let mut rest = self.rest;
+        if let Err(passed) = pass_cells(alloc, left, &mut rest) {
+            let place = place_of(self.columns, self.taken + passed);
+            return Err(PlacedFault::new(place, Fault::Size));
+        }
+        if rest.is_empty() {
+            Ok(())
+        } else {
+            Err(PlacedFault::new(Place::Row, Fault::Size))
+        }
+    }
+}
+
+/// Whether the two bytes are that number of columns.
+fn is_count(count: [u8; 2], columns: usize) -> bool
+    ensures { IsTrue result ↔ IsBe w16 count (pos columns) }
+{
+    match i16::try_from(columns) {
+        Ok(columns) => count == columns.to_be_bytes(),
+        Err(_) => false,
+    }
+}
+
+/// The column at that place.
+fn column_at(columns: &[Column], place: usize) -> Option<&Column>
+    ensures some { IfSome result (λ column. slice_get columns.now place ≡ Some column.now) }
+    ensures none { IfNone result (slice_get columns.now place ≡ None) }
+{
+    columns.get(place)
+}
+
+/// The place of a column.
+fn place_of(columns: &[Column], place: usize) -> Place
+    ensures { result ≡ column_place columns.now place }
+{
+    match column_at(columns, place) {
+        Some(column) => Place::Column(place, column.name),
+        None => Place::Column(place, None),
+    }
+}
+
+/// The fault of a place that has no column.
+fn no_column(place: usize) -> PlacedFault
+    ensures { IsFaultAt (Place.Column place None) (user (codes "no such column")) result }
+{
+    PlacedFault::new(Place::Column(place, None), Fault::user("no such column"))
+}
+
+/// Takes the framed cell at the front of the slice: every negative length is NULL. Where it is
+/// truncated it answers `Size`, and the slice stands as `read_value` leaves it.
+#[tactic(auto, using(crate::proofs::CellsTaken::cell_taken))]
+fn take_cell<'a>(alloc: Global, buf: &mut &'a [u8]) -> Result<Option<&'a [u8]>, Fault>
+    ensures { TakesCell buf.old.now result buf.new.now }
+{
+    read_value(alloc, &Type::BYTEA, buf)
+}
+
+/// Passes over so many framed cells at the front of the slice. Where one is truncated it answers
+/// how many stand before it, and the slice stands at its start.
+fn pass_cells(alloc: Global, count: usize, buf: &mut &[u8]) -> Result<(), usize>
+    ensures { PassesCells count buf.old.now result buf.new.now }
+{
+    for passed in 0..count {
+        let mut rest = *buf;
+        match take_cell(alloc, &mut rest) {
+            Ok(_) => *buf = rest,
+            Err(_) => return Err(passed),
+        }
+    }
+    Ok(())
+}
+
+/// Reads the cell of a column.
+fn convert<'a, T: FromSql<'a>>(
+    alloc: Global,
+    column: &Column,
+    place: usize,
+    cell: Option<&'a [u8]>,
+) -> Result<T, PlacedFault>
+    ensures outcome { AnswersAt (Place.Column place column.now.name) (ReadsAs (T.accepted (content column.now.ty))
+        (content column.now.ty) (T.reads (content column.now.ty)) (cell_of cell.entry)) result }
+    ensures never_memory { FreeAs (T.accepted (content column.now.ty)) (content column.now.ty) T.memory_free
+        (cell_of cell.entry) → NeverMemoryAt result }
+{
+    match read_as(alloc, &column.ty, cell) {
+        Ok(value) => Ok(value),
+        Err(fault) => Err(PlacedFault::new(Place::Column(place, column.name), fault)),
+    }
+}
+
+/// Reads a cell of that type, which is `WrongType` where `T` does not accept it.
+fn read_as<'a, T: FromSql<'a>>(alloc: Global, ty: &Type, cell: Option<&'a [u8]>) -> Result<T, Fault>
+    ensures outcome { Answers (ReadsAs (T.accepted (content ty.now)) (content ty.now) (T.reads (content ty.now))
+        (cell_of cell.entry)) result }
+    ensures never_memory { FreeAs (T.accepted (content ty.now)) (content ty.now) T.memory_free (cell_of cell.entry)
+        → NeverMemory result }
+{
+    check_type(T::accepts(ty), ty, "T")?;
+    from_sql_nullable(alloc, ty, cell)
+}

@@ -1,0 +1,1 @@
+-- This crate states no definition of its own.

@@ -1,0 +1,5 @@
+//! The tests.
+
+mod kinds;
+mod refused;
+mod rows;

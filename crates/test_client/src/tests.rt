@@ -1,0 +1,7 @@
+//! The tests, by topic.
+
+mod bind;
+mod places;
+mod row_ends;
+mod row_faults;
+mod rows;

@@ -1,0 +1,168 @@
+//! Parameters of a Bind message.
+
+use super::row_faults::refused;
+use pg_client::{Bind, MAX_PARAMS, PlacedFault};
+use postgres_types::private::BytesMut;
+use postgres_types::{Fault, Format, IsNull, ToSql, Type, WrongType};
+use std::alloc::Global;
+use std::test::Fail;
+use test_support::{hoard, same};
+
+/// What the message has before its parameters: an unnamed portal and an unnamed statement.
+const BEFORE: [u8; 2] = [0, 0];
+
+#[test]
+fn no_parameters_are_bound(rt: HostRuntime) -> Result<(), Fail> {
+    let mut out = BytesMut::copy_from_slice(rt.alloc(), &BEFORE)?;
+    Bind::new(rt.alloc(), &mut out)?.finish()?;
+    same(out.as_slice(), &[0, 0, 0, 1, 0, 1, 0, 0, 0, 1, 0, 1])
+}
+
+#[test]
+fn owned_and_borrowed_values_are_bound(rt: HostRuntime) -> Result<(), Fail> {
+    let alloc = rt.alloc();
+    let mut out = BytesMut::copy_from_slice(alloc, &BEFORE)?;
+    let mut bind = Bind::new(alloc, &mut out)?;
+    bind.push(&7i32, &Type::INT4)?;
+    bind.push(&"ja", &Type::TEXT)?;
+    bind.push(&None::<String>, &Type::TEXT)?;
+    bind.push(&b"\x01\x02".as_slice(), &Type::BYTEA)?;
+    bind.finish()?;
+    let message = [
+        0, 0, 0, 1, 0, 1, 0, 4, // one format for all, and the number
+        0, 0, 0, 4, 0, 0, 0, 7, 0, 0, 0, 2, b'j', b'a', 0xff, 0xff, 0xff, 0xff, 0, 0, 0, 2, 1, 2, //
+        0, 1, 0, 1,
+    ];
+    same(out.as_slice(), &message)
+}
+
+#[test]
+fn a_refused_parameter_leaves_those_before(rt: HostRuntime) -> Result<(), Fail> {
+    let alloc = rt.alloc();
+    let mut out = BytesMut::new(alloc);
+    let mut bind = Bind::new(alloc, &mut out)?;
+    bind.push(&true, &Type::BOOL)?;
+    let text =
+        "parameter 2: cannot convert between the Rust type `bool` and the Postgres type `text`";
+    refused(alloc, bind.push(&true, &Type::TEXT), text)?;
+    bind.push(&false, &Type::BOOL)?;
+    bind.finish()?;
+    let message = [0, 1, 0, 1, 0, 2, 0, 0, 0, 1, 1, 0, 0, 0, 1, 0, 0, 1, 0, 1];
+    same(out.as_slice(), &message)
+}
+
+/// A word, which is written as text.
+#[derive(Debug, Drop)]
+struct Word(&'static str);
+
+impl ToSql for Word {
+    ghost use Rattle.std.specs.Prelude.{Ok, Some, codes};
+    ghost use Rattle.pg_types.specs.declared.format.Format.TheVariants.{Text as TextFormat};
+    ghost use Rattle.pg_types.specs.declared.types.built_in.BuiltIn.TheVariants.{Text};
+    ghost use Rattle.postgres_types.specs.Content.{is_row};
+
+    ghost accepted = { is_row Text };
+
+    ghost name = { codes "Word" };
+
+    ghost wire = { λ _ v. Ok (Some v.0.now) };
+
+    ghost format = { λ _ _. TextFormat };
+
+    fn to_sql(&self, _alloc: Global, _ty: &Type, out: &mut BytesMut) -> Result<IsNull, Fault> {
+        out.extend_from_slice(self.0.as_bytes())?;
+        Ok(IsNull::No)
+    }
+
+    fn accepts(ty: &Type) -> bool {
+        ty.is(&Type::TEXT)
+    }
+
+    fn to_sql_checked(
+        &self,
+        alloc: Global,
+        ty: &Type,
+        out: &mut BytesMut,
+    ) -> Result<IsNull, Fault> {
+        if <Word as ToSql>::accepts(ty) {
+            self.to_sql(alloc, ty, out)
+        } else {
+            Err(Fault::WrongType(WrongType::new(ty.try_clone()?, "Word")))
+        }
+    }
+
+    fn encode_format(&self, _ty: &Type) -> Format {
+        Format::Text
+    }
+}
+
+#[test]
+fn a_parameter_in_text_format_is_refused(rt: HostRuntime) -> Result<(), Fail> {
+    let alloc = rt.alloc();
+    let mut out = BytesMut::new(alloc);
+    let mut bind = Bind::new(alloc, &mut out)?;
+    let text = "parameter 1: parameter in text format";
+    refused(alloc, bind.push(&Word("ja"), &Type::TEXT), text)?;
+    bind.finish()?;
+    same(out.as_slice(), &[0, 1, 0, 1, 0, 0, 0, 1, 0, 1])
+}
+
+#[test]
+fn one_parameter_too_many_is_refused(rt: HostRuntime) -> Result<(), Fail> {
+    let alloc = rt.alloc();
+    let mut out = BytesMut::new(alloc);
+    let mut bind = Bind::new(alloc, &mut out)?;
+    for _ in 0..MAX_PARAMS {
+        bind.push(&None::<i32>, &Type::INT4)?;
+    }
+    let text = "parameter 65536: value too large to transmit";
+    refused(alloc, bind.push(&None::<i32>, &Type::INT4), text)?;
+    bind.finish()?;
+    same(out.len(), 6 + 4 * 65_535 + 4)?;
+    same(
+        out.get(..8),
+        Some([0, 1, 0, 1, 0xff, 0xff, 0xff, 0xff].as_slice()),
+    )
+}
+
+/// Binds one int4.
+fn bind_number(alloc: Global, number: i32, out: &mut BytesMut) -> Result<(), PlacedFault> {
+    let mut bind = Bind::new(alloc, out)?;
+    bind.push(&number, &Type::INT4)?;
+    bind.finish()
+}
+
+/// What binding one int4 answers and appends where a buffer has so much room, and memory is refused.
+fn bind_into(alloc: Global, room: usize) -> Result<(Result<(), PlacedFault>, Vec<u8>), Fail> {
+    bind_number(alloc, 7, &mut BytesMut::new(alloc))?;
+    let mut out = BytesMut::with_capacity(alloc, 64)?;
+    let before = out.capacity().saturating_sub(room);
+    out.resize(before, 0)?;
+    let blocks = hoard(alloc)?;
+    let bound = bind_number(alloc, 7, &mut out);
+    drop(blocks);
+    let appended = out.as_slice().get(before..).ok_or("fewer bytes")?;
+    Ok((bound, appended.to_vec(alloc)?))
+}
+
+#[test]
+fn parameters_are_written_into_their_room(rt: HostRuntime) -> Result<(), Fail> {
+    let (bound, out) = bind_into(rt.alloc(), 18)?;
+    bound?;
+    let message = [0, 1, 0, 1, 0, 1, 0, 0, 0, 4, 0, 0, 0, 7, 0, 1, 0, 1];
+    same(out.as_slice(), &message)
+}
+
+#[test]
+fn refused_memory_is_named(rt: HostRuntime) -> Result<(), Fail> {
+    let alloc = rt.alloc();
+    let (started, out) = bind_into(alloc, 0)?;
+    refused(alloc, started, "bind: out of memory")?;
+    same(out.as_slice(), &[])?;
+    let (pushed, out) = bind_into(alloc, 6)?;
+    refused(alloc, pushed, "parameter 1: out of memory")?;
+    same(out.as_slice(), &[0, 1, 0, 1, 0, 0])?;
+    let (ended, out) = bind_into(alloc, 14)?;
+    refused(alloc, ended, "bind: out of memory")?;
+    same(out.as_slice(), &[0, 1, 0, 1, 0, 0, 0, 0, 0, 4, 0, 0, 0, 7])
+}

@@ -1,0 +1,43 @@
+//! The end of a row.
+
+use super::row_faults::refused;
+use super::rows::{ITEM, item_columns};
+use pg_client::Row;
+use std::alloc::Global;
+use std::test::Fail;
+use test_support::same;
+
+#[test]
+fn columns_that_were_not_taken_are_passed_over(rt: HostRuntime) -> Result<(), Fail> {
+    let alloc = rt.alloc();
+    let columns = item_columns();
+    Row::new(&ITEM, &columns)?.finish(alloc)?;
+    let mut row = Row::new(&ITEM, &columns)?;
+    same(row.next::<i32>(alloc)?, 7)?;
+    Ok(row.finish(alloc)?)
+}
+
+/// The row of the body does not end, with that text, whether its first column was taken or not.
+fn does_not_end(alloc: Global, body: &[u8], text: &str) -> Result<(), Fail> {
+    let columns = item_columns();
+    refused(alloc, Row::new(body, &columns)?.finish(alloc), text)?;
+    let mut row = Row::new(body, &columns)?;
+    same(row.next::<i32>(alloc)?, 7)?;
+    refused(alloc, row.finish(alloc), text)
+}
+
+#[test]
+fn trailing_bytes_are_refused(rt: HostRuntime) -> Result<(), Fail> {
+    let alloc = rt.alloc();
+    let mut body = ITEM.to_vec(alloc)?;
+    body.push(0)?;
+    does_not_end(alloc, body.as_slice(), "row: invalid buffer size")
+}
+
+#[test]
+fn a_truncated_column_is_refused(rt: HostRuntime) -> Result<(), Fail> {
+    let alloc = rt.alloc();
+    does_not_end(alloc, &ITEM[..20], "column 3: invalid buffer size")?;
+    does_not_end(alloc, &ITEM[..16], "column 3: invalid buffer size")?;
+    does_not_end(alloc, &ITEM[..15], "column 2 \"name\": invalid buffer size")
+}
