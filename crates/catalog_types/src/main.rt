@@ -1,8 +1,8 @@
 //! Makes the types of a server, and reads values by them. Standard input has two binary COPYs: that of
 //! `pg_client::catalog::QUERY`, and one of an OID and a value of its type in each row.
 //!
-//! It prints a line for each type, in the order of the rows: the OID, the schema, the name and the kind; then a line for
-//! each row that makes no type; and then, of each value, its type and what was read. An empty input is
+//! It prints a line for each type, in the order of the rows: the OID, the schema, the name and the kind; then a line
+//! for each row that makes no type; and then, of each value, its type and what was read. An empty input is
 //! left alone.
 #![tactic(auto)]
 
