@@ -3,6 +3,7 @@ pub mod ArrayHeads
 pub mod ArrayLaws
 pub mod BitCells
 pub mod BitLemmas
+pub mod BitTexts
 pub mod BitsLaws
 pub mod CellLaws
 pub mod CellRows
@@ -27,6 +28,7 @@ pub mod JsonLaws
 pub mod JsonLemmas
 pub mod LsnLaws
 pub mod LsnLemmas
+pub mod Macaddrs
 pub mod NetworkLaws
 pub mod Octets
 pub mod PadLemmas

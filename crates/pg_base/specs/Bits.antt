@@ -113,3 +113,10 @@ bits_cell v = with_prefix (length v) (packed v)
 -- the cell of bits; where there are too many, Transmit
 abbrev pub wire_bits : List Bool → Wire
 wire_bits v = wire_of (bits_cell v)
+
+-- BIT, VARBIT (bit_out, varbit_out): a digit 1 or 0 for each bit
+abbrev pub bit_digit : Bool → ℕ
+bit_digit bit = if bit then 49 else 48
+
+abbrev pub bits_text : List Bool → List ℕ
+bits_text bits = map bit_digit bits

@@ -8,12 +8,16 @@ pub mod Cells
 pub mod Civil
 pub mod Counts
 pub mod FixedBytes
+pub mod DateTexts
 pub mod Formats
 pub mod Hstore
 pub mod Interval
+pub mod IntervalTexts
 pub mod Json
 pub mod Lsn
 pub mod Network
+pub mod NetworkTexts
+pub mod NumberTexts
 pub mod Numbers
 pub mod Options
 pub mod Sameness

@@ -1,18 +1,20 @@
 //! Lists of bits.
-ghost use Rattle.std.specs.Prelude.{◌≡◌, ◌==◌, ◌*◌, ◌<◌, ◌≤◌, ℕ, List, [], Bool, length, IfOk, IfErr};
+ghost use Rattle.std.specs.Prelude.{◌≡◌, ◌==◌, ◌*◌, ◌<◌, ◌≤◌, ℕ, List, [], ◌∷◌, Bool, length, IfOk, IfErr, Some};
 ghost use Rattle.std.specs.Prelude.{slice_get, if◌then◌else◌};
 ghost use Rattle.std.specs.Bool.{beq};
 ghost use Rattle.std.specs.Cmp.Lexicographic.{pointwise};
 ghost use Rattle.pg_types.specs.declared.fault.Fault.TheVariants.{Memory};
 ghost use Rattle.std.specs.Cmp.{bool_eq_equiv, partial_equiv_from_equiv};
 ghost use Rattle.std.proofs.lemmas.Cmp.{lists_equiv};
-ghost use Rattle.pg_base.specs.Bits.{Pops, Pushes, TakesBytes, bit_of, bytes_for, first_bits, packed};
+ghost use Rattle.pg_base.specs.Bits.{Pops, Pushes, TakesBytes, bit_digit, bit_of, bits_text, bytes_for};
+ghost use Rattle.pg_base.specs.Bits.{first_bits, packed};
 
 pub mod laws;
 
 use crate::fault::Fault;
 use crate::protocol::{Varbit, without_pad};
 use std::alloc::{AllocError, Global};
+use std::fmt;
 use std::marker::Model;
 
 /// A list of bits, packed eight to a byte.
@@ -164,6 +166,28 @@ impl Clone for BitVec {
             len: self.len,
         })
     }
+}
+
+/// A digit 0 or 1 for each bit (`bit_out`, `varbit_out`).
+impl fmt::Display for BitVec {
+    ghost output = { λ bits. Some (bits_text bits) };
+
+    fn fmt<W: fmt::Write>(&self, f: &mut fmt::Formatter<W>) -> fmt::Result {
+        for place in 0..self.len() {
+            let Some(bit) = self.get(place) else {
+                unreachable!();
+            };
+            f.write_str(bit_text(bit))?;
+        }
+        Ok(())
+    }
+}
+
+/// The digit of a bit.
+fn bit_text(bit: bool) -> &'static str
+    ensures { result.now ≡ bit_digit bit ∷ [] }
+{
+    if bit { "1" } else { "0" }
 }
 
 /// Equal where they have the same bits.

@@ -1,5 +1,6 @@
 //! Intervals of time.
 pub mod laws;
+mod text;
 
 /// An interval of time, in three parts that PostgreSQL keeps apart: a month has no fixed number of
 /// days, and a day no fixed number of hours.

@@ -6,6 +6,7 @@
 
 pub mod acceptance;
 pub mod bits;
+pub mod calendar;
 pub mod epoch;
 pub mod interval;
 pub mod json;

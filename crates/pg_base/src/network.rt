@@ -6,6 +6,7 @@ ghost use Rattle.pg_base.specs.Network.{address_octets, first_fault_netmask, fir
 ghost use Rattle.pg_base.specs.Network.{with_netmask};
 
 pub mod laws;
+mod text;
 
 use crate::fault::Fault;
 use std::marker::Model;

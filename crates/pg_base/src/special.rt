@@ -1,6 +1,7 @@
 //! Dates and timestamps with PostgreSQL's infinities.
 
 pub mod laws;
+mod text;
 
 /// A date, or PostgreSQL's `infinity` or `-infinity`, which are the greatest and the least number
 /// of the 4 bytes of DATE (`date_recv`, `date_send`).

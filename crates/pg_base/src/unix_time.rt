@@ -4,6 +4,7 @@ ghost use Rattle.pg_base.specs.Numbers.{fits_signed};
 ghost use Rattle.std.specs.Int.{w64};
 
 pub mod laws;
+mod text;
 
 use crate::epoch::POSTGRES_EPOCH_SECS;
 

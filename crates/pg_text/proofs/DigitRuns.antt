@@ -10,7 +10,7 @@ use Rattle.std.proofs.lemmas.List.{length-take-le, take-append-drop}
 use Rattle.std.proofs.lemmas.Str.{digit_value_digit}
 use Rattle.std.proofs.lemmas.Str.Parse.{digit_from_value, without_leading_plus_none}
 use Rattle.pg_text.specs.Scans.{TakesNumber}
-use Rattle.pg_text.specs.Texts.{SaysUnsigned}
+use Rattle.pg_base.specs.NumberTexts.{SaysUnsigned}
 
 one_more : (text : List ℕ) (i : ℕ) → i < length text → digit_value (get_or text i 0) < 10 → AllDigits 10 (take i text)
     → AllDigits 10 (take (suc i) text)

@@ -4,7 +4,7 @@ use Rattle.std.proofs.Common.{append_assoc, arith}
 use Rattle.std.specs.List.{suffix_len}
 use Rattle.std.proofs.lemmas.Bool.{ne_eqb}
 use Rattle.std.proofs.lemmas.List.{drop_at}
-use Rattle.pg_text.specs.Times.{fraction_text, padded_text, without_zeros}
+use Rattle.pg_calendar.specs.Texts.{fraction_text, padded_text, without_zeros}
 
 take_more_than : (xs ys : List ℕ) (n : ℕ) → take (length xs + n) (xs ++ ys) ≡ xs ++ take n ys
 take_more_than [] ys n = let e : 0 + n ≡ n = omega arith in ap (λ k. take k ys) e

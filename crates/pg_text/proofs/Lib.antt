@@ -1,16 +1,11 @@
 -- The lemmas of this crate.
 pub mod ArrayTexts
 pub mod BitTexts
-pub mod CivilDays
-pub mod CivilOrder
 pub mod DigitRuns
 pub mod Fractions
 pub mod HexDigits
-pub mod IntervalTexts
 pub mod ItemTexts
 pub mod Joins
 pub mod Macaddrs
 pub mod Maps
-pub mod Outcomes
-pub mod Padding
 pub mod ReadBack

@@ -22,7 +22,9 @@ use Rattle.pg_text.specs.Lists.{SaysVector, vector_text}
 use Rattle.uuid.proofs.RoundTrips.{parses_hyphenated}
 use Rattle.uuid.specs.Text.{hyphenated_text, lower, parsed}
 use Rattle.pg_text.specs.ReadBack.{IsReadBack}
-use Rattle.pg_text.specs.Texts.{SaysBytes, SaysSigned, SaysUnsigned, Shows, bit_digit, bits_text, bytes_text}
+use Rattle.pg_base.specs.Bits.{bit_digit, bits_text}
+use Rattle.pg_base.specs.NumberTexts.{SaysSigned, SaysUnsigned}
+use Rattle.pg_text.specs.Texts.{SaysBytes, Shows, bytes_text}
 
 -- INT2, INT4, INT8, OID
 

@@ -5,8 +5,8 @@ use Rattle.jiff.specs.Types.{Date, DateTime, Time, Timestamp}
 use Rattle.postgres_types.specs.Civil.{instant_nanos}
 use Rattle.postgres_types.specs.Timestamps.{nanos_of}
 use Rattle.postgres_types.specs.declared.UnixTime.{UnixTime}
-use Rattle.pg_text.specs.Calendar.{IsTimestamp}
-use Rattle.pg_text.specs.Texts.{SaysUnsigned}
+use Rattle.pg_calendar.specs.Calendar.{IsTimestamp}
+use Rattle.pg_base.specs.NumberTexts.{SaysUnsigned}
 
 -- the decimal digits of a number
 abbrev pub TakesNumber : List ℕ → ℕ → List ℕ → Type 0

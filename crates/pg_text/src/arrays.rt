@@ -4,7 +4,8 @@ ghost use Rattle.std.specs.Prelude.{◌≡◌, ◌||◌, ◌==◌, ◌++◌, ℕ
 ghost use Rattle.std.specs.List.{list_any};
 ghost use Rattle.pg_text.specs.Lists.{SaysArray, SaysValue, SaysVector, ShowsArray, ShowsElement, vector_text};
 ghost use Rattle.pg_text.specs.Quotes.{element_text, is_array_sign, is_null_word};
-ghost use Rattle.pg_text.specs.Texts.{SaysSigned, SaysUnsigned, Shows};
+ghost use Rattle.pg_base.specs.NumberTexts.{SaysSigned, SaysUnsigned};
+ghost use Rattle.pg_text.specs.Texts.{Shows};
 
 use crate::digits::push_number;
 use crate::items::{Items, between, said};

@@ -1,6 +1,7 @@
 //! Lists of bits.
 ghost use Rattle.std.specs.Prelude.{◌≡◌, IfSome};
-ghost use Rattle.pg_text.specs.Texts.{Shows, bit_digit, bits_text};
+ghost use Rattle.pg_base.specs.Bits.{bit_digit, bits_text};
+ghost use Rattle.pg_text.specs.Texts.{Shows};
 
 use crate::{FromText, ToText, no_value};
 use postgres_types::{BitVec, Fault};

@@ -1,100 +1,13 @@
 //! The texts that dates, times of day and timestamps are made of.
-ghost use Rattle.std.specs.Prelude.{◌≡◌, ◌<◌, ◌++◌, ◌/◌, ◌%◌, [], ℕ, ℤ, List, IfSome, OnOk, pos, ◌+ℤ◌, ◌-ℤ◌};
+ghost use Rattle.std.specs.Prelude.{◌≡◌, ◌++◌, [], ℕ, ℤ, List, IfSome, OnOk, pos, ◌+ℤ◌};
 ghost use Rattle.std.specs.Prelude.{◌*ℤ◌};
-ghost use Rattle.pg_text.specs.Calendar.{IsTimestamp, micros_of_day};
 ghost use Rattle.pg_text.specs.Scans.{SaysNanos, TakesClock, TakesDay, TakesEra, TakesTimestamp};
-ghost use Rattle.pg_text.specs.Times.{clock_text, day_text, era_text, seconds_text, timestamp_text, year_of_era};
+ghost use Rattle.pg_calendar.specs.Texts.{clock_text, day_text, era_text, seconds_text, timestamp_text, year_of_era};
 
-use crate::calendar::Civil;
-use crate::digits::{push_fraction, push_padded, two_digits};
+use crate::digits::{push_fraction, push_padded};
 use crate::scanner::Scanner;
+use pg_calendar::{Civil, Clock, DateTime, two_digits, year_of_era};
 use std::alloc::AllocError;
-
-/// How many seconds a day has.
-const DAY: i64 = 86_400;
-
-/// A time of day.
-#[derive(Debug, Clone, Copy, PartialEq, Eq)]
-pub struct Clock {
-    pub hour: u32,
-    pub minute: u32,
-    pub second: u32,
-    pub micros: u32,
-}
-
-impl Clock {
-    /// The time that many seconds after midnight, and the microseconds after that second.
-    pub fn new(seconds: u32, micros: u32) -> Clock
-        ensures { (result.hour ≡ seconds / 3_600) × (result.minute ≡ seconds / 60 % 60) × (result.second ≡ seconds % 60)
-            × (result.micros ≡ micros) }
-    {
-        Clock {
-            hour: seconds / 3_600,
-            minute: seconds / 60 % 60,
-            second: seconds % 60,
-            micros,
-        }
-    }
-
-    /// The microseconds from midnight; `None` where there is no such time. 24:00:00 is none.
-    fn to_micros(self) -> Option<i64>
-        ensures { IfSome result (λ n. (self.hour < 24) × (self.minute < 60) × (self.second < 60)
-            × (self.micros < 1_000_000) × (n ≡ pos (micros_of_day self.hour self.minute self.second self.micros))) }
-    {
-        let Clock {
-            hour,
-            minute,
-            second,
-            micros,
-        } = self;
-        if hour > 23 || minute > 59 || second > 59 || micros > 999_999 {
-            return None;
-        }
-        let seconds = (hour * 60 + minute) * 60 + second;
-        Some(i64::from(seconds) * 1_000_000 + i64::from(micros))
-    }
-}
-
-/// A day and a time of day.
-#[derive(Debug, Clone, Copy, PartialEq, Eq)]
-pub struct DateTime {
-    pub date: Civil,
-    pub clock: Clock,
-}
-
-impl DateTime {
-    /// What stands that many seconds after 1970-01-01 00:00:00, and the microseconds after that
-    /// second.
-    pub fn new(seconds: i64, micros: u32) -> DateTime
-        ensures { micros < 1_000_000 → IsTimestamp result.date.year result.date.month result.date.day result.clock.hour
-            result.clock.minute result.clock.second result.clock.micros (seconds *ℤ pos 1_000_000 +ℤ pos micros) }
-    {
-        let second_of_day = seconds.rem_euclid(DAY) as u32;
-        DateTime {
-            date: Civil::from_day(seconds.div_euclid(DAY)),
-            clock: Clock::new(second_of_day, micros),
-        }
-    }
-
-    /// The microseconds from midnight of a day, which is told in days from 1970-01-01; `None` where
-    /// there is no such date or time, or they leave 64 bits.
-    pub fn micros_from(self, day: i64) -> Option<i64>
-        ensures { IfSome result (λ micros. IsTimestamp self.date.year self.date.month self.date.day self.clock.hour
-            self.clock.minute self.clock.second self.clock.micros (micros +ℤ day *ℤ pos 86_400_000_000)) }
-    {
-        micros_since(day, self.date.to_day()?, self.clock.to_micros()?)
-    }
-}
-
-/// The microseconds from midnight of one day to so many after midnight of another; `None` where they
-/// leave 64 bits.
-fn micros_since(start: i64, day: i64, micros: i64) -> Option<i64>
-    ensures { IfSome result (λ n. n ≡ (day -ℤ start) *ℤ pos 86_400_000_000 +ℤ micros) }
-{
-    // The day may begin before what 64 bits hold, and the time of day not.
-    let days = i128::from(day) - i128::from(start);
-    i64::try_from(days * 86_400_000_000 + i128::from(micros)).ok()
-}
 
 /// Appends the date without its era. Years before year 1 are counted from 1 back.
 pub fn push_date(date: Civil, out: &mut Vec<u8>) -> Result<(), AllocError>
@@ -127,17 +40,6 @@ fn push_long_date(date: Civil, out: &mut Vec<u8>) -> Result<(), AllocError>
     push_padded(u64::from(date.month), 2, out)?;
     out.push(b'-')?;
     push_padded(u64::from(date.day), 2, out)
-}
-
-/// The number of a year in its era.
-fn year_of_era(year: i64) -> u64
-    ensures { result ≡ year_of_era year }
-{
-    if year > 0 {
-        year.unsigned_abs()
-    } else {
-        year.unsigned_abs() + 1
-    }
 }
 
 /// Appends the era of a year before year 1, and nothing for another.

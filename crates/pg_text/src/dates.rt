@@ -4,15 +4,17 @@ ghost use Rattle.postgres_types.specs.Special.{date_view, timestamp_view};
 ghost use Rattle.pg_text.specs.Scans.{SaysDate, SaysDateTime, SaysInstant, SaysTime, SaysTimestamp};
 ghost use Rattle.pg_text.specs.Specials.{SaysSpecial, ShowsSpecial};
 ghost use Rattle.pg_text.specs.Texts.{Shows};
-ghost use Rattle.pg_text.specs.Times.{ShowsInstant, ShowsTimestamp, date_text, datetime_text, time_text};
+ghost use Rattle.pg_base.specs.DateTexts.{civil_date_text, civil_datetime_text, civil_time_text};
+ghost use Rattle.pg_base.specs.DateTexts.{instant_text, unix_time_text};
 
-use crate::calendar::Civil;
 use crate::date_forms::{
-    Clock, DateTime, parse_clock, parse_date, parse_datetime, parse_micros, push_clock, push_date,
-    push_datetime, push_era,
+    parse_clock, parse_date, parse_datetime, parse_micros, push_clock, push_date, push_datetime,
+    push_era,
 };
 use crate::{FromText, ToText, no_value};
 use jiff::civil;
+use pg_base::calendar::{clock_of, datetime_of, day_of};
+use pg_calendar::{Civil, Clock, DateTime};
 use postgres_types::{Date, Fault, Timestamp, UnixTime};
 use std::alloc::{AllocError, Global};
 
@@ -21,30 +23,6 @@ const POSTGRES_EPOCH_DAY: i64 = 10_957;
 
 /// The zone that a timestamp with a time zone is written in.
 const UTC: &[u8] = b"+00";
-
-/// The date of `jiff`'s.
-fn civil_of(date: civil::Date) -> Civil
-    ensures { (result.year ≡ date.year) × (result.month ≡ date.month) × (result.day ≡ date.day) }
-{
-    Civil {
-        year: i64::from(date.year()),
-        month: u32::from(date.month().unsigned_abs()),
-        day: u32::from(date.day().unsigned_abs()),
-    }
-}
-
-/// The time of day of `jiff`'s.
-fn clock_of(time: civil::Time) -> Clock
-    ensures { (result.hour ≡ time.hour) × (result.minute ≡ time.minute) × (result.second ≡ time.second)
-        × (result.micros ≡ time.subsec_nanosecond / 1_000) }
-{
-    Clock {
-        hour: u32::from(time.hour().unsigned_abs()),
-        minute: u32::from(time.minute().unsigned_abs()),
-        second: u32::from(time.second().unsigned_abs()),
-        micros: time.subsec_nanosecond().unsigned_abs() / 1_000,
-    }
-}
 
 /// `jiff`'s date; `None` where it has none.
 fn jiff_date(date: Civil) -> Option<civil::Date>
@@ -70,10 +48,10 @@ fn jiff_time(clock: Clock) -> Option<civil::Time>
 
 /// `2000-01-31` (`date_out`).
 impl ToText for civil::Date {
-    ghost shows = { Shows date_text };
+    ghost shows = { Shows civil_date_text };
 
     fn to_text(&self, _alloc: Global, out: &mut Vec<u8>) -> Result<(), AllocError> {
-        let date = civil_of(*self);
+        let date = day_of(*self);
         push_date(date, out)?;
         push_era(date, out)
     }
@@ -89,7 +67,7 @@ impl FromText for civil::Date {
 
 /// `23:59:59.5` (`time_out`).
 impl ToText for civil::Time {
-    ghost shows = { Shows time_text };
+    ghost shows = { Shows civil_time_text };
 
     fn to_text(&self, _alloc: Global, out: &mut Vec<u8>) -> Result<(), AllocError> {
         push_clock(clock_of(*self), out)
@@ -106,11 +84,11 @@ impl FromText for civil::Time {
 
 /// `2000-01-31 23:59:59.5` (`timestamp_out`).
 impl ToText for civil::DateTime {
-    ghost shows = { Shows (datetime_text []) };
+    ghost shows = { Shows civil_datetime_text };
 
     fn to_text(&self, _alloc: Global, out: &mut Vec<u8>) -> Result<(), AllocError> {
         let datetime = DateTime {
-            date: civil_of(self.date()),
+            date: day_of(self.date()),
             clock: clock_of(self.time()),
         };
         push_datetime(datetime, b"", out)
@@ -139,13 +117,10 @@ impl FromText for civil::DateTime {
 
 /// `2000-01-31 23:59:59.5+00` (`timestamptz_out`).
 impl ToText for jiff::Timestamp {
-    ghost shows = { ShowsInstant };
+    ghost shows = { Shows instant_text };
 
     fn to_text(&self, _alloc: Global, out: &mut Vec<u8>) -> Result<(), AllocError> {
-        let micros = self.as_microsecond();
-        let seconds = micros.div_euclid(1_000_000);
-        let datetime = DateTime::new(seconds, micros.rem_euclid(1_000_000) as u32);
-        push_datetime(datetime, UTC, out)
+        push_datetime(datetime_of(*self), UTC, out)
     }
 }
 
@@ -170,7 +145,7 @@ impl FromText for jiff::Timestamp {
 
 /// `2000-01-31 23:59:59.5` (`timestamp_out`), by a calendar of our own, which has every year.
 impl ToText for UnixTime {
-    ghost shows = { ShowsTimestamp };
+    ghost shows = { Shows unix_time_text };
 
     fn to_text(&self, _alloc: Global, out: &mut Vec<u8>) -> Result<(), AllocError> {
         push_datetime(DateTime::new(self.secs(), self.nanos() / 1_000), b"", out)

@@ -1,11 +1,11 @@
 //! Numbers in decimal digits.
 
-ghost use Rattle.std.specs.Prelude.{◌≡◌, ◌<◌, ◌≤◌, ◌-◌, ◌==◌, ◌∷◌, [], ◌++◌, IfSome, OnOk, drop, length, replicate};
+ghost use Rattle.std.specs.Prelude.{◌≡◌, ◌<◌, ◌≤◌, ◌++◌, OnOk, drop, replicate};
 ghost use Rattle.std.specs.Fmt.{digit_glyph, digits};
-ghost use Rattle.std.specs.List.{suffix_len};
-ghost use Rattle.pg_text.specs.Times.{fraction_text, padded_text};
+ghost use Rattle.pg_calendar.specs.Texts.{fraction_text, padded_text};
 
 use itoa::{Buffer, Integer};
+use pg_calendar::{len_without_zeros, six_digits};
 use std::alloc::AllocError;
 
 /// Appends the number.
@@ -24,27 +24,6 @@ pub fn push_padded(number: u64, width: usize, out: &mut Vec<u8>) -> Result<(), A
     let digits = buffer.format(number).as_bytes();
     push_zeros(width.saturating_sub(digits.len()), out)?;
     out.extend_from_slice(digits)
-}
-
-/// The two digits of a number, of which the first may be 0; `None` where it has more.
-pub fn two_digits(number: u32) -> Option<(u8, u8)>
-    ensures { IfSome result (λ digits. padded_text 2 number ≡ digits.0 ∷ digits.1 ∷ []) }
-{
-    if number < 100 {
-        Some((b'0' + (number / 10) as u8, b'0' + (number % 10) as u8))
-    } else {
-        None
-    }
-}
-
-/// The six digits of a number, of which the first may be 0; `None` where it has more.
-fn six_digits(number: u32) -> Option<[u8; 6]>
-    ensures { IfSome result (λ digits. digits ≡ padded_text 6 number) }
-{
-    let (d0, d1) = two_digits(number / 10_000)?;
-    let (d2, d3) = two_digits(number / 100 % 100)?;
-    let (d4, d5) = two_digits(number % 100)?;
-    Some([d0, d1, d2, d3, d4, d5])
 }
 
 /// Appends the number in at least six digits, of which the first may be 0.
@@ -81,18 +60,6 @@ pub fn push_fraction(millionths: u32, out: &mut Vec<u8>) -> Result<(), AllocErro
     let len = len_without_zeros(&out.as_slice()[start..]);
     out.truncate(start + len);
     Ok(())
-}
-
-/// The length of the text without the zeros at its end.
-fn len_without_zeros(text: &[u8]) -> usize
-    ensures value { result ≡ length text.now - suffix_len (λ c. c == 48) text.now }
-    ensures bound { result ≤ length text.now }
-{
-    let mut len = text.len();
-    while len > 0 && text[len - 1] == b'0' {
-        len -= 1;
-    }
-    len
 }
 
 /// Appends the number in hexadecimal digits without zeros before it.

@@ -6,8 +6,6 @@ ghost use Rattle.std.specs.Global.{Global};
 ghost use Rattle.std.specs.Int.{w16, w32, w64};
 ghost use Rattle.std.specs.List.{All};
 ghost use Rattle.hex.specs.Hex.{IsBytes};
-ghost use Rattle.jiff_core.specs.Calendar.{IsCivilDate, days_from_civil};
-ghost use Rattle.pg_text.specs.Calendar.{IsDay, day_number};
 ghost use Rattle.pg_text.specs.ReadBack.{IsReadBack};
 
 use crate::{FromText, ToText};
@@ -83,16 +81,4 @@ pub fn int2vector_says_its_numbers()
 pub fn oidvector_says_its_numbers()
     ensures { (v : Vec ℕ Global) (text : List ℕ) → All (λ n. n < 2 ^ 32) v.items
         → ⟦<Vec<u32> as ToText>⟧.shows v [] text → ⟦<Vec<u32> as FromText>⟧.says text v }
-{}
-
-/// The number of a day is the one that the calendar of `jiff` defines for each of its days.
-pub fn days_are_numbered()
-    ensures { (year : ℤ) (month day : ℕ) → IsCivilDate year month day
-        → day_number year month day ≡ days_from_civil year month day }
-{}
-
-/// Two days have two numbers, so a timestamp has one text.
-pub fn a_number_is_of_one_day()
-    ensures { (y₁ y₂ : ℤ) (m₁ d₁ m₂ d₂ : ℕ) → IsDay y₁ m₁ d₁ → IsDay y₂ m₂ d₂
-        → day_number y₁ m₁ d₁ ≡ day_number y₂ m₂ d₂ → (y₁ ≡ y₂) × (m₁ ≡ m₂) × (d₁ ≡ d₂) }
 {}

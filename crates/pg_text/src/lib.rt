@@ -8,7 +8,6 @@ ghost use Rattle.pg_text.specs.Texts.{AnyText, AnyValue};
 pub mod arrays;
 mod bits;
 mod bytea;
-pub mod calendar;
 mod date_forms;
 mod dates;
 mod digits;
@@ -23,6 +22,7 @@ mod quotes;
 pub mod records;
 mod scanner;
 pub mod separators;
+mod shown;
 mod small;
 mod texts;
 

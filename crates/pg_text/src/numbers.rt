@@ -1,7 +1,8 @@
 //! Numbers, booleans and `"char"`.
 ghost use Rattle.std.specs.Fmt.{signed_decimal};
 ghost use Rattle.std.specs.Prelude.{decimal};
-ghost use Rattle.pg_text.specs.Texts.{SaysBool, SaysSigned, SaysUnsigned, Shows, bool_text, char_text};
+ghost use Rattle.pg_base.specs.NumberTexts.{SaysSigned, SaysUnsigned};
+ghost use Rattle.pg_text.specs.Texts.{SaysBool, Shows, bool_text, char_text};
 
 use crate::digits::push_number;
 use crate::{FromText, ToText, no_value};

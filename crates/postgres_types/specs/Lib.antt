@@ -24,13 +24,17 @@ pub use Rattle.pg_base.specs.Bytea
 pub use Rattle.pg_base.specs.Cells
 pub use Rattle.pg_base.specs.Civil
 pub use Rattle.pg_base.specs.Counts
+pub use Rattle.pg_base.specs.DateTexts
 pub use Rattle.pg_base.specs.FixedBytes
 pub use Rattle.pg_base.specs.Formats
 pub use Rattle.pg_base.specs.Hstore
 pub use Rattle.pg_base.specs.Interval
+pub use Rattle.pg_base.specs.IntervalTexts
 pub use Rattle.pg_base.specs.Json
 pub use Rattle.pg_base.specs.Lsn
 pub use Rattle.pg_base.specs.Network
+pub use Rattle.pg_base.specs.NetworkTexts
+pub use Rattle.pg_base.specs.NumberTexts
 pub use Rattle.pg_base.specs.Numbers
 pub use Rattle.pg_base.specs.Options
 pub use Rattle.pg_base.specs.Sameness

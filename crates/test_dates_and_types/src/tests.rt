@@ -10,6 +10,7 @@ mod infinities;
 mod intervals;
 mod memory;
 mod no_day;
+mod texts;
 mod timestamps;
 mod types;
 mod user_timestamp;

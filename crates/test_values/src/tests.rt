@@ -8,5 +8,6 @@ mod long_cells;
 mod long_map;
 mod lsn;
 mod network;
+mod network_texts;
 mod numbers;
 mod texts;

@@ -68,9 +68,9 @@ where
         ⟦<InTurn<A, B, C, D, E, F, G, H, I> as FromFields<'a>>⟧.same
         (⟦<InTurn<A, B, C, D, E, F, G, H, I> as FromFields<'a>>⟧.reads fields s)
         (and_single A.same A.accepted A.reads _ _ _ A.single (and_single B.same B.accepted B.reads _ _ _ B.single
-        (and_single C.same C.accepted C.reads _ _ _ C.single (and_single D.same D.accepted D.reads _ _ _ D.single (and_single
-        E.same E.accepted E.reads _ _ _ E.single (and_single F.same F.accepted F.reads _ _ _ F.single (and_single
-        G.same G.accepted G.reads _ _ _ G.single (and_single H.same H.accepted H.reads _ _ _ H.single I.single)))))))
+        (and_single C.same C.accepted C.reads _ _ _ C.single (and_single D.same D.accepted D.reads _ _ _ D.single
+        (and_single E.same E.accepted E.reads _ _ _ E.single (and_single F.same F.accepted F.reads _ _ _ F.single
+        (and_single G.same G.accepted G.reads _ _ _ G.single (and_single H.same H.accepted H.reads _ _ _ H.single I.single)))))))
         fields ok s) };
 
     fn from_fields(alloc: Global, fields: &[Field], raw: &'a [u8]) -> Result<Self, Fault> {

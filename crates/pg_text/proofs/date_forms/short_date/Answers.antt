@@ -1,7 +1,7 @@
 -- What the proof of `short_date` answers by hand.
 use Rattle.std.proofs.Common.{rules, ◌≡◌, ◌++◌, ◌∷◌, [], ap, sym, ◌∙◌, arith}
-use Rattle.pg_text.specs.Times.{padded_text, year_of_era}
-use Rattle.pg_text.proofs.Padding.{two_pairs}
+use Rattle.pg_calendar.specs.Texts.{padded_text, year_of_era}
+use Rattle.pg_calendar.proofs.Padding.{two_pairs}
 use Rattle.pg_text.proofs.date_forms.short_date.Goals as goal
 
 pub returns : goal.returns

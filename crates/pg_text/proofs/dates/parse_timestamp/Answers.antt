@@ -1,7 +1,7 @@
 -- What the proof of `parse_timestamp` answers by hand.
 use Rattle.std.proofs.Common.{rules, arith, ◌≡◌, w64, to_z, of_z}
 use Rattle.jiff_core.proofs.SignedLemmas.{signed_arith}
-use Rattle.pg_text.proofs.Outcomes.{IfSome_of_ok}
+use Rattle.pg_calendar.proofs.Outcomes.{IfSome_of_ok}
 use Rattle.pg_text.proofs.dates.parse_timestamp.Goals as goal
 
 pub returns : goal.returns

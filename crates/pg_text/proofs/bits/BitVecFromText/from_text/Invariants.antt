@@ -1,6 +1,6 @@
 -- The loop of `BitVec::from_text`: the bits have the digits before this one.
 use Rattle.std.proofs.Common.{◌≡◌, take}
-use Rattle.pg_text.specs.Texts.{bits_text}
+use Rattle.pg_base.specs.Bits.{bits_text}
 use Rattle.pg_text.proofs.bits.BitVecFromText.from_text.Given as goal
 
 abbrev pub invariant-loop-digit : goal.invariant-loop-digit

@@ -1,0 +1,232 @@
+//! The texts of addresses with their netmasks, and of MAC addresses.
+ghost use Rattle.std.specs.Prelude.{◌≡◌, ◌∷◌, [], ℕ, List, IfOk, IfSome, MatchOption, Ok, Some, false, true};
+ghost use Rattle.std.specs.Fmt.{WritesOnOk};
+ghost use Rattle.std.specs.Net.Addr.{ipv4_octets, ipv6_segments, low_octets};
+ghost use Rattle.std.specs.Net.Grammar.{IsIpText};
+ghost use Rattle.hex.specs.Hex.{decode_of};
+ghost use Rattle.pg_base.specs.Network.{with_netmask};
+ghost use Rattle.pg_base.specs.NetworkTexts.{SaysMacaddr, SaysNetwork, TakesPair, address_text, cidr_text, inet_text};
+ghost use Rattle.pg_base.specs.NetworkTexts.{is_ipv4_compatible, macaddr_text, pair_text};
+ghost use Rattle.pg_base.specs.NumberTexts.{SaysUnsigned};
+ghost use Rattle.std.specs.declared.net.ip_addr.IpAddr.TheVariants.{V6};
+
+use super::{IpCidr, IpInet, MacAddress, address_bits};
+use crate::fault::Fault;
+use std::net::{IpAddr, Ipv4Addr, Ipv6Addr};
+use std::str::FromStr;
+use std::{fmt, str};
+
+/// The address, and `/` and the length of its netmask where the netmask leaves a bit free
+/// (`inet_out`).
+impl fmt::Display for IpInet {
+    ghost output = { λ n. Some (inet_text n) };
+
+    fn fmt<W: fmt::Write>(&self, f: &mut fmt::Formatter<W>) -> fmt::Result {
+        let host = self.address();
+        let len = self.network_length();
+        write_address(host, f)?;
+        if len == address_bits(host) {
+            Ok(())
+        } else {
+            write!(f, "/{len}")
+        }
+    }
+}
+
+/// The first address, `/` and the length of the netmask (`cidr_out`).
+impl fmt::Display for IpCidr {
+    ghost output = { λ n. Some (cidr_text n) };
+
+    fn fmt<W: fmt::Write>(&self, f: &mut fmt::Formatter<W>) -> fmt::Result {
+        let first = self.first_address();
+        let len = self.network_length();
+        write_address(first, f)?;
+        write!(f, "/{len}")
+    }
+}
+
+/// Writes the address.
+fn write_address<W: fmt::Write>(address: IpAddr, f: &mut fmt::Formatter<W>) -> fmt::Result
+    ensures { WritesOnOk W.write_str_gives f.old result (address_text address) f.new }
+{
+    match address {
+        IpAddr::V4(_) => write!(f, "{address}"),
+        IpAddr::V6(address) => write_v6(address, f),
+    }
+}
+
+/// Writes the address as PostgreSQL does (`inet_net_ntop_ipv6`), which is as the standard library
+/// does but where the first six words alone are zero: there the rest is an IPv4 address.
+fn write_v6<W: fmt::Write>(address: Ipv6Addr, f: &mut fmt::Formatter<W>) -> fmt::Result
+    ensures { WritesOnOk W.write_str_gives f.old result (address_text (V6 address)) f.new }
+{
+    match compatible_ipv4(address) {
+        Some(ipv4) => write!(f, "::{ipv4}"),
+        None => write!(f, "{address}"),
+    }
+}
+
+/// The IPv4 address in which an address ends whose first six words alone are zero.
+fn compatible_ipv4(address: Ipv6Addr) -> Option<Ipv4Addr>
+    ensures { MatchOption result (is_ipv4_compatible (ipv6_segments address) ≡ false)
+        (λ ipv4. (is_ipv4_compatible (ipv6_segments address) ≡ true) × (ipv4_octets ipv4 ≡ low_octets address)) }
+{
+    if address.to_ipv4_mapped().is_some() || address.segments()[6] == 0 {
+        None
+    } else {
+        address.to_ipv4()
+    }
+}
+
+/// An address, and `/` and the length of its netmask, which is that of all its bits where none
+/// stands there. A netmask that is too long is refused with `Netmask`, and a text that is no address
+/// with `User`.
+impl FromStr for IpInet {
+    type Err = Fault;
+
+    ghost from_str_gives = { λ text parsed. IfOk parsed (SaysNetwork text) };
+
+    fn from_str(text: &str) -> Result<IpInet, Fault> {
+        let (address, len) = address_and_netmask(text).ok_or(Fault::user("no network address"))?;
+        IpInet::new(address, len)
+    }
+}
+
+/// The same of a network, which is refused with `HostBits` where a bit after the netmask is 1.
+impl FromStr for IpCidr {
+    type Err = Fault;
+
+    ghost from_str_gives = { λ text parsed. IfOk parsed (SaysNetwork text) };
+
+    fn from_str(text: &str) -> Result<IpCidr, Fault> {
+        let (address, len) = address_and_netmask(text).ok_or(Fault::user("no network address"))?;
+        IpCidr::new(address, len)
+    }
+}
+
+/// The address, and the length of its netmask, which is all of it where none stands there.
+fn address_and_netmask(text: &str) -> Option<(IpAddr, u8)>
+    ensures { IfSome result (λ r. SaysNetwork text.now (with_netmask r.0 r.1)) }
+{
+    let Some((host, len)) = text.split_once('/') else {
+        let address = parse_address(text)?;
+        return Some((address, address_bits(address)));
+    };
+    let address = parse_address(host)?;
+    let bits = parse_netmask(len)?;
+    Some((address, bits))
+}
+
+/// The address of a text.
+fn parse_address(text: &str) -> Option<IpAddr>
+    ensures { IfSome result (λ address. IsIpText text.now address) }
+{
+    text.parse().ok()
+}
+
+/// The length of a netmask of a text.
+fn parse_netmask(text: &str) -> Option<u8>
+    ensures { IfSome result (λ len. SaysUnsigned text.now len) }
+{
+    text.parse().ok()
+}
+
+/// Two hexadecimal digits for each byte, with `:` between (`macaddr_out`).
+impl fmt::Display for MacAddress {
+    ghost output = { λ bytes. Some (macaddr_text bytes) };
+
+    fn fmt<W: fmt::Write>(&self, f: &mut fmt::Formatter<W>) -> fmt::Result {
+        let [a, b, c, d, e, g] = self.0;
+        write!(
+            f,
+            "{}:{}:{}:{}:{}:{}",
+            Pair(a),
+            Pair(b),
+            Pair(c),
+            Pair(d),
+            Pair(e),
+            Pair(g)
+        )
+    }
+}
+
+/// A byte of a MAC address.
+#[derive(Clone, Copy)]
+struct Pair(u8);
+
+impl fmt::Display for Pair {
+    ghost output = { λ pair. Some (pair_text pair.0) };
+
+    fn fmt<W: fmt::Write>(&self, f: &mut fmt::Formatter<W>) -> fmt::Result {
+        let mut digits = [0; 2];
+        hex::encode_to_slice(&[self.0], &mut digits).map_err(|_| fmt::Error)?;
+        f.write_str(str::from_utf8(&digits).map_err(|_| fmt::Error)?)
+    }
+}
+
+/// Six pairs of hexadecimal digits of either case, with `:` between. Another text is refused with
+/// `User`.
+impl FromStr for MacAddress {
+    type Err = Fault;
+
+    ghost from_str_gives = { λ text parsed. IfOk parsed (SaysMacaddr text) };
+
+    fn from_str(text: &str) -> Result<MacAddress, Fault> {
+        parse_macaddr(text).ok_or(Fault::user("no MAC address"))
+    }
+}
+
+/// The MAC address of a text.
+fn parse_macaddr(text: &str) -> Option<MacAddress>
+    ensures { IfSome result (SaysMacaddr text.now) }
+{
+    let (a, rest) = take_pair(text.as_bytes())?;
+    let (b, rest) = take_next_pair(rest)?;
+    let (c, rest) = take_next_pair(rest)?;
+    let (d, rest) = take_next_pair(rest)?;
+    let (e, rest) = take_next_pair(rest)?;
+    let (g, rest) = take_next_pair(rest)?;
+    if rest.is_empty() {
+        Some(MacAddress([a, b, c, d, e, g]))
+    } else {
+        None
+    }
+}
+
+/// The byte of the two digits at the front of the text, and what comes after them.
+fn take_pair(text: &[u8]) -> Option<(u8, &[u8])>
+    ensures { IfSome result (λ r. TakesPair text.now r.0 r.1.now) }
+{
+    let [high, low, rest @ ..] = text else {
+        return None;
+    };
+    match hex_byte(*high, *low) {
+        Some(byte) => Some((byte, rest)),
+        None => None,
+    }
+}
+
+/// The same after a colon.
+fn take_next_pair(text: &[u8]) -> Option<(u8, &[u8])>
+    ensures { IfSome result (λ r. (after : List ℕ) × (text.now ≡ 58 ∷ after) × TakesPair after r.0 r.1.now) }
+{
+    let [colon, rest @ ..] = text else {
+        return None;
+    };
+    if *colon == b':' {
+        take_pair(rest)
+    } else {
+        None
+    }
+}
+
+/// The byte of two hexadecimal digits of either case.
+fn hex_byte(high: u8, low: u8) -> Option<u8>
+    ensures { IfSome result (λ byte. decode_of (high ∷ low ∷ []) ≡ Ok (byte ∷ [])) }
+{
+    let mut byte = [0];
+    match hex::decode_to_slice(&[high, low], &mut byte) {
+        Ok(()) => Some(byte[0]),
+        Err(_) => None,
+    }
+}
