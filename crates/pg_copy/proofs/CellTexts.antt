@@ -2,9 +2,9 @@
 use Rattle.std.proofs.Common.{◌≤◌, ℕ, List, [], ◌∷◌, Some, None, Ok, Err, length, arith, inl, inr, refl, subst}
 use Rattle.std.proofs.Common.{sym}
 use Rattle.std.proofs.lemmas.Option.{IfSome_then}
-use Rattle.std.specs.Prelude.{IfSome, Bool}
+use Rattle.std.specs.Prelude.{IfSome}
 use Rattle.pg_base.specs.Cells.{Cell, CellsInRow, SpellsAll, SpellsNone}
-use Rattle.pg_copy.specs.Refusals.{RefusesFront}
+use Rattle.pg_copy.specs.CellRefusals.{RefusesFront}
 use Rattle.pg_copy.specs.Values.{values}
 use Rattle.pg_types.specs.Content.{Content}
 use Rattle.pg_types.specs.declared.fault.Fault.{Fault}
@@ -34,17 +34,17 @@ none_whole s rest row =
 -- the framed cell at the front, of which reading gave a fault, is refused with it
 module _ {A : Type 0} (reads : Content → Cell → Outcome A → Type 0) (shows : A → List ℕ → List ℕ → Type 0)
     (ty : Content)
-    (free : Cell → Type 0) (is_array : Bool) (s new : List ℕ) (f : Fault) where
+    (free : Cell → Type 0) (s new : List ℕ) (f : Fault) where
   refused_first : (cs : List Cell) (rest : List ℕ) → CellsInRow s 1 cs rest
       → ReadsFirst (ReadsOption (reads ty)) free s cs rest (Err f) new
-      → IfSome (refusal_of f) (RefusesFront is_array (values reads shows) ty s)
+      → IfSome (refusal_of f) (RefusesFront (values reads shows) ty s)
   refused_first [] rest row h =
-      subst (λ o. IfSome o (RefusesFront is_array (values reads shows) ty s)) (sym h.0)
+      subst (λ o. IfSome o (RefusesFront (values reads shows) ty s)) (sym h.0)
       (inl (none_whole s rest row, refl))
   refused_first (None ∷ cs) rest row h = IfSome_then (refusal_of f) h.0 (λ r q. absurd q)
-  refused_first (Some b ∷ []) rest row h = IfSome_then (refusal_of f) h.0 (λ r q. inr (b, rest, row.0, inl q))
+  refused_first (Some b ∷ []) rest row h = IfSome_then (refusal_of f) h.0 (λ r q. inr (b, rest, row.0, q))
   refused_first (Some b ∷ d ∷ cs) rest row h = let no : ⊥ = omega (arith, row.1) in absurd no
 
   pub cell_refused : ReadsFrame (ReadsOption (reads ty)) free s (Err f) new
-      → IfSome (refusal_of f) (RefusesFront is_array (values reads shows) ty s)
+      → IfSome (refusal_of f) (RefusesFront (values reads shows) ty s)
   cell_refused h = refused_first h.cells h.rest h.in_row h.holds

@@ -1,26 +1,34 @@
 -- The steps of reading the fields of a record.
 use Rattle.std.proofs.Common.{◌≡◌, ◌<◌, ◌≤◌, ◌+◌, ℕ, Bool, true, false, List, [], ◌∷◌, ◌++◌, Option, Some, None, Ok}
-use Rattle.std.proofs.Common.{length, take}
+use Rattle.std.proofs.Common.{drop, if◌then◌else◌, length, length-append, take, take-append-drop}
 use Rattle.std.proofs.Common.{ap, map, refl, sym, ◌∙◌, append_assoc, append-nil, arith, subst}
 use Rattle.std.specs.Borrow.{Bor}
 use Rattle.std.specs.Global.{Global}
 use Rattle.std.specs.Prelude.{Vec}
-use Rattle.std.specs.Int.{w32}
+use Rattle.std.specs.Int.{cast_unsigned, w32}
 use Rattle.std.proofs.lemmas.Grind.{flat_map-append}
+use Rattle.std.proofs.Math.Seq.{drop-append_seam, take-append_seam}
+use Rattle.std.proofs.lemmas.Bool.Decides.{nat_tests}
 use Rattle.std.proofs.lemmas.List.{length-map, length-take-le, map_push}
 use Rattle.std.specs.List.{AllZip, flat_map, join_with_byte}
-use Rattle.pg_base.specs.Cells.{Cell, IsBeUnsigned, SpellsAll}
-use Rattle.pg_copy.specs.Composites.{FieldText, FitsOid, ReadsBytesOfEach, ShowsField, ShowsRecord, record_values}
-use Rattle.pg_copy.specs.Composites.{records_values}
+use Rattle.pg_base.specs.Cells.{Cell, Spells, SpellsAll, signed_in}
+use Rattle.pg_base.specs.Counts.{after_number, has_number}
+use Rattle.pg_copy.proofs.ArrayBounds.{bound_shown}
+use Rattle.pg_copy.specs.Composites.{FieldText, ReadsBytesOfEach, ShowsField, ShowsRecord, field_values, fits_oid}
+use Rattle.pg_copy.specs.Composites.{record_values, records_values, type_fault}
 use Rattle.pg_copy.specs.Lines.{values_with}
-use Rattle.pg_copy.specs.ReadingSteps.{HasText, TakesCell}
-use Rattle.pg_copy.specs.Values.{Values, in_form, values_of}
+use Rattle.pg_copy.specs.ReadingSteps.{TakesCell}
+use Rattle.pg_copy.specs.Values.{HasOtherBound}
 use Rattle.pg_copy.specs.declared.columns.Field.{Field}
 use Rattle.pg_copy.specs.declared.types.Base.{Base}
-use Rattle.pg_text.proofs.Joins.{texts_step, zip_length, zip_more}
+use Rattle.pg_text.proofs.Joins.{texts_step, zip_length}
 use Rattle.pg_text.specs.Lists.{ShowsArray, separator}
 use Rattle.pg_text.specs.Quotes.{field_text}
-use Rattle.pg_types.specs.Content.{Content, content}
+use Rattle.pg_types.specs.Content.{Content, content, oid_of}
+use Rattle.pg_types.specs.Faults.{Refusal, field_oid, size}
+use Rattle.pg_types.specs.declared.types.built_in.BuiltIn.TheVariants.{ByteaArray}
+use Rattle.postgres_types.specs.Bytea.{ReadsBytes}
+use Rattle.postgres_types.specs.Content.{BuiltInType}
 use Rattle.postgres_types.specs.OptionReading.{ReadsOption}
 
 -- the values of a composite type's column
@@ -54,30 +62,58 @@ abbrev pub TakesField : Field → List ℕ → List ℕ → List ℕ → List �
 TakesField field old new text longer =
     (part : List ℕ × List ℕ) × ShowsField field part × (old ≡ part.0 ++ new) × (longer ≡ text ++ part.1)
 
-module _ (field : Field) (old mid new number : List ℕ) (oid : ℕ) (is_number : IsBeUnsigned w32 number oid)
-    (fits : FitsOid (content field.ty) oid) (taken : old ≡ number ++ mid) (text : List ℕ) where
+-- the check of an OID reads four bytes
+abbrev checked : Content → Bool → List ℕ → Option Refusal
+checked ty has number =
+    if has
+    then (if fits_oid (oid_of ty) (cast_unsigned w32 (signed_in w32 number)) then None else Some field_oid)
+    else Some size
+
+has_oid : (ty : Content) (has : Bool) (number : List ℕ) → checked ty has number ≡ None → has ≡ true
+has_oid ty true number h = refl
+has_oid ty false number h = let no : ⊥ = cc in absurd no
+
+module _ (ty : Content) (s front : List ℕ) (fits : type_fault ty s ≡ None) where
+  four : length (take 4 s) ≡ 4
+  four =
+      let has : has_number s ≡ true = has_oid ty (has_number s) (take 4 s) fits in
+      let long : 4 ≤ length s = grind (arith, nat_tests, has) in
+      length-take-le 4 s long
+
+  after_oid : after_number (take 4 s ++ front) ≡ front
+  after_oid = ap (λ k. drop k (take 4 s ++ front)) (sym four) ∙ drop-append_seam (take 4 s) front
+
+  oid_before : type_fault ty (take 4 s ++ front) ≡ None
+  oid_before =
+      let t = take 4 s ++ front in
+      let first : take 4 t ≡ take 4 s = ap (λ k. take k t) (sym four) ∙ take-append_seam (take 4 s) front in
+      let all : length t ≡ length (take 4 s) + length front = length-append (take 4 s) front in
+      let has : has_number t ≡ true = grind (arith, nat_tests, all, four) in
+      let had = has_oid ty (has_number s) (take 4 s) fits in
+      ap (λ b. checked ty b (take 4 t)) has ∙ ap (checked ty true) first
+      ∙ sym (ap (λ b. checked ty b (take 4 s)) had) ∙ fits
+
+module _ (field : Field) (old mid new : List ℕ) (fits : type_fault (content field.ty) old ≡ None)
+    (taken : mid ≡ after_number old) (text : List ℕ) where
   with_cell : (cell : Cell) (shown : List ℕ) → SpellsAll mid (cell ∷ []) new → FieldText field cell shown
       → TakesField field old new text (text ++ shown)
   with_cell cell shown spelled said = (
-    (number ++ spelled.front, shown),
+    (take 4 old ++ spelled.front, shown),
     record {
-      oid = oid;
-      fits = fits;
-      number = number;
-      is_number = is_number;
+      oid = oid_before (content field.ty) old spelled.front fits;
       cell = cell;
-      framed = spelled.front;
-      spells = spelled.spells;
-      is = refl;
+      spells = subst (λ t. Spells t cell) (sym (after_oid (content field.ty) old spelled.front fits)) spelled.spells;
       text = said;
     },
-    taken ∙ ap (λ v. number ++ v) (spelled.is ∙ ap (λ v. spelled.front ++ v) spelled.rest_spells)
-        ∙ sym (append_assoc number spelled.front new),
+    sym (take-append-drop 4 old)
+        ∙ ap (λ v. take 4 old ++ v)
+        (sym taken ∙ spelled.is ∙ ap (λ v. spelled.front ++ v) spelled.rest_spells)
+        ∙ sym (append_assoc (take 4 old) spelled.front new),
     refl,
   )
 
   null_shown : (has_text : Bool) (cleared own : List ℕ) → has_text ≡ false
-      → TakesCell (in_form field.is_array (values_of field.base).0) (content field.ty) mid has_text new cleared own
+      → TakesCell (field_values field) (content field.ty) mid has_text new cleared own
       → TakesField field old new text text
   null_shown false cleared own e (None, spelled, q) =
       subst (TakesField field old new text) (append-nil text) (with_cell None [] spelled refl)
@@ -85,7 +121,7 @@ module _ (field : Field) (old mid new number : List ℕ) (oid : ℕ) (is_number 
   null_shown true cleared own e q = let bad : ⊥ = cc in absurd bad
 
   some_shown : (has_text : Bool) (own longer : List ℕ) → has_text ≡ true
-      → TakesCell (in_form field.is_array (values_of field.base).0) (content field.ty) mid has_text new [] own
+      → TakesCell (field_values field) (content field.ty) mid has_text new [] own
       → longer ≡ text ++ field_text own
       → TakesField field old new text longer
   some_shown true own longer e (Some bytes, spelled, q) last =
@@ -95,7 +131,7 @@ module _ (field : Field) (old mid new number : List ℕ) (oid : ℕ) (is_number 
   some_shown false own longer e q last = let bad : ⊥ = cc in absurd bad
 
   module _ (has_text : Bool) (cleared own : List ℕ) (e : cleared ≡ [])
-      (q : TakesCell (in_form field.is_array (values_of field.base).0) (content field.ty) mid has_text new cleared
+      (q : TakesCell (field_values field) (content field.ty) mid has_text new cleared
       own) where
     -- NULL was taken
     pub null_field : has_text ≡ false → TakesField field old new text text
@@ -106,7 +142,7 @@ module _ (field : Field) (old mid new number : List ℕ) (oid : ℕ) (is_number 
         → TakesField field old new text longer
     some_field longer some last =
         some_shown has_text own longer some
-        (subst (λ c. TakesCell (in_form field.is_array (values_of field.base).0) (content field.ty) mid has_text new c own)
+        (subst (λ c. TakesCell (field_values field) (content field.ty) mid has_text new c own)
         e q)
         last
 
@@ -119,10 +155,13 @@ all (Some v) = v.items
 pub records_taken : (fields : List Field) (s new text longer : List ℕ)
     (o : Option (Vec (Option (Bor (List ℕ))) Global)) (v : Vec (Option (Bor (List ℕ))) Global) → o ≡ Some v
     → (cell : Cell) × SpellsAll s (cell ∷ []) new × ReadsOption ReadsBytesOfEach cell (Ok o)
+    → (HasOtherBound (drop 4 s) → ⊥)
     → ShowsArray (λ r. ShowsRecord fields r.now) v.items text longer
     → (ty : Content) → TakesCell (records_values fields) ty s true new text longer
-records_taken fields s new text longer (Some v) w e (Some b, spelled, read) shown ty =
+records_taken fields s new text longer (Some v) w e (Some b, spelled, read) none shown ty =
     let same = subst (λ p. ShowsArray (λ r. ShowsRecord fields r.now) (all p) text longer) (sym e) shown in
-    (Some b, spelled, (refl, (v, read, same)))
-records_taken fields s new text longer (Some v) w e (None, spelled, read) shown ty = absurd read
-records_taken fields s new text longer None w e taken shown ty = let bad : ⊥ = cc in absurd bad
+    let of_bound_one = bound_shown (λ ty. ReadsOption (ReadsBytes (λ r. r.now))) (BuiltInType ByteaArray) s b new v
+    spelled read none in
+    (Some b, spelled, (refl, (v, of_bound_one, same)))
+records_taken fields s new text longer (Some v) w e (None, spelled, read) none shown ty = absurd read
+records_taken fields s new text longer None w e taken none shown ty = let bad : ⊥ = cc in absurd bad

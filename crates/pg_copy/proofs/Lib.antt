@@ -4,16 +4,15 @@ mod CellTexts
 mod CompositeSteps
 mod EscapeLaws
 mod EscapeTable
-mod HeaderLaws
 mod LineLaws
 mod ReadingLaws
 mod ReadingRuns
+mod RecordFaults
 pub mod Records
 mod RefusalLaws
 mod RowLaws
 mod StopLaws
 mod TextLaws
-mod TupleLaws
 pub mod Wires
 mod WrittenLaws
 pub mod WrittenRecords

@@ -4,40 +4,25 @@ use Rattle.std.proofs.Common.{ap, sym, subst, ◌∙◌, append_assoc, append-ni
 use Rattle.std.proofs.lemmas.List.{nil_from_length}
 use Rattle.std.specs.Int.{w16}
 use Rattle.pg_base.proofs.CellLaws.{cells_single, frames_spell}
-use Rattle.pg_base.proofs.Concat.{concat-assoc, concat-nil, nil-concat}
-use Rattle.pg_base.specs.Cells.{Cell, SpellsAll, be, concat}
+use Rattle.pg_base.specs.Cells.{Cell, SpellsAll, be}
 use Rattle.pg_copy.proofs.LineLaws.{fields_width, lines_next}
 use Rattle.pg_copy.specs.Lines.{IsLineOf}
-use Rattle.pg_copy.specs.ReadingSteps.{Advances, AwaitsExtension, HasRead, TakesHeader, TakesRow}
+use Rattle.pg_copy.specs.ReadingSteps.{AddsRow, Advances, HasRead}
 use Rattle.pg_copy.specs.Refusals.{row_count}
-use Rattle.pg_copy.specs.Rows.{BeginsRows, BeginsWithRows, IsHeader, StartsCopyOf, trailer, tuple, tuples}
-use Rattle.pg_copy.specs.Tuples.{FramesThen}
+use Rattle.pg_copy.specs.Rows.{BeginsRows, BeginsWithRows, StartsCopyOf}
+use Rattle.pg_tuples.proofs.TupleLaws.{copy_next}
+use Rattle.pg_tuples.specs.Reading.{AwaitsExtension, TakesHeader}
+use Rattle.pg_tuples.specs.Tuples.{FramesThen, IsHeader, trailer, tuple}
 use Rattle.pg_copy.specs.declared.columns.Column.{Column}
 use Rattle.pg_copy.specs.declared.read.Place.{Place}
 use Rattle.pg_copy.specs.declared.read.Place.TheVariants.{Header, Extension, Tuples, End}
-
-tuples-append : (rows more : List (List Cell)) → tuples (rows ++ more) ≡ concat (tuples rows) (tuples more)
-tuples-append [] more = sym (nil-concat (tuples more))
-tuples-append (row ∷ rows) more = ap (concat (tuple row)) (tuples-append rows more)
-    ∙ sym (concat-assoc (tuple row) (tuples rows) (tuples more))
-
-tuples_next : (rows : List (List Cell)) (row : List Cell) (bytes more : List ℕ) → tuples rows ≡ Some bytes
-    → tuple row ≡ Some more → tuples (rows ++ row ∷ []) ≡ Some (bytes ++ more)
-tuples_next rows row bytes more so_far one =
-    tuples-append rows (row ∷ []) ∙ ap (concat (tuples rows)) (concat-nil (tuple row)) ∙ rw (so_far, one) refl
 
 module _ (columns : List Column) where
   pub rows_next : (s t lines line : List ℕ) (rows : List (List Cell)) (row : List Cell)
       → BeginsWithRows columns rows s lines → tuple row ≡ Some t → IsLineOf columns row line
       → BeginsWithRows columns (rows ++ row ∷ []) (s ++ t) (lines ++ line)
-  rows_next s t lines line rows row (header, bytes, head, are, texts, is) one text = (
-    header,
-    bytes ++ t,
-    head,
-    tuples_next rows row bytes t are one,
-    lines_next columns rows row lines line texts text,
-    ap (λ l. l ++ t) is ∙ append_assoc header bytes t,
-  )
+  rows_next s t lines line rows row (begun, texts) one text =
+      (copy_next rows row s t begun one, lines_next columns rows row lines line texts text)
 
   unmoved : (place : Place) (i : ℕ) (s lines : List ℕ) → HasRead columns place i s lines
       → HasRead columns place i (s ++ []) (lines ++ [])
@@ -83,7 +68,7 @@ module _ (columns : List Column) where
     sym (append-nil lines),
     λ s so_far h. (
       [],
-      (s ++ t, [], h.0 t whole, refl, append-nil so_far ∙ h.1, sym (append-nil (s ++ t))),
+      ((s ++ t, [], h.0 t whole, refl, sym (append-nil (s ++ t))), append-nil so_far ∙ h.1),
       h.2,
     ),
   )
@@ -110,26 +95,25 @@ module _ (columns : List Column) where
       let sum = length-append rows (row ∷ []) in
       omega (arith, next, so_far, sum)
 
-  pub row_taken : (i j : ℕ) (s fields new lines longer : List ℕ)
-      → (rest : List ℕ) × FramesThen fields (length columns) rest × (s ≡ be w16 (pos (length columns)) ++ fields)
-      → TakesRow columns fields new lines longer → j ≡ row_count (i + 1)
-      → Advances columns Tuples i s lines Tuples j new longer
-  row_taken i j s fields new lines longer (rest, (cells, bytes, count, are, then), is)
-      (row, spelled, (line, one, grown)) next =
+  pub row_taken : (i j : ℕ) (s frames rest lines longer : List ℕ) → FramesThen frames (length columns) []
+      → s ≡ be w16 (pos (length columns)) ++ (frames ++ rest) → AddsRow columns frames lines longer
+      → j ≡ row_count (i + 1) → Advances columns Tuples i s lines Tuples j rest longer
+  row_taken i j s frames rest lines longer (cells, bytes, count, are, then) is
+      (left, (row, spelled, (line, one, grown))) next =
       let width : length row ≡ length columns = (fields_width columns row one.0 one.1).0 in
-      let framed = subst (λ x. SpellsAll x cells rest) (sym then) (frames_spell cells bytes rest are) in
-      let single = cells_single fields (length columns) cells row rest new (framed, omega (arith, count), inl count)
+      let framed = subst (λ x. SpellsAll x cells []) (sym then) (frames_spell cells bytes [] are) in
+      let single = cells_single frames (length columns) cells row [] left (framed, omega (arith, count), inl count)
       (spelled, omega (arith, width), inl width) in
-      let tuple_is : tuple row ≡ Some (be w16 (pos (length columns)) ++ bytes) =
-      subst (λ x. tuple x ≡ Some (be w16 (pos (length columns)) ++ bytes)) single.0 (rw (count, are) refl) in (
-        be w16 (pos (length columns)) ++ bytes,
+      let same : frames ≡ bytes = then ∙ append-nil bytes in
+      let tuple_is : tuple row ≡ Some (be w16 (pos (length columns)) ++ frames) =
+      subst (λ x. tuple x ≡ Some (be w16 (pos (length columns)) ++ frames)) single.0 (rw (count, are, same) refl) in (
+        be w16 (pos (length columns)) ++ frames,
         line,
-        is ∙ ap (λ x. be w16 (pos (length columns)) ++ x) (then ∙ ap (λ x. bytes ++ x) single.1)
-            ∙ sym (append_assoc (be w16 (pos (length columns))) bytes new),
+        is ∙ sym (append_assoc (be w16 (pos (length columns))) frames rest),
         grown,
         λ t so_far h. (
           h.0 ++ row ∷ [],
-          rows_next t (be w16 (pos (length columns)) ++ bytes) so_far line h.0 row h.1 tuple_is one,
+          rows_next t (be w16 (pos (length columns)) ++ frames) so_far line h.0 row h.1 tuple_is one,
           one_more i j h.0 row next h.2,
         ),
       )

@@ -1,6 +1,6 @@
 -- What is known of the cell of a composite type, or of arrays of it, which is taken as bytes.
-use Rattle.std.proofs.Common.{◌≡◌, Bool, true, false, ℕ, List, [], ◌∷◌, Option, Some, None, Ok, Err, inl, inr, length}
-use Rattle.std.proofs.Common.{refl, subst, sym}
+use Rattle.std.proofs.Common.{◌≡◌, ℕ, List, [], ◌∷◌, Option, Some, None, Ok, Err, inl, inr, length}
+use Rattle.std.proofs.Common.{subst, sym}
 use Rattle.std.proofs.Common.{◌≤◌, arith}
 use Rattle.std.proofs.lemmas.Option.{IfSome_then, none-some}
 use Rattle.std.specs.Borrow.{Bor}
@@ -8,17 +8,14 @@ use Rattle.std.specs.Global.{Global}
 use Rattle.std.specs.Prelude.{IfErr, IfOk, IfSome, Result, Vec}
 use Rattle.pg_base.specs.Cells.{Cell, SpellsAll, SpellsNone, cell_of}
 use Rattle.pg_copy.proofs.CellTexts.{cell_refused}
-use Rattle.pg_copy.specs.ReadingSteps.{TakesCell}
-use Rattle.pg_copy.specs.Refusals.{CellFault, RefusesFront}
+use Rattle.pg_copy.specs.CellRefusals.{CellFault, RefusesFront}
 use Rattle.pg_copy.specs.Composites.{ReadsBytesOfEach, records_values}
-use Rattle.pg_copy.specs.Values.{ReadsVec, Values, values}
+use Rattle.pg_copy.specs.Values.{values}
 use Rattle.pg_copy.specs.declared.columns.Field.{Field}
 use Rattle.pg_text.specs.Texts.{AnyText}
 use Rattle.pg_types.specs.Content.{Content}
 use Rattle.pg_types.specs.declared.fault.Fault.{Fault}
-use Rattle.pg_types.specs.declared.types.built_in.BuiltIn.TheVariants.{ByteaArray}
 use Rattle.postgres_types.specs.Bytea.{ReadsBytes}
-use Rattle.postgres_types.specs.Content.{BuiltInType}
 use Rattle.postgres_types.specs.Faults.{Outcome, Refusal, refusal_of, size}
 use Rattle.postgres_types.specs.FrameReading.{ReadsFirst, ReadsFrame}
 use Rattle.postgres_types.specs.OptionReading.{ReadsOption}
@@ -26,14 +23,6 @@ use Rattle.postgres_types.specs.OptionReading.{ReadsOption}
 -- what is read of BYTEA
 abbrev BytesOf : Cell → Outcome (Bor (List ℕ)) → Type 0
 BytesOf = ReadsBytes (λ v. v.now)
-
--- and of an array of BYTEA
-abbrev BytesOfEach : Cell → Outcome (Vec (Option (Bor (List ℕ))) Global) → Type 0
-BytesOfEach = ReadsVec (λ ty. ReadsOption BytesOf) (BuiltInType ByteaArray)
-
-abbrev only_false : Bool → Type 0
-only_false false = Unit {0}
-only_false true = ⊥
 
 module _ (free : Cell → Type 0) (s new : List ℕ) where
   taken_first : (o : Option (Bor (List ℕ))) (cs : List Cell) (rest : List ℕ) → length cs ≤ 1 → SpellsAll s cs rest
@@ -52,16 +41,15 @@ module _ (free : Cell → Type 0) (s new : List ℕ) where
   bytes_taken o h = taken_first o h.cells h.rest h.in_row.1 h.in_row.0 h.holds
 
   refused_front : (ty : Content) (r : Refusal)
-      → RefusesFront false (values {A = Bor (List ℕ)} (λ ty. BytesOf) AnyText) ty s r → SpellsNone s × (r ≡ size)
+      → RefusesFront (values {A = Bor (List ℕ)} (λ ty. BytesOf) AnyText) ty s r → SpellsNone s × (r ≡ size)
   refused_front ty r (inl q) = q
-  refused_front ty r (inr (b, rest, spelled, inl refused)) = absurd (none-some r refused)
-  refused_front ty r (inr (b, rest, spelled, inr bound)) = absurd (subst only_false bound.0 tt)
+  refused_front ty r (inr (b, rest, spelled, refused)) = absurd (none-some r refused)
 
   -- no frame stands whole at the front, since bytes are never refused
   bytes_refused : (ty : Content) (f : Fault) → ReadsFrame (ReadsOption BytesOf) free s (Err f) new
       → IfSome (refusal_of f) (λ r. SpellsNone s × (r ≡ size))
   bytes_refused ty f h =
-      IfSome_then (refusal_of f) (cell_refused (λ ty. BytesOf) AnyText ty free false s new f h) (refused_front ty)
+      IfSome_then (refusal_of f) (cell_refused (λ ty. BytesOf) AnyText ty free s new f h) (refused_front ty)
 
   -- both of what reading answers
   pub frame_taken : (result : Result (Option (Bor (List ℕ))) Fault) → ReadsFrame (ReadsOption BytesOf) free s result new
@@ -75,31 +63,10 @@ module _ (free : Cell → Type 0) (s new : List ℕ) where
   frame_refused ty (Ok o) h = tt
   frame_refused ty (Err f) h = bytes_refused ty f h
 
-every : {A : Type 0} (P : A → Type 0) (o : Option A) → ((a : A) → P a) → IfSome o P
-every P None h = tt
-every P (Some a) h = h a
-
--- NULL was taken
-pub null_taken : (own : Values) (ty : Content) (s rest text : List ℕ) → SpellsAll s (None ∷ []) rest
-    → TakesCell own ty s false rest text text
-null_taken own ty s rest text spelled = (None, spelled, refl)
-
-module _ {A : Type 0} (reads : Content → Cell → Outcome A → Type 0) (shows : A → List ℕ → List ℕ → Type 0)
-    (is_array : Bool) (ty : Content) (s : List ℕ) (f : Fault) where
-  -- the bytes at the front, of which any may be refused, were refused
-  pub any_refused : (rest b : List ℕ) → ((r : Refusal) → reads ty (Some b) (Err r)) → SpellsAll s (Some b ∷ []) rest
-      → CellFault is_array (values reads shows) ty s f
-  any_refused rest b any spelled = every _ (refusal_of f) (λ r. inr (inr (b, rest, spelled, inl (any r))))
-
-  -- no frame stands whole at the front
-  pub any_truncated : IfSome (refusal_of f) (λ r. SpellsNone s × (r ≡ size))
-      → CellFault is_array (values reads shows) ty s f
-  any_truncated h = IfSome_then (refusal_of f) h (λ r q. inr (inl q))
-
 -- an array of BYTEA that was taken
 module _ (free : Cell → Type 0) (s new : List ℕ) where
   list_first : (o : Option (Vec (Option (Bor (List ℕ))) Global)) (cs : List Cell) (rest : List ℕ) → length cs ≤ 1
-      → SpellsAll s cs rest → ReadsFirst (ReadsOption BytesOfEach) free s cs rest (Ok o) new
+      → SpellsAll s cs rest → ReadsFirst (ReadsOption ReadsBytesOfEach) free s cs rest (Ok o) new
       → (cell : Cell) × SpellsAll s (cell ∷ []) new × ReadsOption ReadsBytesOfEach cell (Ok o)
   list_first o [] rest few spelled h = absurd h.0
   list_first None (None ∷ []) rest few spelled h = (None, subst (SpellsAll s (None ∷ [])) (sym h.2) spelled, h.0)
@@ -110,20 +77,20 @@ module _ (free : Cell → Type 0) (s new : List ℕ) where
   list_first o (c ∷ d ∷ cs) rest few spelled h = let no : ⊥ = omega (arith, few) in absurd no
 
   pub list_taken : (result : Result (Option (Vec (Option (Bor (List ℕ))) Global)) Fault)
-      → ReadsFrame (ReadsOption BytesOfEach) free s result new
+      → ReadsFrame (ReadsOption ReadsBytesOfEach) free s result new
       → IfOk result (λ o. (cell : Cell) × SpellsAll s (cell ∷ []) new × ReadsOption ReadsBytesOfEach cell (Ok o))
   list_taken (Ok o) h = list_first o h.cells h.rest h.in_row.1 h.in_row.0 h.holds
   list_taken (Err f) h = tt
 
   any_front : (fields : List Field) (ty : Content) (r : Refusal)
-      → RefusesFront true (values (λ _. BytesOfEach) AnyText) ty s r → RefusesFront true (records_values fields) ty s r
+      → RefusesFront (values (λ _. ReadsBytesOfEach) AnyText) ty s r → RefusesFront (records_values fields) ty s r
   any_front fields ty r (inl q) = inl q
-  any_front fields ty r (inr (b, rest, spelled, q)) = inr (b, rest, spelled, inl tt)
+  any_front fields ty r (inr (b, rest, spelled, q)) = inr (b, rest, spelled, inl (inl q))
 
   pub list_refused : (result : Result (Option (Vec (Option (Bor (List ℕ))) Global)) Fault)
-      → ReadsFrame (ReadsOption BytesOfEach) free s result new
-      → (fields : List Field) (ty : Content) → IfErr result (CellFault true (records_values fields) ty s)
+      → ReadsFrame (ReadsOption ReadsBytesOfEach) free s result new
+      → (fields : List Field) (ty : Content) → IfErr result (CellFault (records_values fields) ty s)
   list_refused (Ok o) h fields ty = tt
   list_refused (Err f) h fields ty =
-      IfSome_then (refusal_of f) (cell_refused (λ _. BytesOfEach) AnyText ty free true s new f h)
+      IfSome_then (refusal_of f) (cell_refused (λ _. ReadsBytesOfEach) AnyText ty free s new f h)
       (λ r q. inr (any_front fields ty r q))

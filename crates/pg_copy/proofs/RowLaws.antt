@@ -9,7 +9,7 @@ use Rattle.std.specs.Prelude.{◌==◌}
 use Rattle.std.specs.Int.{w16}
 use Rattle.std.specs.List.{AllByRecursion}
 use Rattle.pg_base.specs.Cells.{Cell, be, frames}
-use Rattle.pg_copy.proofs.TupleLaws.{next_frames}
+use Rattle.pg_tuples.proofs.TupleLaws.{next_frames}
 use Rattle.pg_copy.specs.Outputs.{Extends, Gains}
 use Rattle.pg_copy.specs.TextLines.{LacksEscapes, Says, fields_left, fields_of}
 use Rattle.pg_copy.proofs.TextLaws.{plain_fields}

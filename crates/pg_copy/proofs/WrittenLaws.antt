@@ -13,8 +13,7 @@ use Rattle.streams.specs.Lines.{lines_of}
 use Rattle.streams.specs.declared.lines.RunFault.{RunFault}
 use Rattle.streams.specs.declared.lines.RunFault.TheVariants as run
 use Rattle.pg_copy.specs.Outputs.{WritesPart, WritesWhole}
-use Rattle.pg_copy.specs.Rows.{trailer}
-use Rattle.pg_copy.specs.Tuples.{header}
+use Rattle.pg_tuples.specs.Tuples.{header, trailer}
 use Rattle.pg_copy.specs.WrittenRows.{BeginsCopy, CopyOf, LineFault, Stops, TupleOf, fault_of}
 use Rattle.pg_copy.specs.declared.columns.Column.{Column}
 use Rattle.pg_copy.specs.declared.copy_fault.CopyFault.{CopyFault}

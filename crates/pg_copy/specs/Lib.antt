@@ -1,4 +1,5 @@
 -- The words of this crate's contracts.
+pub mod CellRefusals
 pub mod Composites
 pub mod Escapes
 pub mod Lines
@@ -7,7 +8,6 @@ pub mod ReadingSteps
 pub mod Refusals
 pub mod Rows
 pub mod TextLines
-pub mod Tuples
 pub mod Values
 pub mod WrittenCells
 pub mod WrittenComposites

@@ -1,13 +1,10 @@
 -- How a binary COPY is read, a part after another.
-use Rattle.std.specs.Prelude.{◌≡◌, ◌≢◌, ◌<◌, ℕ, pos, Bool, true, false, List, [], ◌∷◌, ◌++◌, length, Option, Some}
-use Rattle.std.specs.Prelude.{None}
-use Rattle.std.specs.Int.{w16}
-use Rattle.pg_base.specs.Cells.{Cell, SpellsAll, be}
+use Rattle.std.specs.Prelude.{◌≡◌, ◌≢◌, ◌<◌, ℕ, Bool, true, false, List, [], ◌∷◌, ◌++◌, length, Some, None}
+use Rattle.pg_base.specs.Cells.{Cell, SpellsAll}
 use Rattle.pg_copy.specs.Lines.{FieldOf, IsLineOf}
 use Rattle.pg_copy.specs.Outputs.{Gains}
-use Rattle.pg_copy.specs.Refusals.{HeaderFault, NoFront, TupleFault, next_row, row_count}
-use Rattle.pg_copy.specs.Rows.{BeginsWithRows, IsCopyOf, IsHeader, trailer}
-use Rattle.pg_copy.specs.Tuples.{FramesThen}
+use Rattle.pg_copy.specs.Refusals.{HeaderRefused, TupleRefused, next_row, row_count}
+use Rattle.pg_copy.specs.Rows.{BeginsWithRows, IsCopyOf}
 use Rattle.pg_copy.specs.Values.{ShowsCell, Values}
 use Rattle.pg_types.specs.Content.{Content}
 use Rattle.pg_copy.specs.declared.columns.Column.{Column}
@@ -15,27 +12,7 @@ use Rattle.pg_copy.specs.declared.copy_fault.CopyFault.{CopyFault}
 use Rattle.pg_copy.specs.declared.copy_fault.CopyFault.TheVariants.{Trailing}
 use Rattle.pg_copy.specs.declared.read.Place.{Place}
 use Rattle.pg_copy.specs.declared.read.Place.TheVariants.{Header, Extension, Tuples, End}
-use Rattle.pg_copy.specs.declared.tuples.Front.{Front}
-use Rattle.pg_copy.specs.declared.tuples.Front.TheVariants.{Tuple, Trailer, Part}
-
--- with any so many bytes more it is a header
-abbrev pub AwaitsExtension : ℕ → List ℕ → Type 0
-AwaitsExtension len s = (more : List ℕ) → length more ≡ len → IsHeader (s ++ more)
-
--- how many bytes a header has before its extension: the signature, the flags and the length of the extension
-abbrev pub header_width : ℕ
-header_width = 19
-
--- the header was taken but for so many bytes of its extension; or it is truncated, and nothing was taken
-abbrev pub TakesHeader : List ℕ → Option ℕ → List ℕ → Type 0
-TakesHeader old None new = (length old < header_width) × (new ≡ old)
-TakesHeader old (Some len) new = (t : List ℕ) × AwaitsExtension len t × (old ≡ t ++ new)
-
--- a tuple of n columns, or the trailer, stands at the front
-abbrev pub StandsAt : ℕ → List ℕ → Front → Type 0
-StandsAt n s (Tuple fields) = (rest : List ℕ) × FramesThen fields.now n rest × (s ≡ be w16 (pos n) ++ fields.now)
-StandsAt n s (Trailer rest) = s ≡ trailer ++ rest.now
-StandsAt n s Part = NoFront n s
+use Rattle.pg_tuples.specs.Reading.{AwaitsExtension, EndsInHeader, EndsInTuple}
 
 -- NULL has no text, and bytes have that of a value that they are read as, which was appended
 abbrev pub HasText : Values → Content → Cell → Bool → List ℕ → List ℕ → Type 0
@@ -57,6 +34,10 @@ abbrev pub TakesRow : List Column → List ℕ → List ℕ → List ℕ → Lis
 TakesRow columns old new lines longer =
     (row : List Cell) × SpellsAll old row new × Gains (IsLineOf columns row) lines longer
 
+-- the line of the row whose cells have these frames was appended
+abbrev pub AddsRow : List Column → List ℕ → List ℕ → List ℕ → Type 0
+AddsRow columns frames lines longer = (rest : List ℕ) × TakesRow columns frames rest lines longer
+
 -- what was read so far, of so many rows, and the lines of these
 abbrev pub HasRead : List Column → Place → ℕ → List ℕ → List ℕ → Type 0
 HasRead columns Header count s lines = (s ≡ []) × (lines ≡ []) × (count ≡ 0)
@@ -73,27 +54,27 @@ Advances columns place count old lines next more_count new longer =
     × ((s so_far : List ℕ) → HasRead columns place count s so_far
     → HasRead columns next more_count (s ++ t) (so_far ++ gained))
 
--- where the header is to come, the bytes are too few for it up to its extension
+-- where the header is to come, the bytes end before its extension
 abbrev pub AwaitsHeader : Place → List ℕ → Type 0
-AwaitsHeader Header s = length s < header_width
+AwaitsHeader Header s = EndsInHeader s
 AwaitsHeader place s = Unit {0}
 
 -- and where a part of the header extension is to come, no byte is left
 abbrev pub AwaitsMore : Place → List ℕ → Type 0
-AwaitsMore Header s = length s < header_width
+AwaitsMore Header s = EndsInHeader s
 AwaitsMore (Extension len) s = (0 < len) × (s ≡ [])
 AwaitsMore place s = Unit {0}
 
 -- what is to come does not stand whole at the front, and nothing stands after the trailer
 abbrev pub Awaits : List Column → Place → List ℕ → Type 0
-Awaits columns Header s = length s < header_width
+Awaits columns Header s = EndsInHeader s
 Awaits columns (Extension len) s = (0 < len) × (s ≡ [])
-Awaits columns Tuples s = NoFront (length columns) s
+Awaits columns Tuples s = EndsInTuple (length columns) s
 Awaits columns End s = s ≡ []
 
 -- what stands in place of what is to come, after so many rows, is refused with this fault
 abbrev pub StopsAt : List Column → Place → ℕ → List ℕ → CopyFault → Type 0
-StopsAt columns Header rows s fault = HeaderFault s fault
+StopsAt columns Header rows s fault = HeaderRefused s fault
 StopsAt columns (Extension len) rows s fault = ⊥
-StopsAt columns Tuples rows s fault = TupleFault (next_row rows) columns s fault
+StopsAt columns Tuples rows s fault = TupleRefused (next_row rows) columns s fault
 StopsAt columns End rows s fault = (fault ≡ Trailing) × (s ≢ [])

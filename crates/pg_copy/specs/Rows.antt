@@ -1,39 +1,13 @@
 -- A binary COPY that is read, and the lines of its rows (documentation of the command COPY, "Binary Format").
-use Rattle.std.specs.Prelude.{◌≡◌, ◌⊎◌, ℕ, pos, List, [], ◌∷◌, ◌++◌, length, Option, Some, None}
-use Rattle.std.specs.Int.{w16}
-use Rattle.pg_base.specs.Cells.{Cell, be, concat, frame, frames}
+use Rattle.std.specs.Prelude.{◌≡◌, ◌⊎◌, ℕ, List, [], ◌++◌, Option, Some, None}
+use Rattle.pg_base.specs.Cells.{Cell}
 use Rattle.pg_copy.specs.Lines.{AreLinesOf}
 use Rattle.pg_copy.specs.declared.columns.Column.{Column}
-
--- the tuple of a row: the number of its columns in two bytes, and the frame of each cell
-abbrev pub tuple : List Cell → Option (List ℕ)
-tuple row = concat (Some (be w16 (pos (length row)))) (frames row)
-
--- the tuples of rows, one after another
-abbrev pub tuples : List (List Cell) → Option (List ℕ)
-tuples [] = Some []
-tuples (row ∷ rows) = concat (tuple row) (tuples rows)
-
--- what a COPY begins with
-abbrev pub signature : List ℕ
-signature = 80 ∷ 71 ∷ 67 ∷ 79 ∷ 80 ∷ 89 ∷ 10 ∷ 255 ∷ 13 ∷ 10 ∷ 0 ∷ []
-
--- the signature, four bytes of flags, of which the critical ones in the first two are not set, and the header
--- extension, after its length
-abbrev pub IsHeader : List ℕ → Type 0
-IsHeader s =
-    (a b : ℕ) × (extension framed : List ℕ) × (frame (Some extension) ≡ Some framed)
-    × (s ≡ signature ++ 0 ∷ 0 ∷ a ∷ b ∷ framed)
-
--- -1 in the place of a number of columns
-abbrev pub trailer : List ℕ
-trailer = 255 ∷ 255 ∷ []
+use Rattle.pg_tuples.specs.Tuples.{BeginsCopy, trailer}
 
 -- a header and the tuples of these rows, whose lines these are
 abbrev pub BeginsWithRows : List Column → List (List Cell) → List ℕ → List ℕ → Type 0
-BeginsWithRows columns rows s lines =
-    (header bytes : List ℕ) × IsHeader header × (tuples rows ≡ Some bytes) × AreLinesOf columns rows lines
-    × (s ≡ header ++ bytes)
+BeginsWithRows columns rows s lines = BeginsCopy rows s × AreLinesOf columns rows lines
 
 -- a header and the tuples of some rows
 abbrev pub BeginsRows : List Column → List ℕ → List ℕ → Type 0

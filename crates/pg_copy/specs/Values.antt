@@ -3,41 +3,44 @@ use Rattle.std.specs.Fmt.{signed_decimal}
 use Rattle.std.specs.Global.{Global}
 use Rattle.std.specs.HashMap.{HashMap}
 use Rattle.std.specs.Int.{w8, w16, w32, w64}
-use Rattle.std.specs.Prelude.{◌≡◌, ℕ, Bool, true, false, List, Option, Some, None, Ok, Err, String, Vec, decimal, map}
-use Rattle.std.specs.Prelude.{string_bytes}
+use Rattle.std.specs.Prelude.{◌≡◌, ◌≢◌, ◌⊎◌, ◌≤◌, ℕ, pos, Bool, true, false, List, Option, Some, None, Ok, Err, String}
+use Rattle.std.specs.Prelude.{Vec, codes, decimal, drop, length, map, string_bytes, take}
 use Rattle.std.specs.Borrow.{Bor}
 use Rattle.std.specs.declared.hash.BuildHasherDefault.{BuildHasherDefault}
 use Rattle.std.specs.declared.hash.FoldHasher.{FoldHasher}
 use Rattle.pg_copy.specs.declared.types.Base.{Base}
 use Rattle.pg_copy.specs.declared.types.Base.TheVariants as base
+use Rattle.pg_base.specs.Cells.{be}
 use Rattle.pg_base.specs.Json.{ReadsJson, wire_json}
-use Rattle.pg_text.specs.Intervals.{interval_text}
 use Rattle.pg_text.specs.Lists.{SaysArray, SaysVector, ShowsArray, vector_text}
 use Rattle.pg_text.specs.Maps.{ShowsMap}
-use Rattle.pg_text.specs.Networks.{SaysNetwork, ShowsCidr, ShowsInet}
 use Rattle.pg_text.specs.Specials.{SaysSpecial, ShowsSpecial}
-use Rattle.pg_text.specs.Texts.{AnyText, AnyValue, SaysBool, SaysBytes, SaysMacaddr, SaysSigned, SaysUnsigned, Shows}
-use Rattle.pg_text.specs.Texts.{bits_text, bool_text, bytes_text, char_text, macaddr_text}
+use Rattle.pg_text.specs.Texts.{AnyText, AnyValue, SaysBool, SaysBytes, Shows}
+use Rattle.pg_text.specs.Texts.{bool_text, bytes_text, char_text}
 use Rattle.pg_text.specs.Scans.{SaysDate, SaysInstant, SaysTime, SaysTimestamp}
-use Rattle.pg_text.specs.Times.{ShowsInstant, ShowsTimestamp, date_text, time_text}
 use Rattle.pg_types.specs.declared.types.built_in.BuiltIn.TheVariants.{Jsonb}
 use Rattle.postgres_types.specs.Appending.{Wire}
 use Rattle.postgres_types.specs.ArrayReading.{ReadsByElement, ReadsList}
 use Rattle.postgres_types.specs.ArrayTypes.{element_of}
 use Rattle.postgres_types.specs.ArrayWriting.{wire_list}
-use Rattle.postgres_types.specs.Bits.{ReadsBits, wire_bits}
+use Rattle.postgres_types.specs.Bits.{ReadsBits, bits_text, wire_bits}
 use Rattle.postgres_types.specs.Bytea.{ReadsBytes, wire_bytes}
 use Rattle.postgres_types.specs.Cells.{Cell}
 use Rattle.postgres_types.specs.Civil.{ReadsDate, ReadsInstant, ReadsTime, wire_date, wire_instant, wire_time}
 use Rattle.postgres_types.specs.Content.{Content, is_row}
-use Rattle.postgres_types.specs.Faults.{Outcome}
+use Rattle.postgres_types.specs.DateTexts.{civil_date_text, civil_time_text, instant_text, unix_time_text}
+use Rattle.postgres_types.specs.Faults.{Outcome, Refusal, user}
 use Rattle.postgres_types.specs.FixedBytes.{ReadsFixedBytes, wire_fixed_bytes}
 use Rattle.postgres_types.specs.Hstore.{ReadsHstore, owned_entry, wire_hstore}
 use Rattle.postgres_types.specs.Interval.{ReadsInterval, wire_interval}
+use Rattle.postgres_types.specs.IntervalTexts.{interval_text}
 use Rattle.postgres_types.specs.Network.{ReadsCidr, ReadsInet, wire_cidr, wire_inet}
+use Rattle.postgres_types.specs.NetworkTexts.{SaysMacaddr, SaysNetwork, cidr_text, inet_text, macaddr_text}
+use Rattle.postgres_types.specs.NumberTexts.{SaysSigned, SaysUnsigned}
 use Rattle.postgres_types.specs.Numbers.{ReadsBool, ReadsSigned, ReadsUnsigned, wire_bool, wire_signed, wire_unsigned}
 use Rattle.postgres_types.specs.OptionReading.{ReadsOption}
 use Rattle.postgres_types.specs.OptionWriting.{wire_option}
+use Rattle.postgres_types.specs.Records.{IsRefused}
 use Rattle.postgres_types.specs.Special.{ReadsSpecial, date_view, timestamp_view, wire_special}
 use Rattle.postgres_types.specs.Texts.{ReadsText, has_version, wire_text}
 use Rattle.postgres_types.specs.Timestamps.{ReadsTimestamp, nanos_of, wire_timestamp}
@@ -63,10 +66,28 @@ ReadsVec reads ty = ReadsByElement (λ element. ReadsList (λ v. v.items) (reads
 abbrev pub wire_vec : {A : Type 0} → (Content → A → Wire) → Content → Vec A Global → Wire
 wire_vec wire ty v = wire_list wire ty v.items
 
+-- the bytes are those of an array of one dimension whose lower bound is not 1
+abbrev pub HasOtherBound : List ℕ → Type 0
+HasOtherBound bytes =
+    (20 ≤ length bytes) × (take 4 bytes ≡ be w32 (pos 1)) × (take 4 (drop 16 bytes) ≢ be w32 (pos 1))
+
+-- the bytes, which give a list, are such an array's: it has no text here, since a list does not keep the bound
+abbrev pub RefusesBound : {A : Type 0} → (Outcome A → Type 0) → List ℕ → Refusal → Type 0
+RefusesBound {A} gives bytes refusal =
+    (list : A) × gives (Ok list) × HasOtherBound bytes
+    × (refusal ≡ user (codes "array with a lower bound other than 1"))
+
+-- what an array's cell gives, where one with another lower bound is refused
+abbrev pub ReadsShown : {A : Type 0} → (Cell → Outcome A → Type 0) → Cell → Outcome A → Type 0
+ReadsShown reads None outcome = reads None outcome
+ReadsShown reads (Some bytes) (Ok list) = reads (Some bytes) (Ok list) × (HasOtherBound bytes → ⊥)
+ReadsShown reads (Some bytes) (Err refusal) =
+    reads (Some bytes) (Err refusal) ⊎ RefusesBound (reads (Some bytes)) bytes refusal
+
 -- arrays of values, of which an element may be NULL
 abbrev pub arrays_of : Values → Values
 arrays_of (values reads shows) =
-    values (ReadsVec (λ ty. ReadsOption (reads ty))) (λ v. ShowsArray shows v.items)
+    values (λ ty. ReadsShown (ReadsVec (λ element. ReadsOption (reads element)) ty)) (λ v. ShowsArray shows v.items)
 
 abbrev pub text_arrays_of : TextValues → TextValues
 text_arrays_of (text_values says wire) = text_values (SaysArray says) (wire_list (λ ty. wire_option (wire ty)))
@@ -126,14 +147,13 @@ abbrev pub Map : Type 0
 Map = HashMap (String Global) (Option (String Global)) (BuildHasherDefault FoldHasher)
 
 -- a composite type within another, which has no values here: every cell but NULL is refused
-abbrev pub IsRefused : {A : Type 0} → Outcome A → Type 0
-IsRefused (Ok v) = ⊥
-IsRefused (Err refusal) = Unit {0}
+abbrev pub nested : Refusal
+nested = user (codes "composite type within a composite type")
 
 abbrev pub no_values : Values × Values
 no_values = (
-  values {A = Bor (List ℕ)} (λ ty cell. IsRefused) AnyText,
-  values {A = Bor (List ℕ)} (λ ty cell. IsRefused) AnyText,
+  values {A = Bor (List ℕ)} (λ ty cell. IsRefused nested) AnyText,
+  values {A = Bor (List ℕ)} (λ ty cell. IsRefused nested) AnyText,
 )
 
 -- no text
@@ -153,11 +173,11 @@ values_of base.Bytea = (
   parsed {A = Vec ℕ Global} (λ text v. SaysBytes text v.items) (λ v. wire_bytes v.items),
 )
 values_of base.Char = (plain (ReadsSigned w8) (Shows char_text), written (wire_signed w8))
-values_of base.Cidr = (plain ReadsCidr ShowsCidr, parsed SaysNetwork wire_cidr)
+values_of base.Cidr = (plain ReadsCidr (Shows cidr_text), parsed SaysNetwork wire_cidr)
 values_of base.Citext = texts
 values_of base.Composite = composites
 values_of base.Date = (
-  plain (ReadsSpecial w32 date_view ReadsDate) (λ v. ShowsSpecial (Shows date_text) (date_view v)),
+  plain (ReadsSpecial w32 date_view ReadsDate) (λ v. ShowsSpecial (Shows civil_date_text) (date_view v)),
   parsed (λ text v. SaysSpecial SaysDate text (date_view v)) (λ v. wire_special w32 wire_date (date_view v)),
 )
 values_of base.Enum = texts
@@ -165,7 +185,7 @@ values_of base.Hstore = (
   plain {A = Map} ReadsHstore (λ m. ShowsMap (map owned_entry m.entries)),
   written {A = Map} (λ m. wire_hstore (map owned_entry m.entries)),
 )
-values_of base.Inet = (plain ReadsInet ShowsInet, parsed SaysNetwork wire_inet)
+values_of base.Inet = (plain ReadsInet (Shows inet_text), parsed SaysNetwork wire_inet)
 values_of base.Int2 = (plain (ReadsSigned w16) (Shows signed_decimal), parsed SaysSigned (wire_signed w16))
 values_of base.Int2Vector = (
   with_arrays (values (ReadsVec (λ _. ReadsSigned w16)) (Shows (λ v. vector_text signed_decimal v.items))),
@@ -192,15 +212,15 @@ values_of base.PgLsn = (
   parsed (λ text v. lsn_of text ≡ Some v) (wire_unsigned w64),
 )
 values_of base.Text = texts
-values_of base.Time = (plain ReadsTime (Shows time_text), parsed SaysTime wire_time)
+values_of base.Time = (plain ReadsTime (Shows civil_time_text), parsed SaysTime wire_time)
 values_of base.Timestamp = (
   plain (ReadsSpecial w64 timestamp_view (ReadsTimestamp nanos_of))
-      (λ v. ShowsSpecial ShowsTimestamp (timestamp_view v)),
+      (λ v. ShowsSpecial (Shows unix_time_text) (timestamp_view v)),
   parsed (λ text v. SaysSpecial SaysTimestamp text (timestamp_view v))
       (λ v. wire_special w64 (λ u. wire_timestamp (nanos_of u)) (timestamp_view v)),
 )
 values_of base.Timestamptz = (
-  plain (ReadsSpecial w64 timestamp_view ReadsInstant) (λ v. ShowsSpecial ShowsInstant (timestamp_view v)),
+  plain (ReadsSpecial w64 timestamp_view ReadsInstant) (λ v. ShowsSpecial (Shows instant_text) (timestamp_view v)),
   parsed (λ text v. SaysSpecial SaysInstant text (timestamp_view v))
       (λ v. wire_special w64 wire_instant (timestamp_view v)),
 )

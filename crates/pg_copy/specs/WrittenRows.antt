@@ -9,13 +9,12 @@ use Rattle.streams.specs.Lines.{IsOneLine}
 use Rattle.streams.specs.declared.lines.RunFault.{RunFault}
 use Rattle.streams.specs.declared.lines.RunFault.TheVariants as run
 use Rattle.pg_copy.specs.Outputs.{WritesWhole, WritesPart}
-use Rattle.pg_copy.specs.Rows.{trailer}
 use Rattle.pg_copy.specs.TextLines.{Says, fields_of}
-use Rattle.pg_copy.specs.Tuples.{header}
 use Rattle.pg_copy.specs.Values.{TextValues, in_form, values_of}
 use Rattle.pg_copy.specs.WrittenCells.{CellAs, FrameAs}
 use Rattle.pg_copy.specs.WrittenComposites.{composite_texts}
 use Rattle.postgres_types.specs.Content.{content}
+use Rattle.pg_tuples.specs.Tuples.{header, trailer}
 use Rattle.pg_copy.specs.declared.columns.Column.{Column}
 use Rattle.pg_copy.specs.declared.columns.Field.{Field}
 use Rattle.pg_copy.specs.declared.types.Base.{Base}

@@ -1,11 +1,12 @@
 //! Why a COPY stopped.
 ghost use Rattle.std.specs.Prelude.{◌≡◌};
-ghost use Rattle.pg_copy.specs.Refusals.{IsValueFault};
+ghost use Rattle.pg_copy.specs.Refusals.{IsValueFault, header_fault, tuple_fault};
 ghost use Rattle.pg_copy.specs.WrittenRows.{ValueFault};
 ghost use Rattle.pg_copy.specs.declared.copy_fault.CopyFault.TheVariants.{Memory};
 
 use crate::columns::Column;
 use crate::types::Base;
+use pg_tuples::{HeaderFault, TupleFault};
 use postgres_types::Fault;
 use std::alloc::{AllocError, AllocFailed};
 use std::error::Error;
@@ -122,6 +123,33 @@ impl<T: Drop> From<AllocFailed<T>> for CopyFault {
 
     fn from(_error: AllocFailed<T>) -> CopyFault {
         CopyFault::Memory
+    }
+}
+
+impl From<HeaderFault> for CopyFault {
+    ghost from_gives = { λ header fault. fault ≡ header_fault header };
+
+    fn from(fault: HeaderFault) -> CopyFault {
+        match fault {
+            HeaderFault::Signature => CopyFault::Signature,
+            HeaderFault::Oids => CopyFault::Oids,
+            HeaderFault::Flags => CopyFault::Flags,
+            HeaderFault::Extension => CopyFault::Extension,
+        }
+    }
+}
+
+/// The fault of that row, whose tuple is refused.
+pub fn refused_tuple(row: Row, fault: TupleFault) -> CopyFault
+    ensures { result ≡ tuple_fault row fault }
+{
+    match fault {
+        TupleFault::Columns { expected, got } => CopyFault::Columns {
+            row,
+            expected,
+            got: i64::from(got),
+        },
+        TupleFault::Length { column } => CopyFault::Length { row, column },
     }
 }
 

@@ -12,7 +12,6 @@ mod escapes;
 mod parse;
 pub mod read;
 mod show;
-mod tuples;
 mod type_names;
 pub mod types;
 pub mod write;

@@ -2,17 +2,17 @@
 ghost use Rattle.std.specs.Prelude.{◌≡◌, ◌≢◌, ◌+◌, ◌<◌, ℕ, List, [], ◌++◌, IfErr, IfOk, OnErr, OnOk, length};
 ghost use Rattle.pg_copy.specs.Outputs.{Extends, WritesPart, WritesWhole};
 ghost use Rattle.pg_copy.specs.ReadingSteps.{Advances, Awaits, AwaitsHeader, AwaitsMore, StopsAt, TakesField};
-ghost use Rattle.pg_copy.specs.ReadingSteps.{TakesRow};
+ghost use Rattle.pg_copy.specs.ReadingSteps.{AddsRow, TakesRow};
 ghost use Rattle.pg_copy.specs.Refusals.{RefusesAt, RefusesRow, StopsAfter, UnlessMemory, ValueRefused, next_row};
 ghost use Rattle.pg_copy.specs.Rows.{IsCopyOf, OfInput, StartsCopyOf};
-ghost use Rattle.pg_copy.specs.Tuples.{FramesThen};
 ghost use Rattle.pg_text.specs.Lists.{separator};
+ghost use Rattle.pg_tuples.specs.Tuples.{FramesThen};
 
 use crate::columns::Column;
-use crate::copy_fault::{CopyFault, Row, value_fault};
+use crate::copy_fault::{CopyFault, Row, refused_tuple, value_fault};
 use crate::escapes::escape;
 use crate::show::push_cell;
-use crate::tuples::{Front, front_of, take_header};
+use pg_tuples::{Front, front_of, take_header};
 use std::alloc::Global;
 use std::io::{Read, Write};
 use std::mem;
@@ -210,44 +210,42 @@ impl Reading<'_> {
         // A tuple has two bytes at least.
         'tuples: for _turn in 0..bytes.len() {
             let row = self.row.saturating_add(1);
-            match front_of(bytes, self.columns.len(), Row::Tuple(row))? {
-                Front::Part => return Ok(()),
-                Front::Trailer(rest) => {
+            match front_of(bytes, self.columns.len()) {
+                Ok(Front::Part) => return Ok(()),
+                Ok(Front::Trailer(rest)) => {
                     self.place = Place::End;
                     *bytes = rest;
                     return Ok(());
                 }
-                Front::Tuple(fields) => {
-                    *bytes = self.take_row(fields)?;
+                Ok(Front::Tuple { frames, rest }) => {
+                    self.push_row(frames)?;
+                    *bytes = rest;
                     self.row = row;
                 }
+                Err(fault) => return Err(refused_tuple(Row::Tuple(row), fault)),
             }
         }
         Ok(())
     }
 
-    /// Appends the line of the fields at the front, and answers what stands after them. A fault leaves
-    /// the lines as they were.
-    fn take_row<'f>(&mut self, fields: &'f [u8]) -> Result<&'f [u8], CopyFault>
-        requires { (rest : List ℕ) × FramesThen fields.now (length self.old.columns.now) rest }
+    /// Appends the line of the row of these frames. A fault leaves the lines as they were.
+    fn push_row(&mut self, frames: &[u8]) -> Result<(), CopyFault>
+        requires { FramesThen frames.now (length self.old.columns.now) [] }
         ensures columns { self.new.columns.now ≡ self.old.columns.now }
         ensures place { self.new.place ≡ self.old.place }
         ensures row { self.new.row ≡ self.old.row }
-        ensures ok { IfOk result (λ rest. TakesRow self.old.columns.now fields.now rest.now
-            self.old.lines.items self.new.lines.items) }
+        ensures ok { OnOk result (AddsRow self.old.columns.now frames.now self.old.lines.items self.new.lines.items) }
         ensures err { OnErr result (self.new.lines.items ≡ self.old.lines.items) }
         ensures refused { IfErr result (UnlessMemory (RefusesRow (next_row self.old.row) self.old.columns.now
-            fields.now)) }
+            frames.now)) }
     {
         let start = self.lines.len();
-        let mut rest = fields;
-        match self.push_line(&mut rest) {
-            Ok(()) => Ok(rest),
-            Err(fault) => {
-                self.lines.truncate(start);
-                Err(fault)
-            }
+        let mut rest = frames;
+        let outcome = self.push_line(&mut rest);
+        if outcome.is_err() {
+            self.lines.truncate(start);
         }
+        outcome
     }
 
     /// Appends the line of the fields, and takes them. A fault leaves a part of the line.

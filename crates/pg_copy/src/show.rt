@@ -1,26 +1,27 @@
 //! The text of a cell, by the type of its column.
-ghost use Rattle.std.specs.Int.{w32};
-ghost use Rattle.std.specs.Prelude.{◌≡◌, ◌++◌, ◌∷◌, ℕ, List, [], IfErr, IfOk, IfSome, IsTrue, OnOk, Some, codes, drop};
-ghost use Rattle.std.specs.Prelude.{Ok, false, true};
-ghost use Rattle.pg_base.specs.Cells.{Cell, IsBeUnsigned, SpellsAll, SpellsNone, cell_of};
-ghost use Rattle.pg_copy.specs.Composites.{FitsOid, ReadsBytesOfEach, ShowsField, ShowsRecord, record_values};
-ghost use Rattle.pg_copy.specs.Composites.{records_values};
+ghost use Rattle.std.specs.Prelude.{◌≡◌, ◌++◌, ◌∷◌, ◌↔◌, ℕ, List, [], IfErr, IfOk, IfSome, IsTrue, OnOk};
+ghost use Rattle.std.specs.Prelude.{Err, Ok, Some, codes, drop, false, true};
+ghost use Rattle.pg_base.specs.Cells.{Cell, SpellsAll, SpellsNone, cell_of};
+ghost use Rattle.pg_copy.specs.CellRefusals.{CellFault, RefusesFront, accepted_in_form};
+ghost use Rattle.pg_copy.specs.Composites.{ReadsBytesOfEach, ReadsElement, RefusesField, RefusesRecord, ShowsField};
+ghost use Rattle.pg_copy.specs.Composites.{ShowsRecord, record_values, records_values, type_fault};
 ghost use Rattle.pg_copy.specs.Lines.{values_in};
 ghost use Rattle.pg_copy.specs.ReadingSteps.{TakesCell};
-ghost use Rattle.pg_copy.specs.Refusals.{CellFault, HasOtherBound, RefusesFront, accepted_in_form};
-ghost use Rattle.pg_copy.specs.Values.{arrays_of, in_form, no_values, values, values_of, with_arrays};
+ghost use Rattle.pg_copy.specs.Values.{HasOtherBound, arrays_of, in_form, no_values, values, values_of, with_arrays};
 ghost use Rattle.pg_copy.specs.declared.columns.Field.{Field};
 ghost use Rattle.pg_text.specs.Lists.{ShowsArray, ShowsElement};
 ghost use Rattle.pg_types.specs.Content.{Content, content};
 ghost use Rattle.pg_types.specs.Faults.{refusal_of, size, user};
+ghost use Rattle.postgres_types.specs.ArrayReading.{ReadsAll};
 ghost use Rattle.postgres_types.specs.OptionReading.{ReadsOption};
+ghost use Rattle.postgres_types.specs.Records.{PassesNumber};
 
 use crate::columns::{Column, Field};
 use crate::types::{Base, base_types};
 use pg_text::arrays::{push_array, push_element};
 use pg_text::separators::push_separator;
 use pg_text::{ToText, records};
-use postgres_types::composite::read_field_count;
+use postgres_types::composite::{read_end, read_field_count};
 use postgres_types::private::{read_be_i32, read_value};
 use postgres_types::{Fault, FromSql, Oid, Type, check_type};
 use std::alloc::Global;
@@ -63,7 +64,7 @@ pub fn push_cell(
 ) -> Result<bool, Fault>
     ensures ok { IfOk result (λ has_text. TakesCell (values_in column.now) (content column.now.ty)
         row.old.now has_text row.new.now text.old.items text.new.items) }
-    ensures err { IfErr result (CellFault column.now.is_array (values_in column.now) (content column.now.ty)
+    ensures err { IfErr result (CellFault (values_in column.now) (content column.now.ty)
         row.old.now) }
 {
     match column.fields.as_slice() {
@@ -84,7 +85,7 @@ fn push_value(
 ) -> Result<bool, Fault>
     ensures ok { IfOk result (λ has_text. TakesCell (in_form is_array (values_of base).0) (content ty.now)
         row.old.now has_text row.new.now text.old.items text.new.items) }
-    ensures err { IfErr result (CellFault is_array (in_form is_array (values_of base).0) (content ty.now) row.old.now) }
+    ensures err { IfErr result (CellFault (in_form is_array (values_of base).0) (content ty.now) row.old.now) }
 {
     base_types!(push(alloc, base, is_array, ty, row, text))
 }
@@ -100,10 +101,10 @@ fn push_as<'a, T: FromSql<'a> + ToText>(
     ensures ok { IfOk result (λ has_text. TakesCell (in_form is_array (with_arrays (values T.reads T.shows)))
         (content ty.now)
         row.old.now has_text row.new.now text.old.items text.new.items) }
-    ensures err { IfErr result (CellFault is_array (in_form is_array (with_arrays (values T.reads T.shows)))
+    ensures err { IfErr result (CellFault (in_form is_array (with_arrays (values T.reads T.shows)))
         (content ty.now) row.old.now) }
     ensures accepted { IsTrue (accepted_in_form is_array T.accepted (content ty.now))
-        → IfErr result (λ fault. IfSome (refusal_of fault) (RefusesFront is_array
+        → IfErr result (λ fault. IfSome (refusal_of fault) (RefusesFront
         (in_form is_array (with_arrays (values T.reads T.shows))) (content ty.now) row.old.now)) }
 {
     if is_array {
@@ -129,9 +130,9 @@ fn push_array_as<'a, T: FromSql<'a> + ToText>(
 ) -> Result<bool, Fault>
     ensures ok { IfOk result (λ has_text. TakesCell (arrays_of (values T.reads T.shows)) (content ty.now)
         row.old.now has_text row.new.now text.old.items text.new.items) }
-    ensures err { IfErr result (CellFault true (arrays_of (values T.reads T.shows)) (content ty.now) row.old.now) }
+    ensures err { IfErr result (CellFault (arrays_of (values T.reads T.shows)) (content ty.now) row.old.now) }
     ensures accepted { IsTrue (accepted_in_form true T.accepted (content ty.now))
-        → IfErr result (λ fault. IfSome (refusal_of fault) (RefusesFront true (arrays_of (values T.reads T.shows))
+        → IfErr result (λ fault. IfSome (refusal_of fault) (RefusesFront (arrays_of (values T.reads T.shows))
         (content ty.now) row.old.now)) }
 {
     let is_accepted = <Option<Vec<Option<T>>> as FromSql<'a>>::accepts(ty);
@@ -157,7 +158,7 @@ fn refuse_composite(
 ) -> Result<bool, Fault>
     ensures ok { IfOk result (λ has_text. TakesCell (in_form is_array no_values) (content ty.now)
         row.old.now has_text row.new.now text.old.items text.new.items) }
-    ensures err { IfErr result (CellFault is_array (in_form is_array no_values) (content ty.now) row.old.now) }
+    ensures err { IfErr result (CellFault (in_form is_array no_values) (content ty.now) row.old.now) }
 {
     match take_bytes(alloc, row)? {
         None => Ok(false),
@@ -176,7 +177,7 @@ fn push_composite(
 ) -> Result<bool, Fault>
     ensures ok { (ty : Content) → IfOk result (λ has_text. TakesCell (record_values fields.now) ty
         row.old.now has_text row.new.now text.old.items text.new.items) }
-    ensures err { (ty : Content) → IfErr result (CellFault false (record_values fields.now) ty row.old.now) }
+    ensures err { (ty : Content) → IfErr result (CellFault (record_values fields.now) ty row.old.now) }
 {
     let Some(cell) = take_bytes(alloc, row)? else {
         return Ok(false);
@@ -196,7 +197,7 @@ fn push_composites(
 ) -> Result<bool, Fault>
     ensures ok { (ty : Content) → IfOk result (λ has_text. TakesCell (records_values fields.now) ty
         row.old.now has_text row.new.now text.old.items text.new.items) }
-    ensures err { (ty : Content) → IfErr result (CellFault true (records_values fields.now) ty row.old.now) }
+    ensures err { (ty : Content) → IfErr result (CellFault (records_values fields.now) ty row.old.now) }
 {
     let frame = *row;
     match take_records(alloc, row)? {
@@ -225,7 +226,7 @@ fn take_records<'a>(
 ) -> Result<Option<Vec<Option<&'a [u8]>>>, Fault>
     ensures ok { IfOk result (λ records. (cell : Cell) × SpellsAll row.old.now (cell ∷ []) row.new.now
         × ReadsOption ReadsBytesOfEach cell (Ok records)) }
-    ensures err { (fields : List Field) (ty : Content) → IfErr result (CellFault true (records_values fields) ty
+    ensures err { (fields : List Field) (ty : Content) → IfErr result (CellFault (records_values fields) ty
         row.old.now) }
 {
     read_value::<Option<Vec<Option<&[u8]>>>>(alloc, &Type::BYTEA_ARRAY, row)
@@ -238,7 +239,10 @@ fn push_records(
     records: &[Option<&[u8]>],
     text: &mut Vec<u8>,
 ) -> Result<(), Fault>
-    ensures { OnOk result (ShowsArray (λ s. ShowsRecord fields.now s.now) records.now text.old.items text.new.items) }
+    ensures ok { OnOk result (ShowsArray (λ s. ShowsRecord fields.now s.now) records.now text.old.items
+        text.new.items) }
+    ensures err { IfErr result (λ fault. IfSome (refusal_of fault) (λ refusal.
+        ReadsAll (ReadsElement fields.now) records.now (Err refusal))) }
 {
     let mut own = Vec::new(alloc);
     text.push(b'{')?;
@@ -257,8 +261,10 @@ fn push_item(
     own: &mut Vec<u8>,
     text: &mut Vec<u8>,
 ) -> Result<(), Fault>
-    ensures { OnOk result ((item : List ℕ) × ShowsElement (λ s. ShowsRecord fields.now s.now) raw.now item
+    ensures ok { OnOk result ((item : List ℕ) × ShowsElement (λ s. ShowsRecord fields.now s.now) raw.now item
         × (text.new.items ≡ text.old.items ++ item)) }
+    ensures err { IfErr result (λ fault. IfSome (refusal_of fault) (λ refusal.
+        ReadsElement fields.now raw.now (Err refusal))) }
 {
     match raw {
         None => Ok(text.extend_from_slice(b"NULL")?),
@@ -272,7 +278,8 @@ fn push_item(
 
 /// Appends the text of a record: that of each field in parentheses, with commas between.
 fn push_record(alloc: Global, fields: &[Field], raw: &[u8], text: &mut Vec<u8>) -> Result<(), Fault>
-    ensures { OnOk result (ShowsRecord fields.now raw.now text.old.items text.new.items) }
+    ensures ok { OnOk result (ShowsRecord fields.now raw.now text.old.items text.new.items) }
+    ensures err { IfErr result (λ fault. IfSome (refusal_of fault) (RefusesRecord fields.now raw.now)) }
 {
     let mut rest = raw;
     read_field_count(fields.len(), &mut rest)?;
@@ -282,9 +289,7 @@ fn push_record(alloc: Global, fields: &[Field], raw: &[u8], text: &mut Vec<u8>) 
         push_separator(place, b',', text)?;
         push_field(alloc, field, &mut rest, &mut own, text)?;
     }
-    if !rest.is_empty() {
-        return Err(Fault::Size);
-    }
+    read_end(rest)?;
     Ok(text.push(b')')?)
 }
 
@@ -297,8 +302,9 @@ fn push_field(
     own: &mut Vec<u8>,
     text: &mut Vec<u8>,
 ) -> Result<(), Fault>
-    ensures { OnOk result ((part : List ℕ × List ℕ) × ShowsField field.now part
+    ensures ok { OnOk result ((part : List ℕ × List ℕ) × ShowsField field.now part
         × (raw.old.now ≡ part.0 ++ raw.new.now) × (text.new.items ≡ text.old.items ++ part.1)) }
+    ensures err { IfErr result (λ fault. IfSome (refusal_of fault) (RefusesField field.now raw.old.now)) }
 {
     let Field { base, is_array, ty } = field;
     take_oid(ty, raw)?;
@@ -315,8 +321,7 @@ const FIRST_OTHER_OID: Oid = 10_000;
 /// Takes the OID of a field's type. Another one is refused where both are OIDs of built-in types, as
 /// `record_recv` does: the type can be a domain over that one, or a type that has its OID from a server.
 fn take_oid(ty: &Type, raw: &mut &[u8]) -> Result<(), Fault>
-    ensures { OnOk result ((oid : ℕ) × (bytes : List ℕ) × IsBeUnsigned w32 bytes oid × FitsOid (content ty.now) oid
-        × (raw.old.now ≡ bytes ++ raw.new.now)) }
+    ensures { PassesNumber (type_fault (content ty.now) raw.old.now) raw.old.now result raw.new.now }
 {
     let found = read_be_i32(raw)?.cast_unsigned();
     if found != ty.oid() && found < FIRST_OTHER_OID && ty.oid() < FIRST_OTHER_OID {
@@ -335,34 +340,10 @@ fn other_lower_bound() -> Fault
 /// Whether the array whose frame begins these bytes, and which is read as a list, has one dimension with a lower bound
 /// other than 1. Lists do not keep it, and the server's text of such an array begins with its bounds.
 fn has_other_lower_bound(frame: &[u8]) -> bool
-    ensures { IsTrue result → HasOtherBound (drop 4 frame.now) }
+    ensures { IsTrue result ↔ HasOtherBound (drop 4 frame.now) }
 {
-    match frame {
-        // The length of the cell; its dimensions, flags, the OID of the elements, the length of the
-        // dimension and its lower bound.
-        [
-            _,
-            _,
-            _,
-            _,
-            0,
-            0,
-            0,
-            1,
-            _,
-            _,
-            _,
-            _,
-            _,
-            _,
-            _,
-            _,
-            _,
-            _,
-            _,
-            _,
-            bound @ ..,
-        ] => { !bound.starts_with(&[0, 0, 0, 1]) }
-        _ => false,
-    }
+    // After the length of the cell come the number of dimensions, the flags and the OID of the elements, and
+    // then the length of the dimension and its lower bound.
+    let one: &[u8] = &[0, 0, 0, 1];
+    frame.len() >= 24 && &frame[4..8] == one && &frame[20..24] != one
 }

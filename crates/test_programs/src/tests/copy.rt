@@ -198,10 +198,15 @@ fn spell(alloc: Global, rows: &[Row]) -> Result<(), Fail> {
 
 /// No text of the table is a value of its type.
 fn have_no_values(alloc: Global, rows: &[(&str, &[u8])]) -> Result<(), Fail> {
+    are_refused(alloc, "no value of its type", rows)
+}
+
+/// Each text of the table is refused with this reason.
+fn are_refused(alloc: Global, reason: &str, rows: &[(&str, &[u8])]) -> Result<(), Fail> {
     for (name, text) in rows {
         let line = line_of(alloc, text)?;
         let outcome = writing(alloc, &[*name], line.as_slice())?;
-        let fault = format!(in alloc; "line 1, column 1 ({name}): no value of its type")?;
+        let fault = format!(in alloc; "line 1, column 1 ({name}): {reason}")?;
         outcome.is(HEADER, fault.as_str())?;
     }
     Ok(())

@@ -1,16 +1,37 @@
 -- What the proof of `read` answers by hand.
-use Rattle.std.proofs.Common.{◌≢◌, ◌++◌, ◌∙◌, [], arith, subst, sym, take}
+use Rattle.std.proofs.Common.{◌≢◌, ◌++◌, ◌∙◌, [], arith, inl, refl, subst, sym, take}
+use Rattle.std.proofs.KnownBytes.{Appends-nil, Consumes-nil}
 use Rattle.std.specs.Io.KnownBytes.{Appends, Consumes, IsAtEnd}
 use Rattle.streams.proofs.Outcomes.{err_always, err_of, err_weaker, ok_of, ok_weaker, on_err}
 use Rattle.pg_copy.proofs.ReadingRuns.{begun, cut_off, ended, refused_block, stopped, stopped_anyhow, stopped_part}
 use Rattle.pg_copy.proofs.ReadingRuns.{taken, taken_either, taken_part}
-use Rattle.pg_copy.proofs.RefusalLaws.{answered}
+use Rattle.pg_tuples.proofs.HeaderLaws.{answered}
+use Rattle.pg_tuples.specs.Reading.{EndsInHeader}
+use Rattle.pg_tuples.specs.Tuples.{signature}
 use Rattle.pg_copy.specs.Outputs.{WritesWhole}
 use Rattle.pg_copy.specs.ReadingSteps.{Awaits}
 use Rattle.pg_copy.specs.Refusals.{StopsAfter}
 use Rattle.pg_copy.specs.Rows.{OfInput}
 use Rattle.pg_copy.specs.declared.copy_fault.CopyFault.TheVariants.{Read, Write}
 use Rattle.pg_copy.proofs.read.read.Goals as goal
+
+pub reads-init : goal.reads-init
+reads-init g c =
+    let input = g.R.Read.remaining c.args.input.now in
+    let none = c.new-held.ensures.items in
+    let start : EndsInHeader [] = inl (signature, refl) in (
+      refl,
+      c.new-2.ensures.items,
+      λ e. none,
+      subst EndsInHeader (sym none) start,
+      (
+        [],
+        [],
+        (refl, refl, refl),
+        subst (Consumes input input) (sym none) (Consumes-nil input),
+        Appends-nil (g.W.Write.contents c.args.output.now),
+      ),
+    )
 
 pub returns-in_default-clause-whole : goal.returns-in_default-clause-whole
 returns-in_default-clause-whole g c = λ _. stopped c.args.columns.now _ _ c.reads.reading.place c.reads.reading.row

@@ -2,19 +2,51 @@
 use Rattle.std.proofs.Common.{◌++◌, ◌∙◌, ap}
 use Rattle.pg_text.specs.Quotes.{field_text}
 use Rattle.pg_copy.proofs.CompositeSteps.{null_field, some_field}
+use Rattle.pg_copy.proofs.RecordFaults.{number_passed}
+use Rattle.pg_copy.specs.Composites.{type_fault}
+use Rattle.pg_types.specs.Content.{content}
+use Rattle.std.proofs.Common.{inl, inr, subst}
+use Rattle.std.proofs.lemmas.Option.{IfSome_then}
+use Rattle.std.proofs.lemmas.Result.{err_from_is_err_and}
+use Rattle.pg_copy.proofs.RecordFaults.{number_refused}
+use Rattle.pg_copy.proofs.RefusalLaws.{cell_fault}
+use Rattle.pg_copy.specs.CellRefusals.{RefusesAs}
+use Rattle.pg_copy.specs.Composites.{RefusesField, field_values}
+use Rattle.pg_types.specs.Faults.{refusal_of}
 use Rattle.pg_copy.proofs.show.push_field.Goals as goal
 
-pub returns-then-not-branch : goal.returns-then-not-branch
-returns-then-not-branch c =
-    let oid = c.in_ok-take_oid.ensures in
-    null_field c.args.field.now c.args.raw.now.now c.take_oid.new.raw.now c.push_value.new.row.now oid.1 oid.0 oid.2
-    oid.3 oid.4 c.args.text.now.items c.in_ok-push_value.field-0 c.clear.new.self.items c.push_value.new.text.items
+pub returns-then-not-branch-clause-ok : goal.returns-then-not-branch-clause-ok
+returns-then-not-branch-clause-ok c =
+    let oid = number_passed (type_fault (content c.args.field.now.ty) c.args.raw.now.now) c.args.raw.now.now
+    c.take_oid.new.raw.now c.in_ok-take_oid.ensures in
+    null_field c.args.field.now c.args.raw.now.now c.take_oid.new.raw.now c.push_value.new.row.now oid.0 oid.1
+    c.args.text.now.items c.in_ok-push_value.field-0 c.clear.new.self.items c.push_value.new.text.items
     c.clear.ensures.items c.in_ok-push_value.ensures.ok c.if-not-branch.true
 
-pub returns : goal.returns
-returns c =
-    let oid = c.in_ok-take_oid.ensures in
-    some_field c.args.field.now c.args.raw.now.now c.take_oid.new.raw.now c.push_value.new.row.now oid.1 oid.0 oid.2
-    oid.3 oid.4 c.args.text.now.items c.in_ok-push_value.field-0 c.clear.new.self.items c.push_value.new.text.items
+pub returns-clause-ok : goal.returns-clause-ok
+returns-clause-ok c =
+    let oid = number_passed (type_fault (content c.args.field.now.ty) c.args.raw.now.now) c.args.raw.now.now
+    c.take_oid.new.raw.now c.in_ok-take_oid.ensures in
+    some_field c.args.field.now c.args.raw.now.now c.take_oid.new.raw.now c.push_value.new.row.now oid.0 oid.1
+    c.args.text.now.items c.in_ok-push_value.field-0 c.clear.new.self.items c.push_value.new.text.items
     c.clear.ensures.items c.in_ok-push_value.ensures.ok c.push_field.new.out.items c.if-not-branch.false
     (c.in_ok-push_field.ensures ∙ ap (λ own. c.args.text.now.items ++ field_text own) c.as_slice.ensures.value)
+
+pub returns-in_err-take_oid-clause-err : goal.returns-in_err-take_oid-clause-err
+returns-in_err-take_oid-clause-err c =
+    let field = c.args.field.now in
+    let raw = c.args.raw.now.now in
+    let p = err_from_is_err_and c.from_residual.result c.from_residual.ensures.1 in
+    rw (p.1, p.2) (number_refused (RefusesField field raw) (type_fault (content field.ty) raw) raw
+    c.take_oid.new.raw.now c.in_err-take_oid.field-0.0 c.in_err-take_oid.ensures (λ r e. inl e))
+
+pub returns-in_err-push_value-clause-err : goal.returns-in_err-push_value-clause-err
+returns-in_err-push_value-clause-err c =
+    let field = c.args.field.now in
+    let raw = c.args.raw.now.now in
+    let fault = c.in_err-push_value.field-0.0 in
+    let oid = number_passed (type_fault (content field.ty) raw) raw c.take_oid.new.raw.now c.in_ok-take_oid.ensures in
+    let p = err_from_is_err_and c.from_residual-in_err-push_value.result c.from_residual-in_err-push_value.ensures.1 in
+    rw (p.1, p.2) (IfSome_then (refusal_of fault)
+    (cell_fault (field_values field) (content field.ty) c.take_oid.new.raw.now fault c.in_err-push_value.ensures.err)
+    (λ r q. inr (oid.0, subst (λ s. RefusesAs (field_values field) (content field.ty) s r) oid.1 q)))

@@ -1,6 +1,6 @@
 //! Tests of the calendar.
 
-use pg_text::calendar::Civil;
+use pg_calendar::Civil;
 use std::test::Fail;
 use test_support::{holds, same};
 

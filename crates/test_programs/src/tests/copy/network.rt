@@ -1,6 +1,6 @@
 //! Cells and texts from PostgreSQL 15.18, as `COPY .. TO STDOUT` in both formats gave them.
 
-use super::{Row, have_no_values, spell};
+use super::{Row, are_refused, spell};
 use std::test::Fail;
 
 /// Addresses, networks and MAC addresses.
@@ -199,12 +199,12 @@ const ADDRESSES: &[Row] = &[
 ];
 
 /// Texts that are none.
-const NO_VALUES: &[(&str, &[u8])] = &[
+const NO_MAC_ADDRESSES: &[(&str, &[u8])] = &[
     ("macaddr", b"08:00:2b:01:02"),
     ("macaddr", b"08:00:2b:01:02:0g"),
-    ("inet", b"1.2.3"),
-    ("inet", b"1.2.3.4/x"),
 ];
+
+const NO_ADDRESSES: &[(&str, &[u8])] = &[("inet", b"1.2.3"), ("inet", b"1.2.3.4/x")];
 
 #[test]
 fn addresses_have_the_servers_texts(rt: HostRuntime) -> Result<(), Fail> {
@@ -213,5 +213,6 @@ fn addresses_have_the_servers_texts(rt: HostRuntime) -> Result<(), Fail> {
 
 #[test]
 fn other_texts_are_no_addresses(rt: HostRuntime) -> Result<(), Fail> {
-    have_no_values(rt.alloc(), NO_VALUES)
+    are_refused(rt.alloc(), "no MAC address", NO_MAC_ADDRESSES)?;
+    are_refused(rt.alloc(), "no network address", NO_ADDRESSES)
 }

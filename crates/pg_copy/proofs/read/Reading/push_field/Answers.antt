@@ -16,4 +16,4 @@ returns-in-Err-clause-refused c =
     c.saturating_add-number.ensures c.value_fault.ensures.names in
     value_refused_by (next_row c.args.self.now.row) (c.args.place + 1) column fault (RefusesAt column fields)
     c.value_fault.result named
-    (cell_fault column.is_array (values_in column) (content column.ty) fields fault c.in-Err.ensures.err)
+    (cell_fault (values_in column) (content column.ty) fields fault c.in-Err.ensures.err)

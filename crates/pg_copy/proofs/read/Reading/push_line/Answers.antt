@@ -2,7 +2,8 @@
 use Rattle.std.proofs.Common.{◌≡◌, ◌+◌, ◌++◌, ◌∙◌, [], ◌∷◌, arith, length-take, refl, subst, take}
 use Rattle.std.proofs.lemmas.Grind.{common_steps}
 use Rattle.pg_copy.proofs.LineLaws.{TakesFields, next_field, no_field}
-use Rattle.pg_copy.proofs.RefusalLaws.{answered, row_refused}
+use Rattle.pg_copy.proofs.RefusalLaws.{row_refused}
+use Rattle.pg_tuples.proofs.HeaderLaws.{answered}
 use Rattle.pg_copy.specs.Refusals.{RefusesAt, RefusesRow, UnlessMemory, ValueRefused, next_row}
 use Rattle.pg_copy.specs.declared.copy_fault.CopyFault.TheVariants.{Memory}
 use Rattle.pg_copy.proofs.read.Reading.push_line.Goals as goal

@@ -3,7 +3,8 @@ use Rattle.std.proofs.Common.{◌∙◌, ap, length, refl, subst, sym}
 use Rattle.std.proofs.lemmas.Bool.Decides.{Decides-eqb}
 use Rattle.std.proofs.lemmas.List.{nil_from_length}
 use Rattle.pg_copy.proofs.ReadingLaws.{advances_three}
-use Rattle.pg_copy.proofs.RefusalLaws.{answered, unless}
+use Rattle.pg_copy.proofs.RefusalLaws.{unless}
+use Rattle.pg_tuples.proofs.HeaderLaws.{answered}
 use Rattle.pg_copy.specs.ReadingSteps.{Awaits, StopsAt}
 use Rattle.pg_copy.specs.Refusals.{UnlessMemory}
 use Rattle.pg_copy.specs.declared.copy_fault.CopyFault.TheVariants.{Trailing}

@@ -2,7 +2,8 @@
 use Rattle.std.proofs.Common.{◌++◌, ◌∙◌, ℕ, List, subst}
 use Rattle.streams.proofs.Outcomes.{on_err}
 use Rattle.pg_copy.proofs.ReadingLaws.{advances_none}
-use Rattle.pg_copy.proofs.RefusalLaws.{answered, unless_weaker}
+use Rattle.pg_copy.proofs.RefusalLaws.{unless_weaker}
+use Rattle.pg_tuples.proofs.HeaderLaws.{answered}
 use Rattle.pg_copy.specs.ReadingSteps.{Advances, StopsAt}
 use Rattle.pg_copy.specs.Refusals.{UnlessMemory}
 use Rattle.pg_copy.specs.declared.copy_fault.CopyFault.{CopyFault}

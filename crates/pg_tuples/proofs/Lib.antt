@@ -1,0 +1,4 @@
+-- The lemmas of this crate's proofs.
+pub mod FrontLaws
+pub mod HeaderLaws
+pub mod TupleLaws

@@ -1,0 +1,42 @@
+-- Laws of frames in a row, and of tuples after one another.
+use Rattle.std.proofs.Common.{◌≡◌, ℕ, ◌+◌, List, [], ◌∷◌, ◌++◌, Some, refl, sym, ap, ◌∙◌}
+use Rattle.std.proofs.Common.{append_assoc, arith, length-append}
+use Rattle.pg_base.proofs.Concat.{concat-assoc, concat-nil, frames-append, nil-concat}
+use Rattle.pg_base.specs.Cells.{Cell, concat, frame, frames}
+use Rattle.pg_tuples.specs.Tuples.{BeginsCopy, FrameThen, FramesThen, tuple, tuples}
+
+pub next_frames : (cells : List Cell) (cell : Cell) (bytes more : List ℕ) → frames cells ≡ Some bytes
+    → frame cell ≡ Some more → frames (cells ++ cell ∷ []) ≡ Some (bytes ++ more)
+next_frames cells cell bytes more so_far next =
+    frames-append cells (cell ∷ []) ∙ ap (concat (frames cells)) (concat-nil (frame cell)) ∙ rw (so_far, next) refl
+
+-- a frame after so many is one more
+pub frames_next : (s mid rest : List ℕ) (n : ℕ) → FramesThen s n mid → FrameThen mid rest → FramesThen s (n + 1) rest
+frames_next s mid rest n (cells, bytes, count, are, is) (cell, more, one, then) = (
+  cells ++ cell ∷ [],
+  bytes ++ more,
+  (let sum = length-append cells (cell ∷ []) in omega (arith, count, sum)),
+  next_frames cells cell bytes more are one,
+  is ∙ ap (λ l. bytes ++ l) then ∙ sym (append_assoc bytes more rest),
+)
+
+tuples-append : (rows more : List (List Cell)) → tuples (rows ++ more) ≡ concat (tuples rows) (tuples more)
+tuples-append [] more = sym (nil-concat (tuples more))
+tuples-append (row ∷ rows) more = ap (concat (tuple row)) (tuples-append rows more)
+    ∙ sym (concat-assoc (tuple row) (tuples rows) (tuples more))
+
+tuples_next : (rows : List (List Cell)) (row : List Cell) (bytes more : List ℕ) → tuples rows ≡ Some bytes
+    → tuple row ≡ Some more → tuples (rows ++ row ∷ []) ≡ Some (bytes ++ more)
+tuples_next rows row bytes more so_far one =
+    tuples-append rows (row ∷ []) ∙ ap (concat (tuples rows)) (concat-nil (tuple row)) ∙ rw (so_far, one) refl
+
+-- a tuple after those of rows
+pub copy_next : (rows : List (List Cell)) (row : List Cell) (s t : List ℕ) → BeginsCopy rows s → tuple row ≡ Some t
+    → BeginsCopy (rows ++ row ∷ []) (s ++ t)
+copy_next rows row s t (head, bytes, is_header, are, is) one = (
+  head,
+  bytes ++ t,
+  is_header,
+  tuples_next rows row bytes t are one,
+  ap (λ l. l ++ t) is ∙ append_assoc head bytes t,
+)

@@ -1,0 +1,51 @@
+-- The binary format of COPY (documentation of the command COPY, "Binary Format").
+use Rattle.std.specs.Prelude.{◌≡◌, ℕ, pos, List, [], ◌∷◌, ◌++◌, length, Option, Some}
+use Rattle.std.specs.Int.{w16}
+use Rattle.pg_base.specs.Cells.{Cell, be, concat, frame, frames}
+
+-- what a COPY begins with
+abbrev pub signature : List ℕ
+signature = 80 ∷ 71 ∷ 67 ∷ 79 ∷ 80 ∷ 89 ∷ 10 ∷ 255 ∷ 13 ∷ 10 ∷ 0 ∷ []
+
+-- the signature, four bytes of flags, of which the critical ones in the first two are not set, and the header
+-- extension, after its length
+abbrev pub IsHeader : List ℕ → Type 0
+IsHeader s =
+    (a b : ℕ) × (extension framed : List ℕ) × (frame (Some extension) ≡ Some framed)
+    × (s ≡ signature ++ 0 ∷ 0 ∷ a ∷ b ∷ framed)
+
+-- the signature, no flag, and a header extension of no byte
+abbrev pub header : List ℕ
+header =
+    80 ∷ 71 ∷ 67 ∷ 79 ∷ 80 ∷ 89 ∷ 10 ∷ 255 ∷ 13 ∷ 10 ∷ 0 ∷ 0 ∷ 0 ∷ 0 ∷ 0 ∷ 0 ∷ 0 ∷ 0 ∷ 0 ∷ []
+
+-- the tuple of a row: the number of its columns in two bytes, and the frame of each cell
+abbrev pub tuple : List Cell → Option (List ℕ)
+tuple row = concat (Some (be w16 (pos (length row)))) (frames row)
+
+-- the tuples of rows, one after another
+abbrev pub tuples : List (List Cell) → Option (List ℕ)
+tuples [] = Some []
+tuples (row ∷ rows) = concat (tuple row) (tuples rows)
+
+-- -1 in the place of a number of columns
+abbrev pub trailer : List ℕ
+trailer = 255 ∷ 255 ∷ []
+
+-- a header and the tuples of these rows
+abbrev pub BeginsCopy : List (List Cell) → List ℕ → Type 0
+BeginsCopy rows s =
+    (header bytes : List ℕ) × IsHeader header × (tuples rows ≡ Some bytes) × (s ≡ header ++ bytes)
+
+-- the COPY of these rows: a header, their tuples, and the trailer
+abbrev pub IsCopy : List (List Cell) → List ℕ → Type 0
+IsCopy rows s = (t : List ℕ) × BeginsCopy rows t × (s ≡ t ++ trailer)
+
+-- s is the frame of a cell and then rest
+abbrev pub FrameThen : List ℕ → List ℕ → Type 0
+FrameThen s rest = (cell : Cell) × (bytes : List ℕ) × (frame cell ≡ Some bytes) × (s ≡ bytes ++ rest)
+
+-- s is the frames of so many cells, one after another, and then rest
+abbrev pub FramesThen : List ℕ → ℕ → List ℕ → Type 0
+FramesThen s n rest =
+    (cells : List Cell) × (bytes : List ℕ) × (length cells ≡ n) × (frames cells ≡ Some bytes) × (s ≡ bytes ++ rest)

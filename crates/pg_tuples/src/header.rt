@@ -1,0 +1,74 @@
+//! The header: its signature, the flags and the length of its extension.
+ghost use Rattle.std.specs.Prelude.{◌≡◌, IfErr, IfOk, OnErr, OnOk};
+ghost use Rattle.pg_tuples.specs.Reading.{TakesHeader};
+ghost use Rattle.pg_tuples.specs.Refusals.{RefusesFlags, RefusesHeader};
+
+use pg_read::private::read_be_i32;
+use thiserror::Error;
+
+/// What a binary COPY begins with.
+const SIGNATURE: &[u8; 11] = b"PGCOPY\n\xff\r\n\0";
+
+/// The critical flag of a COPY whose tuples begin with an OID.
+const OIDS: u16 = 1;
+
+/// Why a header is refused.
+#[derive(Debug, Clone, Copy, PartialEq, Eq, Error)]
+pub enum HeaderFault {
+    /// The bytes do not begin as a binary COPY does.
+    #[error("not a binary COPY")]
+    Signature,
+    /// The tuples have OIDs, as those of servers before version 12 could.
+    #[error("tuples with OIDs")]
+    Oids,
+    /// A critical flag that is not known.
+    #[error("unknown critical flag")]
+    Flags,
+    /// The length of the header extension is negative.
+    #[error("negative length of the header extension")]
+    Extension,
+}
+
+/// Takes the signature, the flags and the length of the header extension off the front of the bytes:
+/// how many bytes the extension has. `None` where the bytes are truncated before; then, and
+/// after a fault, nothing is taken.
+pub fn take_header(bytes: &mut &[u8]) -> Result<Option<usize>, HeaderFault>
+    ensures ok { IfOk result (λ extension. TakesHeader bytes.old.now extension bytes.new.now) }
+    ensures err { OnErr result (bytes.new.now ≡ bytes.old.now) }
+    ensures refused { IfErr result (RefusesHeader bytes.old.now) }
+{
+    let Some(flags) = bytes.strip_prefix(SIGNATURE) else {
+        return if SIGNATURE.starts_with(bytes) {
+            Ok(None)
+        } else {
+            Err(HeaderFault::Signature)
+        };
+    };
+    let [c0, c1, _, _, length @ ..] = flags else {
+        return Ok(None);
+    };
+    check_flags(*c0, *c1)?;
+    let mut extension = length;
+    let Ok(len) = read_be_i32(&mut extension) else {
+        return Ok(None);
+    };
+    if len < 0 {
+        return Err(HeaderFault::Extension);
+    }
+    *bytes = extension;
+    Ok(Some(len as usize))
+}
+
+/// Refuses the critical flags, the first two bytes of the four, of which none is known.
+fn check_flags(high: u8, low: u8) -> Result<(), HeaderFault>
+    ensures ok { OnOk result ((high ≡ 0) × (low ≡ 0)) }
+    ensures refused { IfErr result (RefusesFlags high low) }
+{
+    if high == 0 && low == 0 {
+        return Ok(());
+    }
+    if u16::from_be_bytes([high, low]) & OIDS != 0 {
+        return Err(HeaderFault::Oids);
+    }
+    Err(HeaderFault::Flags)
+}

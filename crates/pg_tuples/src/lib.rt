@@ -1,0 +1,12 @@
+//! The binary format of COPY: a header, a tuple for each row, and a trailer (documentation of the command COPY,
+//! "Binary Format").
+//!
+//! [`take_header`] takes the header up to its extension off the front of bytes, and [`front_of`] says what stands there
+//! after it. Bytes that are truncated are no fault, since more may come.
+#![tactic(auto)]
+
+mod header;
+mod tuples;
+
+pub use header::{HeaderFault, take_header};
+pub use tuples::{Front, TupleFault, front_of, is_count};
