@@ -2,5 +2,6 @@
 mod BindLaws
 pub mod CatalogGrowth
 pub mod CellsTaken
+mod CopyLaws
 pub mod RowCounts
 mod RowLaws

@@ -3,6 +3,7 @@ pub mod BindBytes
 pub mod Binding
 pub mod CatalogRows
 pub mod CatalogTypes
+pub mod CopyReading
 pub mod Places
 pub mod RowPlaces
 pub mod Rows

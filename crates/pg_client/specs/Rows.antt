@@ -41,11 +41,14 @@ CountFault n body f =
     ((length body < 2) × IsFaultAt place.Row size f)
     ⊎ ((2 ≤ length body) × (HasCount n body → ⊥) × IsFaultAt place.Row field_count f)
 
+-- a row of these columns, of which none was taken
+abbrev pub IsUnread : List Column → Row → Type 0
+IsUnread columns row = (columns_of row ≡ columns) × (taken_of row ≡ 0) × (rest_of row ≡ frames_of row)
+
 -- the row of the body, of which no column was taken; or the number of its columns is refused
 abbrev pub IsRowOf : List ℕ → List Column → Result Row PlacedFault → Type 0
 IsRowOf body columns (Ok row) =
-    HasCount (length columns) body × (columns_of row ≡ columns) × (frames_of row ≡ drop 2 body) × (taken_of row ≡ 0)
-    × (rest_of row ≡ drop 2 body)
+    HasCount (length columns) body × (frames_of row ≡ drop 2 body) × IsUnread columns row
 IsRowOf body columns (Err f) = CountFault (length columns) body f
 
 -- what a cell of a column is read as: WrongType where the Rust type does not accept the column's

@@ -1,17 +1,21 @@
-//! What a client reads and writes: the row of a DataRow message, the parameters of a Bind message, and the types of
-//! its server.
+//! What a client reads and writes: the row of a DataRow message, the rows of a binary COPY, the parameters of a Bind
+//! message, and the types of its server.
 //!
-//! [`Row`] reads columns in turn or in any order, and [`Bind`] appends parameters to a buffer. A refusal
-//! names the column or the parameter ([`PlacedFault`]). [`catalog`] makes types of what the server's catalog says.
+//! [`Row`] reads columns in turn or in any order, [`CopyRows`] gives the rows of a COPY, and [`Bind`] appends
+//! parameters to a buffer. A refusal names the column or the parameter ([`PlacedFault`]), or the row of a COPY
+//! ([`CopyFault`]). [`catalog`] makes types of what the server's catalog says.
 #![tactic(auto)]
 
 mod bind;
 pub mod catalog;
 mod column;
+mod copy_rows;
 mod placed_fault;
 mod row;
 
 pub use bind::{Bind, MAX_PARAMS};
 pub use column::{Column, ColumnName, NAME_LEN};
+pub use copy_rows::{CopyFault, CopyRows};
+pub use pg_tuples::{HeaderFault, TupleFault};
 pub use placed_fault::{Place, PlacedFault};
 pub use row::Row;

@@ -1,9 +1,8 @@
 //! The row of a DataRow message.
-ghost use Rattle.std.specs.Prelude.{◌≡◌, ◌-◌, ◌↔◌, None, Some, IfNone, IfSome, IsTrue, codes, length, pos, slice_get};
-ghost use Rattle.std.specs.Int.{w16};
-ghost use Rattle.pg_base.specs.Cells.{IsBe, cell_of};
+ghost use Rattle.std.specs.Prelude.{◌≡◌, ◌-◌, None, Some, IfNone, IfSome, codes, length, slice_get};
+ghost use Rattle.pg_base.specs.Cells.{cell_of};
 ghost use Rattle.pg_client.specs.Places.{AnswersAt, IsFaultAt, NeverMemoryAt, column_place};
-ghost use Rattle.pg_client.specs.Rows.{EndsRow, FreeAs, IsRowOf, NoColumn, PassesCells, ReadsAs, ReadsColumn};
+ghost use Rattle.pg_client.specs.Rows.{EndsRow, FreeAs, IsRowOf, IsUnread, NoColumn, PassesCells, ReadsAs, ReadsColumn};
 ghost use Rattle.pg_client.specs.Rows.{ReadsNext};
 ghost use Rattle.pg_client.specs.Rows.{StandsAt, columns_of, frames_of, rest_of, taken_of};
 ghost use Rattle.pg_types.specs.Content.{content};
@@ -12,6 +11,7 @@ ghost use Rattle.pg_read.specs.FrameReading.{TakesCell};
 
 use crate::column::Column;
 use crate::placed_fault::{Place, PlacedFault};
+use pg_tuples::is_count;
 use postgres_types::private::read_value;
 use postgres_types::{Fault, FromSql, Type, check_type, from_sql_nullable};
 use std::alloc::Global;
@@ -45,12 +45,19 @@ impl<'a, 'c> Row<'a, 'c> {
         if !is_count(*count, columns.len()) {
             return Err(PlacedFault::new(Place::Row, Fault::FieldCount));
         }
-        Ok(Row {
+        Ok(Row::unread(frames, columns))
+    }
+
+    /// The row of these frames, of which no column was taken.
+    pub(crate) fn unread(frames: &'a [u8], columns: &'c [Column]) -> Row<'a, 'c>
+        ensures { (frames_of result ≡ frames.entry.now) × IsUnread columns.entry.now result }
+    {
+        Row {
             columns,
             frames,
             taken: 0,
             rest: frames,
-        })
+        }
     }
 
     /// Reads the column at that place, counted from 0, in any order and as often as wanted: answers
@@ -125,16 +132,6 @@ impl<'a, 'c> Row<'a, 'c> {
         } else {
             Err(PlacedFault::new(Place::Row, Fault::Size))
         }
-    }
-}
-
-/// Whether the two bytes are that number of columns.
-fn is_count(count: [u8; 2], columns: usize) -> bool
-    ensures { IsTrue result ↔ IsBe w16 count (pos columns) }
-{
-    match i16::try_from(columns) {
-        Ok(columns) => count == columns.to_be_bytes(),
-        Err(_) => false,
     }
 }
 

@@ -1,6 +1,7 @@
 //! The tests, by topic.
 
 mod bind;
+mod copy_rows;
 mod places;
 mod row_ends;
 mod row_faults;

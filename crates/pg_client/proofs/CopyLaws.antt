@@ -1,0 +1,61 @@
+-- Laws of reading the rows of a binary COPY.
+use Rattle.std.proofs.Common.{◌≡◌, ◌-◌, ◌+◌, ◌<◌, ℕ, List, [], ◌∷◌, ◌++◌, Some, length, ap, arith, refl, subst, sym}
+use Rattle.std.proofs.Common.{◌∙◌, append-nil, append_assoc, drop, length-append, take, take-append-drop}
+use Rattle.std.proofs.lemmas.List.{nil_from_length}
+use Rattle.std.specs.Prelude.{pos}
+use Rattle.std.specs.Int.{w16}
+use Rattle.pg_base.specs.Cells.{Cell, be, frames}
+use Rattle.pg_tuples.proofs.TupleLaws.{copy_next}
+use Rattle.pg_tuples.specs.Reading.{AwaitsExtension, EndsInExtension}
+use Rattle.pg_tuples.specs.Tuples.{BeginsCopy, FramesThen, IsCopy, IsHeader, trailer, tuple}
+
+-- the header of a COPY of no row
+pub begins_none : (s t mid extension rest : List ℕ) (len : ℕ) → AwaitsExtension len t → s ≡ t ++ mid
+    → extension ≡ take len mid → rest ≡ drop len mid → length extension ≡ len
+    → (begun : List ℕ) × BeginsCopy [] begun × (s ≡ begun ++ rest)
+begins_none s t mid extension rest len awaits is first then whole =
+    let split : mid ≡ extension ++ rest =
+    sym (take-append-drop len mid) ∙ ap (λ l. l ++ drop len mid) (sym first) ∙ ap (λ l. extension ++ l) (sym then) in (
+      t ++ extension,
+      (t ++ extension, [], awaits extension whole, refl, sym (append-nil (t ++ extension))),
+      is ∙ ap (λ l. t ++ l) split ∙ sym (append_assoc t extension rest),
+    )
+
+-- a header extension that is truncated
+pub ends_in_extension : (s t extension : List ℕ) (len : ℕ) → AwaitsExtension len t → s ≡ t ++ extension
+    → length extension < len → EndsInExtension s
+ends_in_extension s t extension len awaits is few = (
+  len - length extension,
+  omega (arith, few),
+  λ more count. subst IsHeader (sym (append_assoc t extension more) ∙ ap (λ l. l ++ more) (sym is))
+      (awaits (extension ++ more) (let sum = length-append extension more in omega (arith, sum, count, few))),
+)
+
+-- so many rows were taken, and these bytes are left
+module _ (bytes left : List ℕ) (rows : List (List Cell)) (count : ℕ)
+    (so_far : (t : List ℕ) × BeginsCopy rows t × (bytes ≡ t ++ left) × (count ≡ length rows)) where
+  pub row_next : (n : ℕ) (row rest : List ℕ) → FramesThen row n [] → left ≡ be w16 (pos n) ++ (row ++ rest)
+      → (cells : List Cell) × (length cells ≡ n) × (frames cells ≡ Some row)
+      × ((t : List ℕ) × BeginsCopy (rows ++ cells ∷ []) t × (bytes ≡ t ++ rest)
+      × (count + 1 ≡ length (rows ++ cells ∷ [])))
+  row_next n row rest (cells, framed, many, are, is) stands =
+      let same : row ≡ framed = is ∙ append-nil framed in
+      let tuple_is : tuple cells ≡ Some (be w16 (pos n) ++ row) = rw (many, are, same) refl in (
+        cells,
+        many,
+        are ∙ ap Some (sym same),
+        (
+          so_far.0 ++ (be w16 (pos n) ++ row),
+          copy_next rows cells so_far.0 (be w16 (pos n) ++ row) so_far.1 tuple_is,
+          so_far.2 ∙ ap (λ l. so_far.0 ++ l) (stands ∙ sym (append_assoc (be w16 (pos n)) row rest))
+              ∙ sym (append_assoc so_far.0 (be w16 (pos n) ++ row) rest),
+          (let sum = length-append rows (cells ∷ []) in omega (arith, sum, so_far.3)),
+        ),
+      )
+
+  pub copy_ends : (after : List ℕ) → left ≡ trailer ++ after → length after ≡ 0 → IsCopy rows bytes
+  copy_ends after stands none = (
+    so_far.0,
+    so_far.1,
+    so_far.2 ∙ ap (λ l. so_far.0 ++ l) (stands ∙ ap (λ l. trailer ++ l) (nil_from_length after none)),
+  )
