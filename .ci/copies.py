@@ -14,7 +14,7 @@ def read_crates(top="."):
 def lines_of(names, top="."):
     """Returns the lines of crates.txt of these crates."""
     with open(f"{top}/crates.txt", encoding="utf-8") as it:
-        return "".join(line for line in it if line.partition(":")[0].strip() in names)
+        return "".join(line for line in it if line.partition(":")[0].split()[:1] in [[name] for name in names])
 
 
 def with_below(crate, crates):

@@ -1,0 +1,119 @@
+//! Addresses with their netmasks.
+#![tactic(auto, using(crate::proofs::ReadingSteps::reads_into))]
+
+ghost use Rattle.std.specs.Prelude.{◌≡◌, MatchOption, true, false};
+ghost use Rattle.pg_base.specs.Formats.{Decodes};
+ghost use Rattle.pg_base.specs.Network.{family_len, first_fault_cidr, first_fault_inet, with_netmask};
+ghost use Rattle.pg_cells_c.specs.Networks.{FormCidrParts, FormInetParts, IsNetwork, is_inet, wire_inet_parts};
+ghost use Rattle.pg_cells_c.specs.Readings.{ReadsInto};
+ghost use Rattle.pg_cells_c.specs.Writings.{WritesCell};
+ghost use Rattle.pg_types.specs.Faults.{Answers, NeverMemory};
+
+use crate::buffers::{NO_CELL, write_parts};
+use crate::store::store;
+use pg_base::network::IpCidr;
+use pg_base::protocol::inet_from_sql;
+use pg_types::fault::Fault;
+use std::net::IpAddr;
+
+/// The number of the family of IPv4 addresses.
+const IPV4: u8 = 2;
+
+/// The number of the family of IPv6 addresses.
+const IPV6: u8 = 3;
+
+/// An address and the length of its netmask. An address of IPv4 has the first 4 octets, and zeros
+/// come after them.
+#[derive(Clone, Copy)]
+#[repr(C)]
+pub struct Inet {
+    pub family: u8,
+    pub netmask: u8,
+    pub octets: [u8; 16],
+}
+
+/// The address with a netmask of that length.
+fn inet_of(addr: IpAddr, netmask: u8) -> Inet
+    ensures { IsNetwork result (with_netmask addr netmask) }
+{
+    match addr {
+        IpAddr::V4(addr) => {
+            let [a, b, c, d] = addr.octets();
+            Inet {
+                family: IPV4,
+                netmask,
+                octets: [a, b, c, d, 0, 0, 0, 0, 0, 0, 0, 0, 0, 0, 0, 0],
+            }
+        }
+        IpAddr::V6(addr) => Inet {
+            family: IPV6,
+            netmask,
+            octets: addr.octets(),
+        },
+    }
+}
+
+/// The address of a cell, with its netmask.
+fn inet_in(cell: &[u8]) -> Result<Inet, Fault>
+    ensures outcome { Answers (Decodes FormInetParts first_fault_inet cell.now) result }
+    ensures never_memory { NeverMemory result }
+{
+    let inet = inet_from_sql(cell)?;
+    Ok(inet_of(inet.addr(), inet.netmask()))
+}
+
+/// The network of a cell.
+fn cidr_in(cell: &[u8]) -> Result<Inet, Fault>
+    ensures outcome { Answers (Decodes FormCidrParts first_fault_cidr cell.now) result }
+    ensures never_memory { NeverMemory result }
+{
+    let inet = inet_from_sql(cell)?;
+    let cidr = IpCidr::new(inet.addr(), inet.netmask())?;
+    Ok(inet_of(cidr.first_address(), cidr.network_length()))
+}
+
+/// Reads INET.
+#[unsafe(no_mangle)]
+pub extern "C" fn pgc_inet_read(cell: &[u8], inet: &mut Inet) -> u32
+    ensures { ReadsInto (Decodes FormInetParts first_fault_inet cell.now) inet.old inet.new result }
+{
+    store(inet_in(cell), inet)
+}
+
+/// How many octets the address has. Where its family is neither IPv4 nor IPv6, or the netmask is
+/// longer than the address, there is none.
+fn octet_count(inet: &Inet) -> Option<u8>
+    ensures { MatchOption result (is_inet inet.now ≡ false)
+        (λ count. (is_inet inet.now ≡ true) × (count ≡ family_len inet.now.family)) }
+{
+    let count = match inet.family {
+        IPV4 => 4,
+        IPV6 => 16,
+        _ => return None,
+    };
+    if inet.netmask > 8 * count {
+        return None;
+    }
+    Some(count)
+}
+
+/// Writes INET. Where the family is neither IPv4 nor IPv6, or the netmask is longer than the
+/// address, there is no cell.
+#[unsafe(no_mangle)]
+pub extern "C" fn pgc_inet_write(inet: &Inet, out: &mut [u8]) -> usize
+    ensures { WritesCell (wire_inet_parts inet.now) out.old out.new result }
+{
+    let Some(count) = octet_count(inet) else {
+        return NO_CELL;
+    };
+    let head = [inet.family, inet.netmask, 0, count];
+    write_parts(&head, &inet.octets[..usize::from(count)], &[], out)
+}
+
+/// Reads CIDR.
+#[unsafe(no_mangle)]
+pub extern "C" fn pgc_cidr_read(cell: &[u8], cidr: &mut Inet) -> u32
+    ensures { ReadsInto (Decodes FormCidrParts first_fault_cidr cell.now) cidr.old cidr.new result }
+{
+    store(cidr_in(cell), cidr)
+}
