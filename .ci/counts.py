@@ -1,0 +1,169 @@
+"""Numbers in the documents that the repository's files give, each counted and compared with what the document says.
+
+A row of COUNTS names a document, the pattern of a sentence in which the group `n` is what is counted, and the function that
+returns what is to stand there; the pattern's other groups are its arguments. A row whose pattern is found nowhere is wrong too.
+"""
+import glob
+import os
+import re
+import sys
+from functools import cache
+
+TOP = os.path.dirname(os.path.dirname(os.path.abspath(__file__)))
+# The modules leave no files in the repository.
+sys.dont_write_bytecode = True
+sys.path.insert(0, f"{TOP}/scripts")
+from formats import BYTES, forms
+from performance import cases, section, tables
+
+WORDS = "no one two three four five six seven eight nine ten eleven twelve thirteen fourteen fifteen sixteen seventeen eighteen " \
+    "nineteen twenty".split()
+
+
+def read(path):
+    with open(path, encoding="utf-8") as it:
+        return it.read()
+
+
+def first(pattern, text):
+    """Returns the first group of a pattern in a text, or nothing."""
+    found = re.search(pattern, text, re.M | re.S)
+    return found[1] if found else ""
+
+
+@cache
+def sources():
+    return "".join(read(it) for it in sorted(glob.glob("crates/*/src/**/*.rt", recursive=True)))
+
+
+def specification_lines(crates):
+    """Returns the lines of these crates' definitions, but for blank ones, imports and laws, to the nearest fifty."""
+    lines = 0
+    for crate in re.findall(r"\w+", crates.replace(" and ", " ")):
+        for path in glob.glob(f"crates/{crate}/specs/**/*.antt", recursive=True):
+            if "/Laws" not in path:
+                lines += len(re.findall(r"^(?!(?:pub )?use )[ \t]*\S.*$", read(path), re.M))
+    return f"{(lines + 25) // 50 * 50:,}"
+
+
+def example_lines(names):
+    """Returns of each type of own_types the lines of its file, or of its part of one, without comments, imports and blank lines."""
+    found = []
+    for name in re.findall(r"`(\w+)(?:<T>)?`(?= in|,|$)", re.sub(r"`\w+\.rt`", "", names)):
+        for path in glob.glob("crates/own_types/src/*.rt"):
+            parts = re.split(r"(?<!\]\n)^(?=(?:#\[.*\]\n)*pub (?:struct|enum) )", read(path), flags=re.M)
+            part = next((it for it in parts if re.search(rf"^pub (?:struct|enum) {name}\b", it, re.M)), "")
+            found += [len(re.findall(r"^(?!\s*(?://|(?:ghost )?use |$)).*$", part, re.M))] if part else []
+    return ", ".join(map(str, found))
+
+
+def fields_of(name):
+    body = first(rf"^(?:pub )?struct {name} \{{\n(.*?)^\}}", sources())
+    return WORDS[len(re.findall(r"^    (?:pub )?\w+: ", body, re.M))]
+
+
+def constant(name):
+    return first(rf"^pub const {name}: \w+ = ([\d_]+);", sources()).replace("_", ",")
+
+
+def fault_code(name):
+    return first(rf"Fault::{name}\b[^\n]* => (\d+),", read("crates/pg_types/src/fault.rt"))
+
+
+def oids(name):
+    """Returns the OID of a built-in type, and in parentheses that of its arrays where it has them."""
+    rows = re.findall(r'^ +[A-Z]\w* \w+ (\d+) "(\w+)"', read("crates/pg_types/src/types/built_in.rt"), re.M)
+    of = {each: oid for oid, each in rows}
+    return f"{of.get(name)} ({of.get('_' + name)})"
+
+
+def damaged_cells():
+    """Returns how many cells .ci/damaged-cells has of each form, to the nearest thousand."""
+    cells = sum(len(it.fronts) + 1 + len(BYTES) * (1 + len(it.replaced)) for _, it in forms())
+    return f"{round(cells, -3):,}"
+
+
+def base_names_in_last(lines):
+    """Returns how many base names the last lines of pgcell's stored input have."""
+    last = read("crates/pgcell/stdin").splitlines()[-int(lines):]
+    return str(len({re.match(r"norm (\w+)", it)[1] for it in last}))
+
+
+def library_cases(is_counted=lambda it: True):
+    """Returns how many cases of the library there are, or are so."""
+    return str(sum(map(is_counted, cases("The library"))))
+
+
+def is_slow(case):
+    return case.ratio > 1.1
+
+
+def is_equal(case):
+    return is_slow(case) and case.equal is not None and case.equal <= 1.1
+
+
+def names_of_pgcell(limit):
+    """Returns how many names of pgcell take at most so many times the time of plain Rust."""
+    return str(sum(it.ratio <= float(limit) for it in cases("The program pgcell")))
+
+
+def ratios_of_lists():
+    lists = [it.ratio for it in cases("The program pgcell") if "[]" in it.name or "vector" in it.name]
+    return f"{min(lists):.2f} to {max(lists):.2f}"
+
+
+def time_of_read(case):
+    head, rows = next(it for it in tables(section("The library")) if "read" in it[0])
+    return f"{float(next(it[head.index('read')] for it in rows if it[0] == case)):.1f}"
+
+
+def million_rows(program):
+    head, rows = next(tables(section("The programs copy_read and copy_write")))
+    rate = next(it[head.index("rows a second")] for it in rows if it[0].endswith(f", {program}"))
+    return f"{int(rate.replace(',', '')) / 1e6:.1f}"
+
+
+COUNTS = [
+    ("README.md", r"an (?P<case>int4) is read in (?P<n>[\d.]+) ns", time_of_read),
+    ("README.md", r"`(?P<program>copy_read)` turns (?P<n>[\d.]+) million rows", million_rows),
+    ("docs/OWN-TYPES.md", r"^\|[^|]*\|[^|]*\|[^|]*\| (?P<names>[^|]*) \| (?P<n>\d+(?:, \d+)*) \|$", example_lines),
+    ("docs/OWN-TYPES.md", r"`(?P<name>\w+)` has (?P<n>\w+) fields", fields_of),
+    ("docs/OWN-TYPES.md", r"`(?P<name>\w+)`, among the tests, (?P<n>\w+)", fields_of),
+    ("docs/CONTRACTS.md", r"(?P<crates>`\w+`(?:(?:, | and )`\w+`)*) (?P<n>\d[\d,]*\d)(?=[,.] )", specification_lines),
+    ("docs/CONTRACTS.md", r"\(some (?P<n>[\d,]+) cells\)", damaged_cells),
+    ("docs/CONTRACTS.md", r"last (?P<lines>\d+) lines hold cells of (?P<n>\d+) base names", base_names_in_last),
+    ("docs/SPECIFICATION.md", r"^\| (?P<n>\d+) \| (?P<name>[A-Z]\w+) \|", fault_code),
+    ("docs/SPECIFICATION.md", r"at most (?P<n>[\d,]+) bytes \(`(?P<name>\w+)`\)", constant),
+    ("docs/SPECIFICATION.md", r"(?P<name>\w+) (?P<n>\d+ \(\d+\))", oids),
+    ("docs/PERFORMANCE.md", r"Of (?P<n>\d+) cases", library_cases),
+    ("docs/PERFORMANCE.md", r"cases, (?P<n>\d+) take at most 1\.1 times", lambda: library_cases(lambda it: not is_slow(it))),
+    ("docs/PERFORMANCE.md", r"(?:Of the other|Causes in the|on equal terms, for the) (?P<n>\d+)", lambda: library_cases(is_slow)),
+    ("docs/PERFORMANCE.md", r"(?P<n>\d+) do so on equal terms", lambda: library_cases(is_equal)),
+    ("docs/PERFORMANCE.md", r"Of (?P<n>\d+) names", lambda: str(len(cases("The program pgcell")))),
+    ("docs/PERFORMANCE.md", r"names, (?P<n>\d+) take at most (?P<limit>[\d.]+) times", names_of_pgcell),
+    ("docs/PERFORMANCE.md", r"arrays and vectors take (?P<n>[\d.]+ to [\d.]+) times", ratios_of_lists),
+]
+
+
+def counted_by(count, groups):
+    try:
+        return count(**groups)
+    except (LookupError, StopIteration):
+        return "what is not there to be counted"
+
+
+def wrong_counts():
+    """Returns what is wrong of the numbers that are counted, and how many there are."""
+    wrong, counted = [], 0
+    for document, pattern, count in COUNTS:
+        # a paragraph, and an item of a list, is a line
+        text = re.sub(r"\n *(?=[^\s|#-])", " ", read(document))
+        found = list(re.finditer(pattern, text, re.M))
+        counted += len(found)
+        if not found:
+            wrong.append((document, f"nothing is as {pattern}, a row of .ci/counts.py"))
+        for it in found:
+            groups = {key: value for key, value in it.groupdict().items() if key != "n"}
+            if (expected := counted_by(count, groups)) != it["n"]:
+                wrong.append((document, f"{it['n']} is to be {expected} in: {it[0].strip()}"))
+    return wrong, counted
