@@ -5,7 +5,7 @@
  * result that was asked for in that format, and what PQexecParams takes as a parameter. A NULL has no cell: ask
  * PQgetisnull first.
  *
- * Every function here is proved, from its code up to what its comment says, over the library's specifications. Link
+ * Every function here is proved to do what its comment says, if the pointers that it is given are valid. Link
  * with libpg_cells_c.a; it wants memmove and nothing else of the C library.
  *
  * Of all functions:
