@@ -14,8 +14,8 @@
  *   threads, and from a signal handler.
  * - `cell` is the first of `len` bytes. It may not be NULL, even where `len` is 0, and the bytes are only read.
  * - A pointer to a variable may not be NULL, and neither a variable nor a buffer may overlap with anything else that
- *   the call is handed. What a variable holds before the call is not looked at, but that a walk goes on from where it
- *   is, and a `bool` has to be true or false.
+ *   the call is handed. What a variable holds before the call is not looked at, but that a walk and a builder go on
+ *   from where they are, and a `bool` has to be true or false.
  * - A function that reads answers 0 (PGC_OK) and sets the variable, or it answers the number of a fault (PGC_SIZE and
  *   so on) and leaves the variable as it was. The fault is that of the first check that the cell fails.
  * - A function that writes answers how many bytes the cell has. Where the `room` bytes from `out` on are enough they
@@ -37,8 +37,8 @@ extern "C" {
 enum pgc_fault {
     PGC_OK = 0,
     PGC_MEMORY = 1,
-    PGC_WAS_NULL = 2,
-    PGC_WRONG_TYPE = 3,
+    PGC_WAS_NULL = 2, /* an element of int2vector or oidvector is NULL */
+    PGC_WRONG_TYPE = 3, /* a type is none of those that pgc_rewrite rewrites */
     PGC_SIZE = 4, /* the cell, or a part of it, has another length than its format */
     PGC_UTF8 = 5, /* a text is not UTF-8 */
     PGC_COUNT = 6, /* a count is negative */
@@ -46,8 +46,8 @@ enum pgc_fault {
     PGC_DIMENSIONS = 8, /* an array has more than one dimension */
     PGC_TOO_FEW = 9,
     PGC_EXCESS = 10,
-    PGC_DECODE = 11,
-    PGC_TRANSMIT = 12,
+    PGC_DECODE = 11,   /* a date or a timestamp is an infinity, or a time is none of a day, so it has no parts */
+    PGC_TRANSMIT = 12, /* there is no such day or time, or its number is that of no date, time or timestamp */
     PGC_JSON_VERSION = 13,
     PGC_TEXT_VERSION = 14, /* a cell of ltree, lquery or ltxtquery is of another version than 1 */
     PGC_JSON_TEXT = 15,
@@ -290,11 +290,17 @@ uint32_t pgc_inet_read(const void *cell, size_t len, struct pgc_inet *inet);
 uint32_t pgc_cidr_read(const void *cell, size_t len, struct pgc_inet *cidr);
 
 /*
- * Writes inet, and cidr of an address without host bits: the family, the length of the netmask, the flag 0, the number
- * of octets, and the octets. Another family than the two, or a netmask that is longer than the address, has no cell.
- * `inet` may not be NULL. Of IPv4 the octets after the first 4 are not looked at.
+ * Writes inet: the family, the length of the netmask, the flag 0, the number of octets, and the octets. Another family
+ * than the two, or a netmask that is longer than the address, has no cell. `inet` may not be NULL. Of IPv4 the octets
+ * after the first 4 are not looked at.
  */
 size_t pgc_inet_write(const struct pgc_inet *inet, void *out, size_t room);
+
+/*
+ * Writes cidr, as pgc_inet_write writes inet. What that has no cell for has none here, and nor has an address of which
+ * a bit after the netmask is 1. `cidr` may not be NULL.
+ */
+size_t pgc_cidr_write(const struct pgc_inet *cidr, void *out, size_t room);
 
 /* Reads date: the days in 4 bytes, big-endian, in two's complement. Another length is PGC_SIZE. */
 uint32_t pgc_date_read(const void *cell, size_t len, struct pgc_date *date);
@@ -324,6 +330,69 @@ uint32_t pgc_timestamp_read(const void *cell, size_t len, struct pgc_timestamp *
 size_t pgc_timestamp_write(int64_t microseconds, void *out, size_t room);
 
 /*
+ * A day of the proleptic Gregorian calendar. The year before year 1 is 0, which PostgreSQL writes as 1 BC, and the one
+ * before that is -1.
+ */
+struct pgc_date_parts {
+    int64_t year;
+    uint32_t month; /* 1 to 12 */
+    uint32_t day;   /* 1 to 31 */
+};
+
+/* A time of day. */
+struct pgc_time_parts {
+    uint32_t hour; /* 0 to 23; 24 in 24:00:00 alone */
+    uint32_t minute;
+    uint32_t second;
+    uint32_t microsecond;
+};
+
+/* A day and a time of day, in UTC where it has a time zone. */
+struct pgc_timestamp_parts {
+    struct pgc_date_parts date;
+    struct pgc_time_parts time; /* never 24:00:00: the next day has begun then */
+};
+
+/*
+ * Tells the day of a date, by its days from 2000-01-01. INT32_MAX and INT32_MIN are the infinities, which have no day:
+ * they are PGC_DECODE, and `parts` is as it was. So no infinity is taken for a date.
+ */
+uint32_t pgc_date_parts(int32_t days, struct pgc_date_parts *parts);
+
+/*
+ * Tells the hour, the minute, the second and the microsecond of a time, by its microseconds from midnight, of which
+ * 86,400,000,000 are 24:00:00. More than these, and fewer than 0, are PGC_DECODE, and `parts` is as it was.
+ */
+uint32_t pgc_time_parts(int64_t microseconds, struct pgc_time_parts *parts);
+
+/*
+ * Tells the day and the time of day of a timestamp, by its microseconds from 2000-01-01 00:00:00. INT64_MAX and
+ * INT64_MIN are the infinities, which have none: they are PGC_DECODE, and `parts` is as it was.
+ */
+uint32_t pgc_timestamp_parts(int64_t microseconds, struct pgc_timestamp_parts *parts);
+
+/*
+ * Finds the date of a day: sets its days from 2000-01-01, and answers 0. Where there is no such day, or its number is
+ * not between INT32_MIN and INT32_MAX, which are the infinities, the answer is PGC_TRANSMIT, and `days` is as it was.
+ * The server takes dates from 4714-11-24 BC to 5874897-12-31. `parts` may not be NULL.
+ */
+uint32_t pgc_date_of_parts(const struct pgc_date_parts *parts, int32_t *days);
+
+/*
+ * Finds a time: sets its microseconds from midnight, and answers 0. Where there is no such time, as at the second 60 or
+ * after 24:00:00, the answer is PGC_TRANSMIT, and `microseconds` is as it was. `parts` may not be NULL.
+ */
+uint32_t pgc_time_of_parts(const struct pgc_time_parts *parts, int64_t *microseconds);
+
+/*
+ * Finds a timestamp: sets its microseconds from 2000-01-01 00:00:00, and answers 0. Where there is no such day or time,
+ * at 24:00:00 too, or the number is not between INT64_MIN and INT64_MAX, which are the infinities, the answer is
+ * PGC_TRANSMIT, and `microseconds` is as it was. The server takes timestamps from 4714-11-24 BC up to the end of the
+ * year 294276. `parts` may not be NULL.
+ */
+uint32_t pgc_timestamp_of_parts(const struct pgc_timestamp_parts *parts, int64_t *microseconds);
+
+/*
  * Reads interval: the microseconds in 8 bytes, then the days and the months in 4 each, big-endian, in two's complement.
  * Another length is PGC_SIZE. PostgreSQL 17 and later take it for infinity where the three parts are the greatest
  * numbers of their widths, and for -infinity where they are the least.
@@ -336,8 +405,8 @@ size_t pgc_interval_write(int64_t microseconds, int32_t days, int32_t months, vo
 /*
  * Writes the frame of a cell, as it stands in arrays, records, hstores, rows and lists of parameters: the length in 4
  * bytes, big-endian, and the `len` bytes from `cell` on, which may not lie in the buffer. A cell of more than
- * 2,147,483,647 bytes has no frame: the answer is PGC_NO_CELL. To frame a value where it is written, write it to
- * `out + 4`, and then what that answered to `out`, by pgc_int4_write.
+ * 2,147,483,647 bytes has no frame: the answer is PGC_NO_CELL. Arrays, records, hstores and lists of parameters are
+ * built by pgc_array_open and its like.
  */
 size_t pgc_frame_write(const void *cell, size_t len, void *out, size_t room);
 
@@ -359,16 +428,22 @@ struct pgc_element {
 /* What the functions of a walk answer where there is no further element. */
 #define PGC_END UINT32_MAX
 
+/* An array that was begun. */
+struct pgc_array {
+    struct pgc_walk walk; /* over its elements */
+    uint32_t element_oid; /* the OID of their type, as the cell states it */
+};
+
 /*
  * Reads the head of an array: in 4 bytes each, big-endian, the number of dimensions, the flags, the OID of the
- * elements' type, and for each dimension its length and its lower bound. `walk` is then at the first element.
+ * elements' type, and for each dimension its length and its lower bound. `array->walk` is then at the first element.
  *
  * A truncated number of dimensions is PGC_SIZE, a negative one PGC_COUNT, truncated flags or a truncated OID PGC_SIZE,
- * more than 1 dimension PGC_DIMENSIONS, a truncated dimension PGC_SIZE, and a negative length PGC_COUNT. The flags, the
- * OID and the lower bound are not looked at. What `walk->left` says was not compared with the length of the cell: take
- * no memory for as many elements before they are read.
+ * more than 1 dimension PGC_DIMENSIONS, a truncated dimension PGC_SIZE, and a negative length PGC_COUNT. The flags and
+ * the lower bound are not looked at, and any OID is taken. What `array->walk.left` says was not compared with the
+ * length of the cell: take no memory for as many elements before they are read.
  */
-uint32_t pgc_array_begin(const void *cell, size_t len, struct pgc_walk *walk);
+uint32_t pgc_array_begin(const void *cell, size_t len, struct pgc_array *array);
 
 /*
  * Reads the next element of an array, of which `walk` tells, over the same cell as pgc_array_begin: its length in 4
@@ -397,8 +472,8 @@ uint32_t pgc_hstore_begin(const void *cell, size_t len, struct pgc_walk *walk);
 /*
  * Reads the next entry of an hstore, as pgc_array_next reads an element: the length of the key and the key, and
  * likewise the value, of which every negative length is NULL. A truncated part is PGC_SIZE, a negative length of the
- * key PGC_KEY_LENGTH, and a text that is not UTF-8 PGC_UTF8. Of entries with one key the server and the library for
- * Rust take the last.
+ * key PGC_KEY_LENGTH, and a text that is not UTF-8 PGC_UTF8. Of entries with one key the server keeps one, and does
+ * not promise which; the library for Rust keeps the last.
  */
 uint32_t pgc_hstore_next(const void *cell, size_t len, struct pgc_walk *walk, struct pgc_entry *entry);
 
@@ -427,6 +502,135 @@ uint32_t pgc_record_next(const void *cell, size_t len, struct pgc_walk *walk, st
  * truncated number is PGC_SIZE, and a negative one, as the trailer of a COPY file has it, PGC_COUNT.
  */
 uint32_t pgc_row_begin(const void *body, size_t len, struct pgc_walk *walk);
+
+/*
+ * How far a cell is built that has items: an array, a record, an hstore, or the parameters of a Bind message. The cell
+ * grows from `out` on, in a buffer of `room` bytes that stays the same from the first push to the close:
+ *
+ *     struct pgc_builder builder;
+ *     pgc_array_open(&builder);
+ *     pgc_push(&builder, cell, len, out, room);
+ *     pgc_push_null(&builder, out, room);
+ *     size_t array_len = pgc_array_close(&builder, PGC_INT4_OID, out, room);
+ *
+ * Of all functions that push:
+ *
+ * - The answer is how many bytes the item takes. Where `builder->len` and as many are at most `room`, they were
+ *   written to `out + builder->len`, and the builder goes on by them; else the buffer and the builder are as they were.
+ *   No other byte of the buffer changes.
+ * - The answer is PGC_NO_CELL, and the buffer and the builder are as they were, where a cell has more than
+ *   2,147,483,647 bytes, and where the builder has 2,147,483,647 items.
+ * - What is pushed may not lie in the buffer, but for pgc_push_written and pgc_push_written_field.
+ *
+ * Of all functions that close: the answer is how many bytes the cell has. Where they are at most `room`, the head was
+ * written to `out`, and the cell is the buffer's first bytes; else nothing was. Where a builder left less room than the
+ * head takes the answer is PGC_NO_CELL. Closing leaves the builder as it is: more may be pushed, and it may be closed
+ * again.
+ *
+ * A builder is plain data. To take back items, put back a copy of the builder that was made before. For a buffer that
+ * grows, copy the first `builder->len` bytes, and push again what did not fit. To build a cell within another, open a
+ * second builder over `out + builder->len + 4` and the room that is left, and push what its close answers by
+ * pgc_push_written.
+ */
+struct pgc_builder {
+    size_t len;        /* how many bytes of the buffer the cell has so far, with the room for its head */
+    size_t count;      /* how many items it has */
+    uint32_t has_null; /* 0 where no item is NULL */
+};
+
+/* Begins an array of one dimension: 20 bytes are left for its head. */
+void pgc_array_open(struct pgc_builder *builder);
+
+/* Begins a list of parameters: 2 bytes are left for their number. */
+void pgc_params_open(struct pgc_builder *builder);
+
+/* Begins a record: 4 bytes are left for the number of its fields. */
+void pgc_record_open(struct pgc_builder *builder);
+
+/* Begins an hstore: 4 bytes are left for the count of its entries. */
+void pgc_hstore_open(struct pgc_builder *builder);
+
+/*
+ * Pushes an element of an array, or a parameter: the frame of the `len` bytes from `cell` on, as pgc_frame_write writes
+ * it. `cell` may not be NULL, even where `len` is 0.
+ */
+size_t pgc_push(struct pgc_builder *builder, const void *cell, size_t len, void *out, size_t room);
+
+/* Pushes an element or a parameter that is NULL, in 4 bytes. */
+size_t pgc_push_null(struct pgc_builder *builder, void *out, size_t room);
+
+/*
+ * Pushes an element or a parameter whose cell of `len` bytes stands at `out + builder->len + 4` already, where any
+ * function may have written it: its length is written before it. The answer counts both.
+ */
+size_t pgc_push_written(struct pgc_builder *builder, size_t len, void *out, size_t room);
+
+/* Pushes a field of a record: the OID of its type in 4 bytes, and then as pgc_push. */
+size_t pgc_push_field(struct pgc_builder *builder, uint32_t oid, const void *cell, size_t len, void *out, size_t room);
+
+/* Pushes a field that is NULL: the OID of its type, and then as pgc_push_null. */
+size_t pgc_push_null_field(struct pgc_builder *builder, uint32_t oid, void *out, size_t room);
+
+/* Pushes a field whose cell of `len` bytes stands at `out + builder->len + 8` already, as pgc_push_written. */
+size_t pgc_push_written_field(struct pgc_builder *builder, uint32_t oid, size_t len, void *out, size_t room);
+
+/*
+ * Pushes an entry of an hstore: the frames of its key and its value, which may not be NULL even where a length is 0.
+ * What is not UTF-8 has PGC_NO_CELL. Keys are not compared: of entries with one key the server keeps one.
+ */
+size_t pgc_push_entry(struct pgc_builder *builder, const void *key, size_t key_len, const void *value, size_t value_len,
+                      void *out, size_t room);
+
+/* Pushes an entry whose value is NULL: the frame of its key, and that of NULL. */
+size_t pgc_push_null_entry(struct pgc_builder *builder, const void *key, size_t key_len, void *out, size_t room);
+
+/*
+ * Closes an array: the number 1 of dimensions, the flags, which are 1 where an element is NULL and else 0, the OID of
+ * the elements' type, the number of elements, and the lower bound 1, in 4 bytes each, big-endian. More than
+ * 2,147,483,647 elements have no cell.
+ */
+size_t pgc_array_close(const struct pgc_builder *builder, uint32_t element_oid, void *out, size_t room);
+
+/*
+ * Closes a list of parameters: their number in 2 bytes, big-endian, as a Bind message has it before the frames. More
+ * than 65,535 parameters are no list.
+ */
+size_t pgc_params_close(const struct pgc_builder *builder, void *out, size_t room);
+
+/* Closes a record: the number of its fields in 4 bytes, big-endian. More than 2,147,483,647 fields have no cell. */
+size_t pgc_record_close(const struct pgc_builder *builder, void *out, size_t room);
+
+/* Closes an hstore: the count of its entries in 4 bytes, big-endian. More than 2,147,483,647 have no cell. */
+size_t pgc_hstore_close(const struct pgc_builder *builder, void *out, size_t room);
+
+/*
+ * Rewrites a cell of the built-in type with that OID: reads its value, and writes the cell of that value. The answer
+ * is 0, and `written` is set to how many bytes the new cell has; where the `room` bytes from `out` on are enough they
+ * begin with it afterwards, and no other byte of the buffer changes. Or the answer is the fault of the first check
+ * that the cell fails, and neither the buffer nor `written` changes. So with `room` 0 a cell is checked, and the new
+ * one measured. All cells of one value are rewritten to the same bytes:
+ *
+ * - bool is read as by pgc_bool_read, and written as 0 or 1.
+ * - bit and varbit are read as by pgc_varbit_read, and the bits that pad the last byte are written as 0.
+ * - inet and cidr are read as by pgc_inet_read and pgc_cidr_read, and the flag is written as 0, as everywhere here,
+ *   though the server's cidr_send sends 1.
+ * - "char", int2, int4, int8, oid, pg_lsn, date, time, timestamp, timestamptz, interval, uuid and macaddr are read as
+ *   by the functions that read them, and are written as they are, and so are text, varchar, bpchar, name and unknown,
+ *   which are read as by pgc_text_read, and bytea. Every number is taken for a value, whether the server takes it or
+ *   not.
+ * - An array of these but unknown is read as by pgc_array_begin and pgc_array_next: first the head is checked; then
+ *   each element in its order, the frame before the cell in it; and then that no bytes are left. It is written with
+ *   one dimension, also where it has no elements: in 4 bytes each the number 1, the flags, which are 1 where an
+ *   element is NULL and else 0, the OID of the elements' type, their number and the lower bound 1, and then the frames
+ *   of the rewritten elements. What the cell says of flags, OID and lower bound is not looked at.
+ * - int2vector and oidvector are arrays of int2 and oid with the lower bound 0. An element that is NULL is
+ *   PGC_WAS_NULL.
+ *
+ * Every other OID is PGC_WRONG_TYPE, whatever the cell: also those of json, jsonb and their arrays, since no document
+ * is parsed here, and those of user-defined types. The elements of an array are gone over once where the new cell does
+ * not fit into the buffer, and else twice.
+ */
+uint32_t pgc_rewrite(uint32_t oid, const void *cell, size_t len, void *out, size_t room, size_t *written);
 
 #ifdef __cplusplus
 }

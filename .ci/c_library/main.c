@@ -14,6 +14,9 @@ int main(void)
     try_readers();
     try_writers();
     try_walks();
+    try_builders();
+    try_rewriting();
+    try_parts();
     printf("c_library: %u answers, %u of them wrong\n", answers, wrong);
     return wrong != 0;
 }

@@ -184,22 +184,6 @@ static const struct row {
     ROW(interval, "0000000000000001 00000002 00000003 00", PGC_SIZE, "", "ssssssssssssssss."),
 };
 
-/* The fault of a front, by its character. */
-static uint32_t fault_of(char c)
-{
-    switch (c) {
-    case '.': return PGC_OK;
-    case 's': return PGC_SIZE;
-    case 'u': return PGC_UTF8;
-    case 'c': return PGC_COUNT;
-    case 'v': return PGC_TEXT_VERSION;
-    case 'f': return PGC_FAMILY;
-    case 'n': return PGC_NETMASK;
-    case 'a': return PGC_ADDRESS_LENGTH;
-    default: return UINT32_MAX;
-    }
-}
-
 static void try_row(const struct row *row)
 {
     uint8_t cell[64];

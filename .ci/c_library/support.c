@@ -50,6 +50,23 @@ size_t bytes_of(const char *digits, uint8_t *out)
     return len;
 }
 
+uint32_t fault_of(char c)
+{
+    switch (c) {
+    case '.': return PGC_OK;
+    case 's': return PGC_SIZE;
+    case 'u': return PGC_UTF8;
+    case 'c': return PGC_COUNT;
+    case 'd': return PGC_DIMENSIONS;
+    case 'v': return PGC_TEXT_VERSION;
+    case 'w': return PGC_WRONG_TYPE;
+    case 'f': return PGC_FAMILY;
+    case 'n': return PGC_NETMASK;
+    case 'a': return PGC_ADDRESS_LENGTH;
+    default: return UINT32_MAX;
+    }
+}
+
 uint8_t *buffer(size_t room)
 {
     uint8_t bytes[128];

@@ -22,13 +22,19 @@ uint8_t *buffer(size_t room);
 /* The bytes of hexadecimal digits, among which blanks stand. */
 size_t bytes_of(const char *digits, uint8_t *out);
 
+/* The fault of a front, by its character. */
+uint32_t fault_of(char c);
+
 /* Counts an answer, and prints what was found where it is wrong. */
 void expect(bool holds, const char *what, const char *row, size_t len, const char *found);
 
 /* What was written to a buffer: the cell, where it fits, and nothing else. */
 void expect_written(const char *call, const uint8_t *cell, size_t len, const uint8_t *out, size_t room);
 
+void try_builders(void);
+void try_parts(void);
 void try_readers(void);
+void try_rewriting(void);
 void try_walks(void);
 void try_writers(void);
 

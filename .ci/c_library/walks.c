@@ -12,26 +12,30 @@ static int show_element(char *text, const struct pgc_element *element)
     return sprintf(text, " %zu+%zu", element->bytes.offset, element->bytes.len);
 }
 
-/* Walks over an array, and tells its elements in turn: `N` of NULL, else their place and length; then a fault. */
+/*
+ * Walks over an array, and tells the OID and its elements in turn: `N` of NULL, else their place and length; then a
+ * fault.
+ */
 static void walk_array(const uint8_t *cell, size_t len, char *text)
 {
-    struct pgc_walk walk;
+    struct pgc_array array, before;
     struct pgc_element element;
-    memset(&walk, 0x5a, sizeof walk);
-    uint32_t fault = pgc_array_begin(cell, len, &walk);
+    memset(&array, 0x5a, sizeof array);
+    memcpy(&before, &array, sizeof array);
+    uint32_t fault = pgc_array_begin(cell, len, &array);
     if (fault) {
-        sprintf(text, "head fault %u", (unsigned)fault);
+        sprintf(text, "head fault %u%s", (unsigned)fault, memcmp(&array, &before, sizeof array) ? ", stored" : "");
         return;
     }
-    text += sprintf(text, "%zu:", walk.left);
-    while (!(fault = pgc_array_next(cell, len, &walk, &element))) {
+    text += sprintf(text, "%lu %zu:", (unsigned long)array.element_oid, array.walk.left);
+    while (!(fault = pgc_array_next(cell, len, &array.walk, &element))) {
         text += show_element(text, &element);
     }
     if (fault != PGC_END) {
         sprintf(text, " fault %u", (unsigned)fault);
     }
     for (int i = 0; i < 2; i++) {
-        if (pgc_array_next(cell, len, &walk, &element) != PGC_END) {
+        if (pgc_array_next(cell, len, &array.walk, &element) != PGC_END) {
             strcpy(text, " goes on after its end");
         }
     }
@@ -42,19 +46,21 @@ static const struct walk_row {
     const char *cell;
     const char *text;
 } array_rows[] = {
-    {"00000000 00000000 00000017", "0:"},
-    {"00000001 00000000 00000017 00000000 00000001", "0:"},
-    {"00000001 00000000 00000017 00000002 00000001 00000004 00000001 00000004 00000002", "2: 24+4 32+4"},
-    {"00000001 00000001 00000017 00000003 00000001 ffffffff 00000004 00000007 ffffffff", "3: N 28+4 N"},
-    {"00000001 00000000 00000019 00000003 00000005 00000000 00000003 616263 00000001 64", "3: 24+0 28+3 35+1"},
-    {"00000001 00000001 00000017 00000001 00000001 80000000", "1: N"},
+    {"00000000 00000000 00000017", "23 0:"},
+    {"00000001 00000000 00000017 00000000 00000001", "23 0:"},
+    {"00000001 00000000 00000017 00000002 00000001 00000004 00000001 00000004 00000002", "23 2: 24+4 32+4"},
+    {"00000001 00000001 00000017 00000003 00000001 ffffffff 00000004 00000007 ffffffff", "23 3: N 28+4 N"},
+    {"00000001 00000000 00000019 00000003 00000005 00000000 00000003 616263 00000001 64", "25 3: 24+0 28+3 35+1"},
+    {"00000001 00000001 00000017 00000001 00000001 80000000", "23 1: N"},
+    {"00000000 00000000 ffffffff", "4294967295 0:"},
+    {"00000001 01020304 05060708 00000000 090a0b0c", "84281096 0:"},
     {"00000002 00000000 00000017 00000001 00000001 00000001 00000001", "head fault 8"},
     {"ffffffff 00000000 00000017", "head fault 6"},
     {"00000001 00000000 00000017 ffffffff 00000001", "head fault 6"},
-    {"00000001 00000000 00000017 00000001 00000001 00000004 00000001 00", "1: 24+4 fault 4"},
-    {"00000000 00000000 00000017 00", "0: fault 4"},
-    {"00000001 00000000 00000017 7fffffff 00000001", "2147483647: fault 4"},
-    {"00000001 00000000 00000017 00000001 00000001 7fffffff 00", "1: fault 4"},
+    {"00000001 00000000 00000017 00000001 00000001 00000004 00000001 00", "23 1: 24+4 fault 4"},
+    {"00000000 00000000 00000017 00", "23 0: fault 4"},
+    {"00000001 00000000 00000017 7fffffff 00000001", "23 2147483647: fault 4"},
+    {"00000001 00000000 00000017 00000001 00000001 7fffffff 00", "23 1: fault 4"},
 };
 
 static void try_elements(const struct walk_row *row, void (*walk)(const uint8_t *, size_t, char *))

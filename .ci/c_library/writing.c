@@ -83,6 +83,30 @@ static void try_other_writers(void)
     REFUSES(pgc_inet_write(&long_v6, out, room));
 }
 
+static void try_networks(void)
+{
+    static const struct pgc_inet all = {PGC_IPV4, 0, {0}};
+    static const struct pgc_inet v4 = {PGC_IPV4, 23, {192, 168, 2, 0, 9, 9}};
+    static const struct pgc_inet host = {PGC_IPV4, 22, {192, 168, 2, 0}};
+    static const struct pgc_inet single = {PGC_IPV4, 32, {192, 168, 0, 1}};
+    static const struct pgc_inet v6 = {PGC_IPV6, 33, {0x20, 1, 0xd, 0xb8, 0x80}};
+    static const struct pgc_inet host_v6 = {PGC_IPV6, 127, {0x20, 1, 0xd, 0xb8, [15] = 1}};
+    static const struct pgc_inet single_v6 = {PGC_IPV6, 128, {0x20, 1, 0xd, 0xb8, [15] = 1}};
+    static const struct pgc_inet other = {4, 24, {192, 168, 0, 0}};
+    static const struct pgc_inet long_v4 = {PGC_IPV4, 33, {192, 168, 0, 0}};
+    static const struct pgc_inet long_v6 = {PGC_IPV6, 129, {0x20}};
+    WRITES("02000004 00000000", pgc_cidr_write(&all, out, room));
+    WRITES("02170004 c0a80200", pgc_cidr_write(&v4, out, room));
+    WRITES("02200004 c0a80001", pgc_cidr_write(&single, out, room));
+    WRITES("03210010 20010db8 80000000 00000000 00000000", pgc_cidr_write(&v6, out, room));
+    WRITES("03800010 20010db8 00000000 00000000 00000001", pgc_cidr_write(&single_v6, out, room));
+    REFUSES(pgc_cidr_write(&host, out, room));
+    REFUSES(pgc_cidr_write(&host_v6, out, room));
+    REFUSES(pgc_cidr_write(&other, out, room));
+    REFUSES(pgc_cidr_write(&long_v4, out, room));
+    REFUSES(pgc_cidr_write(&long_v6, out, room));
+}
+
 /* Writes an array of an int4 and NULL, part after part, and returns how many bytes it has. */
 static size_t write_array(uint8_t *out, size_t room)
 {
@@ -156,6 +180,7 @@ void try_writers(void)
 {
     try_plain_writers();
     try_other_writers();
+    try_networks();
     try_frames();
     try_fault_texts();
 }

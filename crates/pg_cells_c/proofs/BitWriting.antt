@@ -25,7 +25,7 @@ many_bits n p old new len whole past is count =
     let same : (length p == bytes_for n) ≡ true = grind (arith, nat_tests) in rw (same, cell_past n p past) (is, count)
 
 -- the cell of bits
-cell_within : (n : ℕ) (p : List ℕ) → n ≤ max_length → bits_cell (first_bits n p)
+pub cell_within : (n : ℕ) (p : List ℕ) → n ≤ max_length → bits_cell (first_bits n p)
     ≡ Some (be w32 (pos n) ++ packed (first_bits n p))
 cell_within n p h =
     let within : fits_prefix n ≡ true = grind (arith, nat_tests) in

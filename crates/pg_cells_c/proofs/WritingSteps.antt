@@ -36,7 +36,8 @@ no_utf8_by : (text : List ℕ) (is : Bool) → is_utf8 text ≡ is → (IsUtf8 t
 no_utf8_by text true e not_text = absurd (not_text (IsUtf8-from_is_utf8 text e))
 no_utf8_by text false e not_text = e
 
-no_utf8 : (text : List ℕ) → (IsUtf8 text → ⊥) → is_utf8 text ≡ false
+-- bytes that are no text are not UTF-8
+pub no_utf8 : (text : List ℕ) → (IsUtf8 text → ⊥) → is_utf8 text ≡ false
 no_utf8 text = no_utf8_by text (is_utf8 text) refl
 
 -- how many bytes three parts have

@@ -3,7 +3,7 @@ use Rattle.std.specs.Prelude.{◌≡◌, ◌==◌, ◌||◌, ◌&&◌, ℕ, ◌-
 use Rattle.std.specs.Prelude.{if◌then◌else◌}
 use Rattle.pg_base.specs.Appending.{Wire}
 use Rattle.pg_base.specs.Network.{FormCidr, FormInet, Network, address_len, address_octets, family_len, family_of}
-use Rattle.pg_base.specs.Network.{netmask_fits}
+use Rattle.pg_base.specs.Network.{host_part, netmask_fits}
 use Rattle.pg_types.specs.Faults.{transmit}
 use Rattle.pg_cells_c.specs.declared.network.Inet.{Inet}
 
@@ -34,3 +34,7 @@ octets_in v = take (family_len v.family) v.octets
 abbrev pub wire_inet_parts : Inet → Wire
 wire_inet_parts v =
     if is_inet v then Ok (Some (v.family ∷ v.netmask ∷ 0 ∷ family_len v.family ∷ octets_in v)) else Err transmit
+
+-- the cell of a network: that of an address with its netmask, where no bit of the address after the netmask is 1
+abbrev pub wire_cidr_parts : Inet → Wire
+wire_cidr_parts v = if host_part (octets_in v) v.netmask == 0 then wire_inet_parts v else Err transmit

@@ -12,7 +12,7 @@ pub record Stores {A : Type 0} (read : Result A Fault) (old new : A) (code : ℕ
 abbrev pub IsRefused : {A : Type 0} → (Outcome A → Type 0) → A → A → ℕ → Type 0
 IsRefused R old new code = (r : Refusal) × (code ≡ number_of r) × R (Err r) × (new ≡ old)
 
--- a call read an outcome that R allows into a variable: the answer is 0 and the variable has the value, or it is refused.
--- It is never out of memory
+-- a call read an outcome that R allows into a variable: the answer is 0 and the variable has the value, or it is
+-- refused. It is never out of memory
 unfoldable pub ReadsInto : {A : Type 0} → (Outcome A → Type 0) → A → A → ℕ → Type 0
 ReadsInto R old new code = ((code ≡ 0) × R (Ok new)) ⊎ IsRefused R old new code

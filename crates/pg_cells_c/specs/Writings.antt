@@ -1,5 +1,6 @@
 -- What a writer leaves in the caller's buffer.
-use Rattle.std.specs.Prelude.{◌≡◌, ℕ, ◌-◌, ◌^◌, ◌==◌, List, ◌++◌, length, drop, nat_le, if◌then◌else◌, Some, None, Ok, Err}
+use Rattle.std.specs.Prelude.{◌≡◌, ℕ, ◌-◌, ◌^◌, ◌==◌, List, ◌++◌, length, drop, nat_le, if◌then◌else◌, Some, None, Ok}
+use Rattle.std.specs.Prelude.{Err}
 use Rattle.pg_base.specs.Appending.{Wire}
 use Rattle.pg_base.specs.Bits.{bytes_for, first_bits, wire_bits}
 use Rattle.pg_types.specs.Faults.{transmit}

@@ -1,7 +1,11 @@
 //! Walks over the elements of an array.
-ghost use Rattle.pg_base.specs.Arrays.{SpellsHead, head_checks};
+ghost use Rattle.std.specs.Prelude.{◌≤◌, drop, length, take};
+ghost use Rattle.std.specs.Int.{w32};
+ghost use Rattle.pg_base.specs.Arrays.{head_checks};
+ghost use Rattle.pg_base.specs.Cells.{IsBeUnsigned};
 ghost use Rattle.pg_base.specs.Counts.{TakesNext, cell_checks};
 ghost use Rattle.pg_base.specs.Formats.{Decodes, first_fault_of};
+ghost use Rattle.pg_cells_c.specs.Arrays.{SpellsArray};
 ghost use Rattle.pg_cells_c.specs.Readings.{ReadsInto};
 ghost use Rattle.pg_cells_c.specs.Walks.{SpellsElement, StepsInto, to_read};
 ghost use Rattle.pg_types.specs.Faults.{Answers, NeverMemory};
@@ -12,30 +16,50 @@ use pg_base::protocol::array_from_sql;
 use pg_types::fault::Fault;
 use std::alloc::Global;
 
-/// Where the elements of an array begin, and how many there are.
+/// An array: the walk over its elements, and the OID of their type.
+#[derive(Clone, Copy)]
+#[repr(C)]
+pub struct Array {
+    pub walk: Walk,
+    pub element_oid: u32,
+}
+
+/// The OID of the elements' type, which stands in the head after the number of dimensions and the
+/// flags.
 #[inline(always)]
-fn array_in(alloc: Global, cell: &[u8]) -> Result<Walk, Fault>
-    ensures outcome { Answers (Decodes (λ b walk. SpellsHead b (to_read b walk))
-        (λ b. first_fault_of (head_checks b)) cell.now) result }
+fn element_oid(cell: &[u8]) -> u32
+    requires { 12 ≤ length cell.now }
+    ensures { IsBeUnsigned w32 (take 4 (drop 8 cell.now)) result }
+{
+    u32::from_be_bytes([cell[8], cell[9], cell[10], cell[11]])
+}
+
+/// The array of a cell, of which the elements are still to be read.
+#[inline(always)]
+fn array_in(alloc: Global, cell: &[u8]) -> Result<Array, Fault>
+    ensures outcome { Answers (Decodes SpellsArray (λ b. first_fault_of (head_checks b)) cell.now) result }
     ensures never_memory { NeverMemory result }
 {
     let cells = array_from_sql(alloc, cell)?;
     // The head of an array without a dimension is shorter by that dimension.
     let offset = if cell.starts_with(&[0; 4]) { 12 } else { 20 };
-    Ok(Walk {
-        left: cells.len(),
-        offset,
+    Ok(Array {
+        walk: Walk {
+            left: cells.len(),
+            offset,
+        },
+        element_oid: element_oid(cell),
     })
 }
 
 /// Reads the head of an array. For C the first parameter is none, since it has no bytes.
 #[unsafe(no_mangle)]
 #[tactic(auto, using(crate::proofs::ReadingSteps::reads_into))]
-pub extern "C" fn pgc_array_begin(alloc: Global, cell: &[u8], walk: &mut Walk) -> u32
-    ensures { ReadsInto (Decodes (λ b walk. SpellsHead b (to_read b walk))
-        (λ b. first_fault_of (head_checks b)) cell.now) walk.old walk.new result }
+pub extern "C" fn pgc_array_begin(alloc: Global, cell: &[u8], array: &mut Array) -> u32
+    ensures { ReadsInto (Decodes SpellsArray (λ b. first_fault_of (head_checks b)) cell.now)
+        array.old array.new result }
 {
-    store(array_in(alloc, cell), walk)
+    store(array_in(alloc, cell), array)
 }
 
 /// Reads the next element of an array.

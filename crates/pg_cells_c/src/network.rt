@@ -1,10 +1,13 @@
 //! Addresses with their netmasks.
 #![tactic(auto, using(crate::proofs::ReadingSteps::reads_into))]
 
-ghost use Rattle.std.specs.Prelude.{◌≡◌, MatchOption, true, false};
+ghost use Rattle.std.specs.Prelude.{◌≡◌, ◌==◌, MatchOption, true, false};
+ghost use Rattle.std.specs.Net.Addr.{ipv6_octets};
 ghost use Rattle.pg_base.specs.Formats.{Decodes};
-ghost use Rattle.pg_base.specs.Network.{family_len, first_fault_cidr, first_fault_inet, with_netmask};
-ghost use Rattle.pg_cells_c.specs.Networks.{FormCidrParts, FormInetParts, IsNetwork, is_inet, wire_inet_parts};
+ghost use Rattle.pg_base.specs.Network.{address_octets, family_len, family_of, first_fault_cidr, first_fault_inet};
+ghost use Rattle.pg_base.specs.Network.{host_part, with_netmask};
+ghost use Rattle.pg_cells_c.specs.Networks.{FormCidrParts, FormInetParts, IsNetwork, is_inet, octets_in};
+ghost use Rattle.pg_cells_c.specs.Networks.{wire_cidr_parts, wire_inet_parts};
 ghost use Rattle.pg_cells_c.specs.Readings.{ReadsInto};
 ghost use Rattle.pg_cells_c.specs.Writings.{WritesCell};
 ghost use Rattle.pg_types.specs.Faults.{Answers, NeverMemory};
@@ -14,7 +17,7 @@ use crate::store::store;
 use pg_base::network::IpCidr;
 use pg_base::protocol::inet_from_sql;
 use pg_types::fault::Fault;
-use std::net::IpAddr;
+use std::net::{IpAddr, Ipv4Addr, Ipv6Addr};
 
 /// The number of the family of IPv4 addresses.
 const IPV4: u8 = 2;
@@ -116,4 +119,45 @@ pub extern "C" fn pgc_cidr_read(cell: &[u8], cidr: &mut Inet) -> u32
     ensures { ReadsInto (Decodes FormCidrParts first_fault_cidr cell.now) cidr.old cidr.new result }
 {
     store(cidr_in(cell), cidr)
+}
+
+/// The IPv6 address of these octets.
+#[tactic(auto, using(pg_base::proofs::Octets::octets_back))]
+fn v6_of(octets: &[u8; 16]) -> Ipv6Addr
+    ensures { ipv6_octets result ≡ octets.now }
+{
+    Ipv6Addr::from_octets(*octets)
+}
+
+/// The address without its netmask.
+#[tactic(auto, using(crate::proofs::NetworkSteps::v6_octets))]
+fn address_of(inet: &Inet) -> IpAddr
+    ensures { is_inet inet.now ≡ true
+        → (family_of result ≡ inet.now.family) × (address_octets result ≡ octets_in inet.now) }
+{
+    if inet.family == IPV4 {
+        let [a, b, c, d, ..] = inet.octets;
+        IpAddr::V4(Ipv4Addr::from_octets([a, b, c, d]))
+    } else {
+        IpAddr::V6(v6_of(&inet.octets))
+    }
+}
+
+/// Whether no bit of the address after the netmask is 1.
+fn is_network(inet: &Inet) -> bool
+    ensures { is_inet inet.now ≡ true → result ≡ (host_part (octets_in inet.now) inet.now.netmask == 0) }
+{
+    IpCidr::new(address_of(inet), inet.netmask).is_ok()
+}
+
+/// Writes CIDR. Where [`pgc_inet_write`] has no cell, or a bit of the address after the netmask is
+/// 1, there is none.
+#[unsafe(no_mangle)]
+pub extern "C" fn pgc_cidr_write(cidr: &Inet, out: &mut [u8]) -> usize
+    ensures { WritesCell (wire_cidr_parts cidr.now) out.old out.new result }
+{
+    if !is_network(cidr) {
+        return NO_CELL;
+    }
+    pgc_inet_write(cidr, out)
 }

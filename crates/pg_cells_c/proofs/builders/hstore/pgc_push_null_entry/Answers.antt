@@ -1,0 +1,7 @@
+-- What the proof of `pgc_push_null_entry` answers by hand.
+use Rattle.std.specs.Prelude.{None, true}
+use Rattle.pg_cells_c.proofs.PushSteps.{no_key}
+use Rattle.pg_cells_c.proofs.builders.hstore.pgc_push_null_entry.Goals as goal
+
+pub returns-in_default : goal.returns-in_default
+returns-in_default c = no_key c.args.key.now None true c.args.builder.now c.args.out.now c.in_default.ensures
