@@ -1,0 +1,3 @@
+-- The laws of this crate's types.
+pub mod Numeric
+pub mod NumericOrder

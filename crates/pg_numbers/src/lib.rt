@@ -1,0 +1,11 @@
+//! NUMERIC, FLOAT4 and FLOAT8, as types of a user's own: made by `Type::new`, with the traits and the laws of the
+//! library.
+#![tactic(auto)]
+
+mod catalog;
+mod float;
+mod numeric;
+pub mod types;
+
+pub use float::{Float4, Float8, FloatText, ParseFloatError, TEXT_LEN};
+pub use numeric::{Decimal, MAX_SCALE, Numeric};

@@ -1,0 +1,105 @@
+//! Reading NUMERIC, and writing it.
+ghost use Rattle.std.specs.Prelude.{◌≡◌, true};
+ghost use Rattle.pg_types.specs.Content.{content};
+ghost use Rattle.postgres_types.specs.Conversion.{BackKept, NullAlone, codes, equal_equivalence, refl};
+ghost use Rattle.pg_numbers.specs.Laws.Numeric.{numeric_lawful, numeric_single};
+ghost use Rattle.pg_numbers.specs.NumericCells.{ReadsNumeric, accepted_numeric, wire_numeric};
+
+use super::Numeric;
+use super::cell::{numeric_from_sql, numeric_to_sql};
+use crate::catalog::is_catalog_type;
+use postgres_types::private::BytesMut;
+use postgres_types::{Fault, Format, FromSql, IsNull, Paired, ToSql, Type, check_type};
+use std::alloc::Global;
+
+/// Whether it is the type numeric: the simple one of that name in the schema `pg_catalog`, with the
+/// OID 1700.
+fn is_numeric(ty: &Type) -> bool
+    ensures { result ≡ accepted_numeric (content ty.now) }
+{
+    is_catalog_type("numeric", 1700, ty)
+}
+
+/// NUMERIC: in two bytes each, big-endian, the number of digits, the weight of the first, the sign and
+/// the scale, and then the digits to the base 10,000 (`numeric_recv`).
+///
+/// Fewer than 8 bytes are `Size`. Then another sign than those of a number, 0 and 0x4000, of NaN,
+/// 0xC000, and of the infinities, 0xD000 and 0xF000, and a scale of more than 16,383, is `User`;
+/// another number of bytes than the digits take is `Size`; and a digit of more than 9,999 is `User`.
+/// NULL is `WasNull`.
+///
+/// As the server does, it reads a number without the decimals that its scale does not show, and
+/// without zeros before its first digit and after its last one; a negative zero is zero. Of NaN and
+/// the infinities the other parts are not kept.
+impl<'a> FromSql<'a> for Numeric {
+    ghost same = { λ v w. v ≡ w };
+
+    ghost accepted = { accepted_numeric };
+
+    ghost reads = { λ _. ReadsNumeric };
+
+    ghost memory_free = { NullAlone };
+
+    ghost equivalence = { equal_equivalence };
+
+    ghost single = { λ _ _. numeric_single };
+
+    fn from_sql(alloc: Global, _ty: &Type, raw: &'a [u8]) -> Result<Numeric, Fault> {
+        numeric_from_sql(alloc, raw)
+    }
+
+    fn from_sql_null(_alloc: Global, _ty: &Type) -> Result<Numeric, Fault> {
+        Err(Fault::WasNull)
+    }
+
+    fn accepts(ty: &Type) -> bool {
+        is_numeric(ty)
+    }
+}
+
+/// NUMERIC: in two bytes each, big-endian, the number of digits, the weight of the first, the sign and
+/// the scale, and then the digits to the base 10,000 (`numeric_send`). NaN and the infinities have no
+/// digits and the weight 0; the scale of NaN is 0, and that of the infinities 32.
+impl ToSql for Numeric {
+    ghost accepted = { accepted_numeric };
+
+    ghost name = { codes "Numeric" };
+
+    ghost wire = { λ _. wire_numeric };
+
+    ghost by_room = { λ _. Unit {0} };
+
+    ghost refuses_memory_free = { true };
+
+    fn to_sql(&self, _alloc: Global, _ty: &Type, out: &mut BytesMut) -> Result<IsNull, Fault> {
+        numeric_to_sql(self, out)?;
+        Ok(IsNull::No)
+    }
+
+    fn accepts(ty: &Type) -> bool {
+        is_numeric(ty)
+    }
+
+    fn to_sql_checked(
+        &self,
+        alloc: Global,
+        ty: &Type,
+        out: &mut BytesMut,
+    ) -> Result<IsNull, Fault> {
+        check_type(<Numeric as ToSql>::accepts(ty), ty, "Numeric")?;
+        self.to_sql(alloc, ty, out)
+    }
+
+    fn encode_format(&self, _ty: &Type) -> Format {
+        Format::Binary
+    }
+}
+
+/// A value of NUMERIC is read back as itself, with its scale.
+impl<'a> Paired<'a> for Numeric {
+    ghost back = { λ _. BackKept (λ v w. v ≡ w) };
+
+    ghost types = { λ _. refl };
+
+    ghost lawful = { λ _ _. numeric_lawful };
+}

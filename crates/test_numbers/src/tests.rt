@@ -1,0 +1,4 @@
+//! The tests, by type.
+
+mod floats;
+mod numeric;
