@@ -13,7 +13,9 @@ pub mod numbers;
 pub mod texts;
 pub mod types;
 pub mod user_types;
+pub mod user_values;
 
+use std::io::{self, BufWriter, Write};
 use types::Type;
 
 /// Why a value is not read or not written, by the numbers of docs/SPECIFICATION.md.
@@ -28,6 +30,24 @@ pub enum Fault {
     Decode = 11, Transmit = 12, JsonVersion = 13, TextVersion = 14, JsonText = 15, JsonNumber = 16, Family = 17,
     Netmask = 18, AddressLength = 19, HostBits = 20, User = 21, FieldCount = 22, FieldOid = 23,
 }
+
+/// What the work returns; it does not panic.
+pub fn caught<T>(work: impl FnOnce() -> T) -> Option<T> {
+    Some(work())
+}
+
+/// What answers are written to.
+pub fn output() -> impl Write {
+    BufWriter::new(io::stdout().lock())
+}
+
+/// The number of a fault.
+pub fn number_of(fault: &Fault) -> u8 {
+    *fault as u8
+}
+
+/// What values are written to.
+pub type Buf = Vec<u8>;
 
 #[derive(Clone, Copy, PartialEq, Eq)]
 pub enum IsNull {

@@ -1,8 +1,8 @@
 """The cases of crates/benchmark that scripts/bench measures: conversions, rows, parameters and types."""
 import os
 
-from measuring import (EQUAL_TERMS, TOP, Program, Work, compare, counts_of, least_times, plain_rust, row, said_of, shown, table,
-                       times_of)
+from measuring import (EQUAL_TERMS, TOP, Program, Work, compare, counts_of, head, least_times, plain_rust, row, said_of, shown,
+                       table, times_of)
 
 CRATE = f"{TOP}/crates/benchmark"
 # Conversions that are read and written, and how many items a turn of theirs has: values, entries, elements, or bytes.
@@ -48,11 +48,16 @@ def work_of(case, turns):
     return Work((case, str(turns)))
 
 
-def built(given, folder, equal_terms=False):
-    """Returns the library's program, which is proved and built first where it is not given, and plain Rust."""
+def library(given):
+    """Returns the library's program, which is proved and built first where it is not given."""
     if not given:
         said_of(["rt", "run", "--jobs", str(os.cpu_count()), "--", "read-int4", "1"], CRATE)
-    return [Program(given or f"{CRATE}/out/benchmark"), plain_rust("plain", folder, EQUAL_TERMS if equal_terms else ())]
+    return Program(given or f"{CRATE}/out/benchmark")
+
+
+def built(given, folder, equal_terms=False):
+    """Returns the library's program and plain Rust."""
+    return [library(given), plain_rust("plain", folder, EQUAL_TERMS if equal_terms else ())]
 
 
 def times_of_case(programs, case):
@@ -75,7 +80,7 @@ def row_of(programs, case, before):
 
 def show_table(programs, cases, _folder, passes):
     before = [{case: times_of_case(programs, case) for case in cases} for _ in range(1, passes)]
-    table("case", "an item", "a turn", (row_of(programs, case, [it[case] for it in before]) for case in cases))
+    table(head("case", "an item", "a turn"), (row_of(programs, case, [it[case] for it in before]) for case in cases))
 
 
 def smoke(programs, cases, _folder):

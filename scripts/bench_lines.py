@@ -2,7 +2,7 @@
 import re
 import sys
 
-from measuring import TOP, Program, Work, compare, counts_of, least_times, plain_rust, row, said_of, shown, table, times_of
+from measuring import TOP, Program, Work, compare, counts_of, head, least_times, plain_rust, row, said_of, shown, table, times_of
 
 sys.path.append(f"{TOP}/.ci")
 from formats import FORMATS, array, forms, framed
@@ -13,8 +13,8 @@ COUNTED = 2_000
 
 
 def plain_names():
-    """The base names of the table in bench/plain_pgcell.rs, which has no need to have each one of pgcell."""
-    with open(f"{TOP}/bench/plain_pgcell.rs", encoding="utf-8") as it:
+    """The base names of the table in bench/lines.rs, which has no need to have each one of pgcell."""
+    with open(f"{TOP}/bench/lines.rs", encoding="utf-8") as it:
         table = re.search(r"^base_names! \{\n(.*?)^\}", it.read(), flags=re.M | re.S)[1]
     return re.findall(r'^    "(\w+)": ', table, flags=re.M)
 
@@ -100,7 +100,7 @@ def row_of(programs, name, folder, before):
 
 def show_table(programs, names, folder, passes):
     before = [{name: times_of_line(programs, name, folder) for name in names} for _ in range(1, passes)]
-    table("name", "a line", "a line", (row_of(programs, name, folder, [it[name] for it in before]) for name in names))
+    table(head("name", "a line", "a line"), (row_of(programs, name, folder, [it[name] for it in before]) for name in names))
 
 
 def smoke(programs, names, folder):

@@ -29,17 +29,21 @@ class Work:
 @dataclass(frozen=True)
 class Program:
     path: str
+    words: tuple = ()  # those that come before the work's
+
+    def command(self, work):
+        return [self.path, *self.words, *work.words]
 
     def done(self, work, is_kept=True):
         """Does the work: what the process used, and what it printed where that is kept."""
         with open(work.source, "rb") as source:
             sink = subprocess.PIPE if is_kept else subprocess.DEVNULL
-            child = subprocess.Popen([self.path, *work.words], stdin=source, stdout=sink, env={**os.environ, **KEEPS_MEMORY})
+            child = subprocess.Popen(self.command(work), stdin=source, stdout=sink, env={**os.environ, **KEEPS_MEMORY})
         printed = child.stdout.read() if is_kept else b""
         _, status, usage = os.wait4(child.pid, 0)
         child.returncode = os.waitstatus_to_exitcode(status)
         if child.returncode:
-            sys.exit(f"bench: {' '.join([self.path, *work.words])} failed")
+            sys.exit(f"bench: {' '.join(self.command(work))} failed")
         return usage, printed
 
     def run(self, work, is_kept=True):
@@ -50,17 +54,20 @@ class Program:
     def resident(self, work):
         """Does the work: the most bytes that the process had resident."""
         with open(work.source, "rb") as source:
-            ran = subprocess.run(timed([self.path, *work.words]), stdin=source, stdout=subprocess.DEVNULL,
+            ran = subprocess.run(timed(self.command(work)), stdin=source, stdout=subprocess.DEVNULL,
                                  stderr=subprocess.PIPE, check=True)
         return used(ran.stderr)[1]
 
-    def counts(self, work):
-        """Returns how many instructions and how many allocations valgrind counts in the work."""
-        command = [self.path, *work.words]
+    def instructions(self, work):
+        """Returns how many instructions valgrind counts in the work."""
         cachegrind = ["--tool=cachegrind", "--cache-sim=no", "--cachegrind-out-file=/dev/null"]
-        instructions = said_of(["valgrind", *cachegrind, *command], source=work.source)
-        allocations = said_of(["valgrind", *command], source=work.source)
-        return number(r"I\s+refs:\s+([\d,]+)", instructions), number(r"total heap usage: ([\d,]+) allocs", allocations)
+        told = said_of(["valgrind", *cachegrind, *self.command(work)], source=work.source)
+        return number(r"I\s+refs:\s+([\d,]+)", told)
+
+    def allocations(self, work):
+        """Returns how many allocations valgrind counts in the work."""
+        told = said_of(["valgrind", *self.command(work)], source=work.source)
+        return number(r"total heap usage: ([\d,]+) allocs", told)
 
 
 def timed(command):
@@ -99,8 +106,8 @@ def compare(name, printed):
     """Ends the script at the first line that one program printed and the other did not."""
     if len(set(printed)) > 1:
         lines = zip_longest(*(text.split(b"\n") for text in printed))
-        ours, plain = next(pair for pair in lines if len(set(pair)) > 1)
-        sys.exit(f"bench: {name}: {ours!r}, and by plain Rust {plain!r}")
+        ours, *others = next(pair for pair in lines if len(set(pair)) > 1)
+        sys.exit(f"bench: {name}: {ours!r}, and by what it is compared with {others!r}")
 
 
 def measured(programs, work, is_kept=True):
@@ -129,7 +136,12 @@ def counts_of(program, once, often, turns):
     """Returns the instructions and the allocations of a turn, or nothing where valgrind is not there."""
     if not shutil.which("valgrind"):
         return None, None
-    return [(last - first) / turns for last, first in zip(program.counts(often), program.counts(once))]
+    return [(count(often) - count(once)) / turns for count in (program.instructions, program.allocations)]
+
+
+def instructions_of(program, once, often, turns):
+    """Returns the instructions of a turn."""
+    return (program.instructions(often) - program.instructions(once)) / turns
 
 
 def shown(count, digits):
@@ -143,11 +155,15 @@ def row(name, times, instructions, allocations):
     return f"| {' | '.join(cells)} |"
 
 
-def table(case, item, turn, rows):
+def head(case, item, turn):
+    """Returns the head of a table in which each second number is of plain Rust."""
+    return [case, f"ns {item}", "plain Rust", "ratio", f"instructions {item}", "plain Rust", f"allocations {turn}", "plain Rust"]
+
+
+def table(columns, rows):
     """Prints the table of the rows, as each is measured."""
     load = os.getloadavg()[0]
-    head = [case, f"ns {item}", "plain Rust", "ratio", f"instructions {item}", "plain Rust", f"allocations {turn}", "plain Rust"]
-    print(f"| {' | '.join(head)} |\n{'|---' * len(head)}|")
+    print(f"| {' | '.join(columns)} |\n{'|---' * len(columns)}|")
     for line in rows:
         print(line, flush=True)
     print(f"\n{os.cpu_count()} processors; load {load:.1f} before, {os.getloadavg()[0]:.1f} after.")

@@ -1,4 +1,4 @@
-"""The numbers of docs/PERFORMANCE.md: of each case that is compared with plain Rust, the ratio of their times."""
+"""The numbers of docs/PERFORMANCE.md and bench/pgcell.md: of each case that is compared, its ratios to the others."""
 import os
 import re
 import sys
@@ -6,6 +6,8 @@ from dataclasses import dataclass
 
 TOP = os.path.dirname(os.path.dirname(os.path.abspath(__file__)))
 DOCUMENT = "docs/PERFORMANCE.md"
+# The section whose tables stand in a file of their own.
+ELSEWHERE = {"The program pgcell": "bench/pgcell.md"}
 
 
 @dataclass
@@ -13,8 +15,7 @@ class Case:
     name: str
     series: str  # read, write, or nothing
     ratio: float
-    equal: float | None  # the ratio on equal terms, and that of the instructions there
-    instructions: float | None
+    in_one: float | None  # the ratio of the two numbers before it, of which the other is the crate's program of all cases
 
 
 def read(path):
@@ -23,7 +24,9 @@ def read(path):
 
 
 def section(title):
-    """Returns the document's section of that title."""
+    """Returns the document's section of that title, or the file that has its tables."""
+    if title in ELSEWHERE:
+        return read(ELSEWHERE[title])
     return read(DOCUMENT).partition(f"\n## {title}\n")[2].partition("\n## ")[0]
 
 
@@ -36,7 +39,8 @@ def tables(text):
 
 def number(row, at):
     """Returns the number in that column of a row, or nothing where there is none."""
-    return float(row[at]) if at < len(row) and re.fullmatch(r"[\d.]+", row[at]) else None
+    text = row[at].replace(",", "") if at < len(row) else ""
+    return float(text) if re.fullmatch(r"[\d.]+", text) else None
 
 
 def cases(title):
@@ -45,11 +49,11 @@ def cases(title):
     for head, rows in tables(section(title)):
         for at in [at for at, it in enumerate(head) if it == "ratio"]:
             name = max(it for it in range(at) if head[it] in ("case", "name"))
-            series = head[at - 1] if head[at - 1] in ("read", "write") else ""
-            has_equal = head[at + 1 : at + 2] == ["equal"]
+            series = next((it for it in head[at - 1:name:-1] if it in ("read", "write")), "")
             for row in rows:
-                terms = [number(row, at + 1), number(row, at + 2)] if has_equal else [None, None]
-                found.append(Case(row[name], series, number(row, at), *terms))
+                if number(row, at) is not None:
+                    in_one = number(row, at - 2) / number(row, at - 1) if head[at - 1] == "crate" else None
+                    found.append(Case(row[name], series, number(row, at), in_one))
     if not found:
         sys.exit(f"{DOCUMENT}: no table of ratios in the section {title}")
     return found

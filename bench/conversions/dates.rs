@@ -56,6 +56,30 @@ pub struct UnixTime {
     pub nanos: u32,
 }
 
+pub fn date(year: i16, month: i8, day: i8) -> Date {
+    Date { year, month, day }
+}
+
+pub fn time(hour: i8, minute: i8, second: i8, nanos: i32) -> Time {
+    Time { hour, minute, second, subsec_nanosecond: nanos }
+}
+
+pub fn date_time(date: Date, time: Time) -> DateTime {
+    DateTime { date, time }
+}
+
+/// The instant of a second and the nanoseconds after it.
+pub fn timestamp(second: i64, nanosecond: i32) -> Timestamp {
+    if second < 0 && nanosecond > 0 {
+        return Timestamp { second: second + 1, nanosecond: nanosecond - 1_000_000_000 };
+    }
+    Timestamp { second, nanosecond }
+}
+
+pub fn unix_time(secs: i64, nanos: u32) -> UnixTime {
+    UnixTime { secs, nanos }
+}
+
 impl Date {
     /// The date of days from 2000-01-01, by the algorithm of Neri and Schneider, whose years begin in March.
     fn from_days(days: i32) -> Result<Date, Fault> {
@@ -124,14 +148,6 @@ impl DateTime {
 }
 
 impl Timestamp {
-    /// The instant of a second and the nanoseconds after it.
-    pub fn new(second: i64, nanosecond: i32) -> Timestamp {
-        if second < 0 && nanosecond > 0 {
-            return Timestamp { second: second + 1, nanosecond: nanosecond - 1_000_000_000 };
-        }
-        Timestamp { second, nanosecond }
-    }
-
     fn from_micros(micros: i64) -> Result<Timestamp, Fault> {
         if !(MIN_INSTANT..=MAX_INSTANT).contains(&micros) {
             return Err(Fault::Decode);
@@ -170,11 +186,11 @@ macro_rules! counted {
     };
 }
 
-counted!(Date, Date, i32, Date::from_days, Date::to_days);
-counted!(Time, Time, i64, Time::from_micros, Time::to_micros);
-counted!(DateTime, Timestamp, i64, DateTime::from_micros, DateTime::to_micros);
-counted!(Timestamp, Timestamptz, i64, Timestamp::from_micros, Timestamp::to_micros);
-conversions!(UnixTime, is!(Timestamp | Timestamptz), unix_time_from_sql, unix_time_to_sql);
+counted!(Date, DATE, i32, Date::from_days, Date::to_days);
+counted!(Time, TIME, i64, Time::from_micros, Time::to_micros);
+counted!(DateTime, TIMESTAMP, i64, DateTime::from_micros, DateTime::to_micros);
+counted!(Timestamp, TIMESTAMPTZ, i64, Timestamp::from_micros, Timestamp::to_micros);
+conversions!(UnixTime, is!(TIMESTAMP | TIMESTAMPTZ), unix_time_from_sql, unix_time_to_sql);
 
 /// A value, or an infinity, which is the greatest or the least count.
 macro_rules! with_infinities {
@@ -214,5 +230,5 @@ macro_rules! with_infinities {
     };
 }
 
-with_infinities!(DateInf, is!(Date), i32);
-with_infinities!(TimestampInf, is!(Timestamp | Timestamptz), i64);
+with_infinities!(DateInf, is!(DATE), i32);
+with_infinities!(TimestampInf, is!(TIMESTAMP | TIMESTAMPTZ), i64);

@@ -61,6 +61,11 @@ pub fn frame_to_sql(
     Ok(is_null)
 }
 
+/// The frames, whose entries of maps are in order.
+pub fn in_order<'a>(_: &Type, frames: &'a [u8]) -> &'a [u8] {
+    frames
+}
+
 /// Appends the frames of the parameters.
 pub fn params_to_sql(params: &[Box<dyn ToSql>], types: &[Type], out: &mut Vec<u8>) -> Result<(), (usize, Fault)> {
     let start = out.len();

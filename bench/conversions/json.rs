@@ -34,7 +34,7 @@ impl From<i64> for Number {
 
 fn json_from_sql(ty: &Type, raw: &[u8]) -> Result<Value, Fault> {
     match raw {
-        text if *ty == Type::Json => Parser::document(text),
+        text if *ty == Type::JSON => Parser::document(text),
         [JSONB_VERSION, text @ ..] => Parser::document(text),
         [] => Err(Fault::Size),
         _ => Err(Fault::JsonVersion),
@@ -42,14 +42,14 @@ fn json_from_sql(ty: &Type, raw: &[u8]) -> Result<Value, Fault> {
 }
 
 fn json_to_sql(value: &Value, ty: &Type, out: &mut Vec<u8>) -> Result<(), Fault> {
-    if *ty == Type::Jsonb {
+    if *ty == Type::JSONB {
         out.push(JSONB_VERSION);
     }
     write_document(value, out);
     Ok(())
 }
 
-conversions!(Value, is!(Json | Jsonb), json_from_sql, json_to_sql);
+conversions!(Value, is!(JSON | JSONB), json_from_sql, json_to_sql);
 
 /// Whether the byte does not stand for itself in a string.
 fn is_special(byte: u8) -> bool {

@@ -78,7 +78,7 @@ impl<'a, T: FromSql<'a> + Copy + Default, const N: usize> FromSql<'a> for [T; N]
 
 /// Appends the head of an array of so many elements, and answers where its flags stand.
 fn head_to_sql(count: usize, ty: &Type, out: &mut Vec<u8>) -> Result<usize, Fault> {
-    let lower_bound = i32::from(!matches!(ty, Type::OidVector | Type::Int2Vector));
+    let lower_bound = i32::from(!matches!(ty, Type::OID_VECTOR | Type::INT2_VECTOR));
     count_to_sql(1, out)?;
     let flags = out.len();
     out.extend_from_slice(&[0; 4]);

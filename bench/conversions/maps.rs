@@ -18,7 +18,7 @@ fn map_from_sql(_: &Type, raw: &[u8]) -> Result<Map, Fault> {
     let mut map = Map::with_capacity(count.min(buf.len() / 8));
     for _ in 0..count {
         let key = read_key(&mut buf)?;
-        map.insert(key, read_value(&Type::Text, &mut buf)?);
+        map.insert(key, read_value(&Type::TEXT, &mut buf)?);
     }
     read_end(buf)?;
     Ok(map)
@@ -26,7 +26,7 @@ fn map_from_sql(_: &Type, raw: &[u8]) -> Result<Map, Fault> {
 
 /// Takes the frame of a key, which is not NULL, off the front of the slice.
 fn read_key(buf: &mut &[u8]) -> Result<String, Fault> {
-    read_value::<Option<String>>(&Type::Text, buf)?.ok_or(Fault::KeyLength)
+    read_value::<Option<String>>(&Type::TEXT, buf)?.ok_or(Fault::KeyLength)
 }
 
 /// Appends the entries in the order of their keys, as crates/benchmark does.
@@ -35,8 +35,8 @@ fn map_to_sql(map: &Map, _: &Type, out: &mut Vec<u8>) -> Result<(), Fault> {
     entries.sort_unstable_by_key(|entry| entry.0);
     count_to_sql(entries.len(), out)?;
     for (key, value) in entries {
-        frame_to_sql(out, |out| key.to_sql(&Type::Text, out))?;
-        frame_to_sql(out, |out| value.to_sql(&Type::Text, out))?;
+        frame_to_sql(out, |out| key.to_sql(&Type::TEXT, out))?;
+        frame_to_sql(out, |out| value.to_sql(&Type::TEXT, out))?;
     }
     Ok(())
 }

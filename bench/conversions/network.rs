@@ -93,6 +93,6 @@ macro_rules! from_inet {
     };
 }
 
-conversions!(IpAddr, is!(Inet), from_inet!(|address, _| Ok(address)), addr_to_sql);
-conversions!(IpInet, is!(Inet), from_inet!(IpInet::new), inet_to_sql);
-conversions!(IpCidr, is!(Cidr), from_inet!(IpCidr::new), cidr_to_sql);
+conversions!(IpAddr, is!(INET), from_inet!(|address, _| Ok(address)), addr_to_sql);
+conversions!(IpInet, is!(INET), from_inet!(IpInet::new), inet_to_sql);
+conversions!(IpCidr, is!(CIDR), from_inet!(IpCidr::new), cidr_to_sql);

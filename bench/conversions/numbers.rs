@@ -31,6 +31,12 @@ macro_rules! number {
 #[derive(Clone, Copy)]
 pub struct PgLsn(pub u64);
 
+impl From<u64> for PgLsn {
+    fn from(lsn: u64) -> PgLsn {
+        PgLsn(lsn)
+    }
+}
+
 impl FromStr for PgLsn {
     type Err = ParseIntError;
 
@@ -48,10 +54,22 @@ impl fmt::Display for PgLsn {
 }
 
 #[derive(Clone, Copy)]
-pub struct MacAddress(pub [u8; 6]);
+pub struct MacAddress([u8; 6]);
+
+impl MacAddress {
+    pub fn new(bytes: [u8; 6]) -> MacAddress {
+        MacAddress(bytes)
+    }
+}
 
 #[derive(Clone, Copy)]
-pub struct Uuid(pub [u8; 16]);
+pub struct Uuid([u8; 16]);
+
+impl Uuid {
+    pub fn from_bytes(bytes: [u8; 16]) -> Uuid {
+        Uuid(bytes)
+    }
+}
 
 #[derive(Clone, Copy)]
 pub struct Interval {
@@ -75,15 +93,15 @@ impl Interval {
     }
 }
 
-number!(i8, Char);
-number!(i16, Int2);
-number!(i32, Int4);
-number!(i64, Int8);
-number!(u32, Oid);
-number!(Interval, Interval);
-fixed_bytes!(bool, is!(Bool), |[byte]: [u8; 1]| Ok(byte != 0), |value| [u8::from(value)]);
-fixed_bytes!(PgLsn, is!(PgLsn), |bytes| Ok(PgLsn(u64::from_be_bytes(bytes))), |lsn: PgLsn| lsn.0.to_be_bytes());
-fixed_bytes!(MacAddress, is!(Macaddr), |bytes| Ok(MacAddress(bytes)), |address: MacAddress| address.0);
-fixed_bytes!(Uuid, is!(Uuid), |bytes| Ok(Uuid(bytes)), |uuid: Uuid| uuid.0);
+number!(i8, CHAR);
+number!(i16, INT2);
+number!(i32, INT4);
+number!(i64, INT8);
+number!(u32, OID);
+number!(Interval, INTERVAL);
+fixed_bytes!(bool, is!(BOOL), |[byte]: [u8; 1]| Ok(byte != 0), |value| [u8::from(value)]);
+fixed_bytes!(PgLsn, is!(PG_LSN), |bytes| Ok(PgLsn(u64::from_be_bytes(bytes))), |lsn: PgLsn| lsn.0.to_be_bytes());
+fixed_bytes!(MacAddress, is!(MACADDR), |bytes| Ok(MacAddress(bytes)), |address: MacAddress| address.0);
+fixed_bytes!(Uuid, is!(UUID), |bytes| Ok(Uuid(bytes)), |uuid: Uuid| uuid.0);
 
 pub(crate) use fixed_bytes;

@@ -12,7 +12,7 @@ fn has_version(ty: &Type) -> bool {
 }
 
 fn is_text(ty: &Type) -> bool {
-    matches!(ty, Type::Varchar | Type::Text | Type::Bpchar | Type::Name | Type::Unknown)
+    matches!(ty, Type::VARCHAR | Type::TEXT | Type::BPCHAR | Type::NAME | Type::UNKNOWN)
         || ty.name() == "citext"
         || has_version(ty)
 }
@@ -40,13 +40,19 @@ pub fn bytes_to_sql(bytes: &[u8], _: &Type, out: &mut Vec<u8>) -> Result<(), Fau
 
 conversions!(&'a str, is_text, text_from_sql, text_to_sql);
 conversions!(String, is_text, |ty, raw| text_from_sql(ty, raw).map(str::to_owned), text_to_sql);
-conversions!(&'a [u8], is!(Bytea), |_, raw| Ok(raw), bytes_to_sql);
-conversions!(Vec<u8>, is!(Bytea), |_, raw: &[u8]| Ok(raw.to_owned()), bytes_to_sql);
+conversions!(&'a [u8], is!(BYTEA), |_, raw| Ok(raw), bytes_to_sql);
+conversions!(Vec<u8>, is!(BYTEA), |_, raw: &[u8]| Ok(raw.to_owned()), bytes_to_sql);
 
 /// A list of bits, the first on top of the first byte. What pads the last byte is 0.
 pub struct BitVec {
     pub bytes: Vec<u8>,
     pub len: usize,
+}
+
+impl BitVec {
+    pub fn from_bytes(bytes: &[u8]) -> BitVec {
+        BitVec { bytes: bytes.to_vec(), len: 8 * bytes.len() }
+    }
 }
 
 fn bits_from_sql(_: &Type, raw: &[u8]) -> Result<BitVec, Fault> {
@@ -67,4 +73,4 @@ fn bits_to_sql(bits: &BitVec, ty: &Type, out: &mut Vec<u8>) -> Result<(), Fault>
     bytes_to_sql(&bits.bytes, ty, out)
 }
 
-conversions!(BitVec, is!(Bit | Varbit), bits_from_sql, bits_to_sql);
+conversions!(BitVec, is!(BIT | VARBIT), bits_from_sql, bits_to_sql);

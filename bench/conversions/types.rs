@@ -6,7 +6,8 @@ use std::sync::Arc;
 /// The built-in types: of each its OID, its name, and of an array the type of its elements.
 macro_rules! built_in_types {
     ($($variant:ident $oid:literal $name:literal $([$element:ident])?,)*) => {
-        /// A Postgres type.
+        /// A Postgres type. The variants have the names of the crate's constants.
+        #[allow(non_camel_case_types)]
         #[derive(Clone, PartialEq, Eq)]
         pub enum Type {
             $($variant,)*
@@ -56,23 +57,23 @@ macro_rules! built_in_kind {
 
 #[rustfmt::skip]
 built_in_types! {
-    Bool 16 "bool", Bytea 17 "bytea", Char 18 "char", Name 19 "name", Int8 20 "int8", Int2 21 "int2",
-    Int2Vector 22 "int2vector" [Int2], Int4 23 "int4", Text 25 "text", Oid 26 "oid",
-    OidVector 30 "oidvector" [Oid], Json 114 "json", JsonArray 199 "_json" [Json],
-    Cidr 650 "cidr", CidrArray 651 "_cidr" [Cidr], Unknown 705 "unknown",
-    Macaddr 829 "macaddr", Inet 869 "inet", BoolArray 1000 "_bool" [Bool], ByteaArray 1001 "_bytea" [Bytea],
-    CharArray 1002 "_char" [Char], NameArray 1003 "_name" [Name], Int2Array 1005 "_int2" [Int2],
-    Int4Array 1007 "_int4" [Int4], TextArray 1009 "_text" [Text], BpcharArray 1014 "_bpchar" [Bpchar],
-    VarcharArray 1015 "_varchar" [Varchar], Int8Array 1016 "_int8" [Int8], OidArray 1028 "_oid" [Oid],
-    MacaddrArray 1040 "_macaddr" [Macaddr], InetArray 1041 "_inet" [Inet],
-    Bpchar 1042 "bpchar", Varchar 1043 "varchar", Date 1082 "date", Time 1083 "time",
-    Timestamp 1114 "timestamp", TimestampArray 1115 "_timestamp" [Timestamp],
-    DateArray 1182 "_date" [Date], TimeArray 1183 "_time" [Time],
-    Timestamptz 1184 "timestamptz", TimestamptzArray 1185 "_timestamptz" [Timestamptz],
-    Interval 1186 "interval", IntervalArray 1187 "_interval" [Interval],
-    Bit 1560 "bit", BitArray 1561 "_bit" [Bit], Varbit 1562 "varbit", VarbitArray 1563 "_varbit" [Varbit],
-    Uuid 2950 "uuid", UuidArray 2951 "_uuid" [Uuid], PgLsn 3220 "pg_lsn", PgLsnArray 3221 "_pg_lsn" [PgLsn],
-    Jsonb 3802 "jsonb", JsonbArray 3807 "_jsonb" [Jsonb],
+    BOOL 16 "bool", BYTEA 17 "bytea", CHAR 18 "char", NAME 19 "name", INT8 20 "int8", INT2 21 "int2",
+    INT2_VECTOR 22 "int2vector" [INT2], INT4 23 "int4", TEXT 25 "text", OID 26 "oid",
+    OID_VECTOR 30 "oidvector" [OID], JSON 114 "json", JSON_ARRAY 199 "_json" [JSON],
+    CIDR 650 "cidr", CIDR_ARRAY 651 "_cidr" [CIDR], UNKNOWN 705 "unknown",
+    MACADDR 829 "macaddr", INET 869 "inet", BOOL_ARRAY 1000 "_bool" [BOOL], BYTEA_ARRAY 1001 "_bytea" [BYTEA],
+    CHAR_ARRAY 1002 "_char" [CHAR], NAME_ARRAY 1003 "_name" [NAME], INT2_ARRAY 1005 "_int2" [INT2],
+    INT4_ARRAY 1007 "_int4" [INT4], TEXT_ARRAY 1009 "_text" [TEXT], BPCHAR_ARRAY 1014 "_bpchar" [BPCHAR],
+    VARCHAR_ARRAY 1015 "_varchar" [VARCHAR], INT8_ARRAY 1016 "_int8" [INT8], OID_ARRAY 1028 "_oid" [OID],
+    MACADDR_ARRAY 1040 "_macaddr" [MACADDR], INET_ARRAY 1041 "_inet" [INET],
+    BPCHAR 1042 "bpchar", VARCHAR 1043 "varchar", DATE 1082 "date", TIME 1083 "time",
+    TIMESTAMP 1114 "timestamp", TIMESTAMP_ARRAY 1115 "_timestamp" [TIMESTAMP],
+    DATE_ARRAY 1182 "_date" [DATE], TIME_ARRAY 1183 "_time" [TIME],
+    TIMESTAMPTZ 1184 "timestamptz", TIMESTAMPTZ_ARRAY 1185 "_timestamptz" [TIMESTAMPTZ],
+    INTERVAL 1186 "interval", INTERVAL_ARRAY 1187 "_interval" [INTERVAL],
+    BIT 1560 "bit", BIT_ARRAY 1561 "_bit" [BIT], VARBIT 1562 "varbit", VARBIT_ARRAY 1563 "_varbit" [VARBIT],
+    UUID 2950 "uuid", UUID_ARRAY 2951 "_uuid" [UUID], PG_LSN 3220 "pg_lsn", PG_LSN_ARRAY 3221 "_pg_lsn" [PG_LSN],
+    JSONB 3802 "jsonb", JSONB_ARRAY 3807 "_jsonb" [JSONB],
 }
 
 /// A user-defined type.
@@ -100,12 +101,19 @@ pub struct Field {
     pub ty: Type,
 }
 
-impl Type {
-    pub fn new(name: &str, oid: u32, kind: Kind) -> Type {
-        let (name, schema) = (name.to_owned(), "public".to_owned());
-        Type::Other(Arc::new(Other { name, oid, kind, schema }))
+impl Field {
+    pub fn new(name: String, ty: Type) -> Field {
+        Field { name, ty }
     }
+}
 
+/// A user-defined type in the schema `public`.
+pub fn user_type(name: &str, oid: u32, kind: Kind) -> Type {
+    let (name, schema) = (name.to_owned(), "public".to_owned());
+    Type::Other(Arc::new(Other { name, oid, kind, schema }))
+}
+
+impl Type {
     /// The type of the elements of an array.
     pub fn element(&self) -> Result<&Type, Fault> {
         match self.kind() {
