@@ -7,7 +7,8 @@ import glob
 import os
 import re
 import sys
-from functools import cache
+from functools import cache, partial
+from statistics import median
 
 TOP = os.path.dirname(os.path.dirname(os.path.abspath(__file__)))
 # The modules leave no files in the repository.
@@ -18,6 +19,9 @@ from performance import cases, section, tables
 
 WORDS = "no one two three four five six seven eight nine ten eleven twelve thirteen fourteen fifteen sixteen seventeen eighteen " \
     "nineteen twenty".split()
+
+
+CRATE, PGCELL = "The library beside the Rust crate", "The program pgcell"
 
 
 def read(path):
@@ -70,13 +74,6 @@ def fault_code(name):
     return first(rf"Fault::{name}\b[^\n]* => (\d+),", read("crates/pg_types/src/fault.rt"))
 
 
-def oids(name):
-    """Returns the OID of a built-in type, and in parentheses that of its arrays where it has them."""
-    rows = re.findall(r'^ +[A-Z]\w* \w+ (\d+) "(\w+)"', read("crates/pg_types/src/types/built_in.rt"), re.M)
-    of = {each: oid for oid, each in rows}
-    return f"{of.get(name)} ({of.get('_' + name)})"
-
-
 def damaged_cells():
     """Returns how many cells .ci/damaged-cells has of each form, to the nearest thousand."""
     cells = sum(len(it.fronts) + 1 + len(BYTES) * (1 + len(it.replaced)) for _, it in forms())
@@ -89,32 +86,27 @@ def base_names_in_last(lines):
     return str(len({re.match(r"norm (\w+)", it)[1] for it in last}))
 
 
-def library_cases(is_counted=lambda it: True):
-    """Returns how many cases of the library there are, or are so."""
-    return str(sum(map(is_counted, cases("The library"))))
+def count_of(title, limit="inf", kind="ratio"):
+    """Returns how many cases of a section have a ratio of that kind that is at most so much."""
+    return str(sum(getattr(it, kind) <= float(limit) for it in cases(title)))
 
 
-def is_slow(case):
-    return case.ratio > 1.1
+def count_below(title, kind="ratio"):
+    return str(sum(getattr(it, kind) < 1 for it in cases(title)))
 
 
-def is_equal(case):
-    return is_slow(case) and case.equal is not None and case.equal <= 1.1
-
-
-def names_of_pgcell(limit):
-    """Returns how many names of pgcell take at most so many times the time of plain Rust."""
-    return str(sum(it.ratio <= float(limit) for it in cases("The program pgcell")))
+def median_of(title, kind="ratio"):
+    return f"{median(getattr(it, kind) for it in cases(title)):.2f}"
 
 
 def ratios_of_lists():
-    lists = [it.ratio for it in cases("The program pgcell") if "[]" in it.name or "vector" in it.name]
+    lists = [it.ratio for it in cases(PGCELL) if "[]" in it.name or "vector" in it.name]
     return f"{min(lists):.2f} to {max(lists):.2f}"
 
 
-def time_of_read(case):
-    head, rows = next(it for it in tables(section("The library")) if "read" in it[0])
-    return f"{float(next(it[head.index('read')] for it in rows if it[0] == case)):.1f}"
+def instructions_of_read(case, column):
+    head, rows = next(it for it in tables(section("The library beside the Rust crate")) if "read" in it[0])
+    return next(it[head.index(column)] for it in rows if it[0] == case)
 
 
 def million_rows(program):
@@ -124,7 +116,8 @@ def million_rows(program):
 
 
 COUNTS = [
-    ("README.md", r"an (?P<case>int4) is read in (?P<n>[\d.]+) ns", time_of_read),
+    ("README.md", r"an (?P<case>int4) is read in (?P<n>\d+) instructions", partial(instructions_of_read, column="read")),
+    ("README.md", r"an (?P<case>int4) is read in \d+ instructions \(by the Rust crate (?P<n>\d+)", partial(instructions_of_read, column="crate")),
     ("README.md", r"`(?P<program>copy_read)` turns (?P<n>[\d.]+) million rows", million_rows),
     ("docs/OWN-TYPES.md", r"^\|[^|]*\|[^|]*\|[^|]*\| (?P<names>[^|]*) \| (?P<n>\d+(?:, \d+)*) \|$", example_lines),
     ("docs/OWN-TYPES.md", r"`(?P<name>\w+)` has (?P<n>\w+) fields", fields_of),
@@ -134,13 +127,15 @@ COUNTS = [
     ("docs/CONTRACTS.md", r"last (?P<lines>\d+) lines hold cells of (?P<n>\d+) base names", base_names_in_last),
     ("docs/SPECIFICATION.md", r"^\| (?P<n>\d+) \| (?P<name>[A-Z]\w+) \|", fault_code),
     ("docs/SPECIFICATION.md", r"at most (?P<n>[\d,]+) bytes \(`(?P<name>\w+)`\)", constant),
-    ("docs/SPECIFICATION.md", r"(?P<name>\w+) (?P<n>\d+ \(\d+\))", oids),
-    ("docs/PERFORMANCE.md", r"Of (?P<n>\d+) cases", library_cases),
-    ("docs/PERFORMANCE.md", r"cases, (?P<n>\d+) take at most 1\.1 times", lambda: library_cases(lambda it: not is_slow(it))),
-    ("docs/PERFORMANCE.md", r"(?:Of the other|Causes in the|on equal terms, for the) (?P<n>\d+)", lambda: library_cases(is_slow)),
-    ("docs/PERFORMANCE.md", r"(?P<n>\d+) do so on equal terms", lambda: library_cases(is_equal)),
-    ("docs/PERFORMANCE.md", r"Of (?P<n>\d+) names", lambda: str(len(cases("The program pgcell")))),
-    ("docs/PERFORMANCE.md", r"names, (?P<n>\d+) take at most (?P<limit>[\d.]+) times", names_of_pgcell),
+    ("docs/PERFORMANCE.md", r"Of (?P<n>\d+) cases by the crate", partial(count_of, CRATE)),
+    ("docs/PERFORMANCE.md", r"(?P<n>\d+) need fewer instructions than in its one program", partial(count_below, CRATE, kind="in_one")),
+    ("docs/PERFORMANCE.md", r"one program, (?P<n>\d+) at most (?P<limit>[\d.]+) times", partial(count_of, CRATE, kind="in_one")),
+    ("docs/PERFORMANCE.md", r"the median is (?P<n>[\d.]*\d); beside the better", partial(median_of, CRATE, kind="in_one")),
+    ("docs/PERFORMANCE.md", r"beside the better build (?P<n>\d+)", partial(count_below, CRATE)),
+    ("docs/PERFORMANCE.md", r"beside the better build \d+, (?P<n>\d+) and", partial(count_of, CRATE, limit=1.1)),
+    ("docs/PERFORMANCE.md", r"beside the better build \d+, \d+ and (?P<n>[\d.]*\d)", partial(median_of, CRATE)),
+    ("docs/PERFORMANCE.md", r"Of (?P<n>\d+) names", partial(count_of, PGCELL)),
+    ("docs/PERFORMANCE.md", r"names, (?P<n>\d+) take at most (?P<limit>[\d.]+) times", partial(count_of, PGCELL)),
     ("docs/PERFORMANCE.md", r"arrays and vectors take (?P<n>[\d.]+ to [\d.]+) times", ratios_of_lists),
 ]
 

@@ -23,7 +23,8 @@ COMMENT = re.compile(r"^\s*(?:--|//).*$", re.M)
 # A line that declares a type or a trait, or implements one.
 OWNER = re.compile(r"^(?:pub(?:\(\w+\))? )?(?:struct|enum|trait|type|impl\b.*?) (\w+)(?:<.*>)?(?: \{|;|\(|:|$)", re.M)
 # Names of PostgreSQL, Rust and the kit that have the form of ours.
-OTHERS = {"CRATES.md", "Timestamp::MIN", "Timestamp::MAX", "client_encoding", "RT_JOBS", "BufReader", "MaybeUninit", "Value::to_vec"}
+OTHERS = {"CRATES.md", "Timestamp::MIN", "Timestamp::MAX", "client_encoding", "extra_float_digits", "RT_JOBS", "BufReader", "MaybeUninit",
+          "Value::to_vec"}
 # Documents that name what is not here: what was, and what the Rust crate has.
 OF_OTHERS = ["CHANGELOG.md", "docs/DIFFERENCES.md"]
 
@@ -68,7 +69,7 @@ def has_path(path):
     """Returns whether a path is there: from the top, or of a crate's folders, or an end of such a one."""
     path = os.path.normpath(path)
     top, _, rest = path.partition("/")
-    if not rest or top in ("crates", "docs", "scripts", "bench", ".ci"):
+    if not rest or top in ("crates", "docs", "examples", "include", "scripts", "bench", ".ci"):
         return path in files()
     if os.path.isdir(f"crates/{top}"):
         places = [f"crates/{top}{folder}/{rest}" for folder in ("", "/src", "/specs", "/proofs")]

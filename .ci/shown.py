@@ -7,8 +7,8 @@ ANY_BLOCK = re.compile(r"^```.*?^```$", re.M | re.S)
 COMMAND = re.compile(r"((?:.*\\\n)*.+\n)((?:#(?: .*)?\n)*)\n*")
 IN_SENTENCE = re.compile(r"`((?:\./|rt |scripts/|psql )[^`\n]*)`")
 # The documents with blocks of sh, and those of which the sentences' commands are run too.
-DOCUMENTS = ["README.md", "CONTRIBUTING.md", "docs/GUIDE.md", "docs/OWN-TYPES.md"]
-WITH_SENTENCES = ["README.md", "docs/GUIDE.md", "docs/OWN-TYPES.md"]
+DOCUMENTS = ["README.md", "CONTRIBUTING.md", "docs/GUIDE.md", "docs/OWN-TYPES.md", "docs/C.md"]
+WITH_SENTENCES = ["README.md", "docs/GUIDE.md", "docs/OWN-TYPES.md", "docs/C.md"]
 # What is not run, with any further words, and why.
 NOT_RUN = {
     "./check": "the gate, which runs this",
