@@ -1,2 +1,2 @@
--- The words of reading arrays from sources.
+-- Definitions for reading arrays from sources.
 pub mod Sources

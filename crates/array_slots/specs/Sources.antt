@@ -1,18 +1,18 @@
--- Elements from a source, in their order.
+-- The elements that a source gives, in their order.
 use Rattle.std.specs.Prelude.{◌≡◌, ◌⊎◌, ℕ, ◌<◌, List, [], ◌∷◌, length, Result, Ok, Err}
 
--- from s on the source gave these elements, in their order, and is then t
+-- starting as s, the source gave these elements, in their order, and is then t
 abbrev pub GivesAll : {S A : Type 0} → (S → A → S → Type 0) → S → List A → S → Type 0
 GivesAll gives s [] t = s ≡ t
 GivesAll {S} gives s (x ∷ xs) t = (u : S) × gives s x u × GivesAll gives u xs t
 
--- from s on the source gave fewer than n elements, and then stopped, and is then t
+-- starting as s, the source gave fewer than n elements and then stopped, and is then t
 abbrev pub StopsBefore : {S A : Type 0} → (S → A → S → Type 0) → (S → S → Type 0) → S → ℕ → S → Type 0
 StopsBefore {S} {A} gives stops s n t =
     (xs : List A) × (u : S) × GivesAll gives s xs u × (length xs < n) × stops u t
 
--- an array of n elements is those that the source gave from s on, and nothing is wrong after them; its fault is that
--- with which the source stopped before there were n, or the one after them
+-- an array has n elements, those that the source gave starting as s, and what is left after them is valid; a fault is
+-- the one with which the source stopped before it gave n, or the one of what is left after them
 abbrev pub AnswersArray : {S A E : Type 0} → (S → A → S → Type 0) → (S → S → Type 0) → (S → E → Type 0)
     → (S → Result (Unit {0}) E → Type 0) → S → ℕ → Result (List A) E → Type 0
 AnswersArray {S} gives stops stopped_at finishes s n (Ok xs) =

@@ -1,4 +1,4 @@
-//! Filling the places of an array from a source.
+//! Filling the slots of an array from a source.
 ghost use Rattle.std.specs.Prelude.{◌≡◌, ◌≤◌, ◌-◌, ◌<◌, List, ◌∷◌, IsTrue, MatchBool};
 ghost use Rattle.core.specs.Mem.Slots.{slots_items, slots_filled, slots_len, SamePlaces, IsFull};
 ghost use Rattle.core.specs.Mem.Slots.Ownership.{Filled};
@@ -7,8 +7,8 @@ ghost use Rattle.array_slots.specs.Sources.{GivesAll, StopsBefore};
 use super::ElementSource;
 use core::slots::Slots;
 
-/// Puts the first element and then those of the source into the places, and answers whether it filled them all. Where
-/// the source stops before, the elements are dropped.
+/// Puts the first element, and then those of the source, into the slots. Returns the slots, whether
+/// all of them are filled, and the source. If the source stops early, the elements are dropped.
 pub(crate) fn fill<T: Drop, S: ElementSource<T>>(
     mut places: Slots<T>,
     first: T,
@@ -37,7 +37,7 @@ pub(crate) fn fill<T: Drop, S: ElementSource<T>>(
     (places, true, source)
 }
 
-/// Drops the first so many values.
+/// Drops the first `count` values.
 fn drop_first<T: Drop>(places: &mut Slots<T>, count: usize)
     requires { (count ≤ slots_len places.old) × Filled (slots_filled places.old) 0 count }
     ensures { SamePlaces places.old places.new }

@@ -1,4 +1,4 @@
-//! The places of an array, on the stack.
+//! The slots of an array on the stack.
 ghost use Rattle.std.specs.Prelude.{◌≡◌, Bool, true, false, IsTrue, MatchResult};
 ghost use Rattle.core.specs.Mem.Slots.{slots_items, slots_len, SamePlaces, IsFull};
 ghost use Rattle.core.specs.declared.slots.Slots.{Slots as Places};
@@ -6,10 +6,11 @@ ghost use Rattle.core.specs.declared.slots.Slots.{Slots as Places};
 use core::slots::Slots;
 use std::mem::{ManuallyDrop, align_of};
 
-/// Lends the `N` places of an array to `fill`, with the first element and the source of the others, and answers the
-/// array where `fill` says that it filled them. Otherwise a value that stands in a place is forgotten.
+/// Lends the `N` slots of an array to `fill`, with the first element and the source of the others.
+/// Returns the array if `fill` reports that it filled all slots; otherwise a value that is still in
+/// a slot is leaked.
 ///
-/// Rattle has no `MaybeUninit`: the places are the bytes that a `None` leaves free.
+/// Rattle has no `MaybeUninit`: the slots are the bytes that `None` leaves uninitialized.
 pub(crate) fn with_places<T, S, F: FnOnce(Slots<T>, T, S) -> (Slots<T>, bool, S), const N: usize>(
     first: T,
     source: S,

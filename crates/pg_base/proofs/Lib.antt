@@ -30,6 +30,7 @@ pub mod LsnLaws
 pub mod LsnLemmas
 pub mod Macaddrs
 pub mod NetworkLaws
+pub mod NetworkParses
 pub mod Octets
 pub mod PadLemmas
 pub mod SamenessLaws

@@ -1,4 +1,4 @@
--- Bits: BIT (bit_send, bit_recv) and VARBIT (varbit_send, varbit_recv).
+-- Bit strings: BIT (bit_send, bit_recv) and VARBIT (varbit_send, varbit_recv).
 use Rattle.std.specs.Prelude.{◌≡◌, ℕ, ◌+◌, ◌-◌, ◌*◌, ◌/◌, ◌%◌, ◌^◌, ◌<◌, ◌≤◌, ◌==◌, List, [], ◌∷◌, ◌++◌}
 use Rattle.std.specs.Prelude.{length, map, slice_index, slice_index_or, Option, Some, None, Bool, false, ◌||◌}
 use Rattle.std.specs.Prelude.{nat_lt, nat_le, if◌then◌else◌, Result, Ok, Err, ⊤}
@@ -17,11 +17,11 @@ use Rattle.pg_base.specs.Formats.{first_fault_of, ReadsPlain}
 abbrev pub accepted_bits : Content → Bool
 accepted_bits ty = is_row Bit ty || is_row Varbit ty
 
--- the bit of a byte at a place from 0 to 7, counted from the top
+-- the bit of a byte at a place from 0 to 7; place 0 is the most significant bit
 abbrev pub bit_of : ℕ → ℕ → Bool
 bit_of byte place = bit_at byte (7 - place) == 1
 
--- bit i of bytes: the one at place i mod 8 of byte i div 8; past the bytes 0
+-- bit i of bytes: the one at place i mod 8 of byte i div 8; after the last byte it is 0
 abbrev pub nth_bit : List ℕ → ℕ → Bool
 nth_bit b i = bit_of (slice_index b (i / 8)) (i % 8)
 
@@ -33,55 +33,54 @@ first_bits n b = map (nth_bit b) (range_with_len 0 n)
 abbrev pub bytes_for : ℕ → ℕ
 bytes_for n = div_ceil n 8
 
--- item i of a list as a digit; past its end 0
+-- item i of a list as a digit; after its end 0
 abbrev pub digit : List Bool → ℕ → ℕ
 digit v i = if slice_index_or v i false then 1 else 0
 
--- byte k of packed bits: items 8 k to 8 k + 7, the first on top
+-- byte k of packed bits: items 8 k to 8 k + 7, the first being the most significant bit
 unfoldable pub packed_byte : List Bool → ℕ → ℕ
 packed_byte v k =
     128 * digit v (8 * k) + 64 * digit v (8 * k + 1) + 32 * digit v (8 * k + 2) + 16 * digit v (8 * k + 3) +
     8 * digit v (8 * k + 4) + 4 * digit v (8 * k + 5) + 2 * digit v (8 * k + 6) + digit v (8 * k + 7)
 
--- bits packed eight to a byte; what pads the last byte is 0
+-- bits packed eight to a byte; the padding bits of the last byte are 0
 unfoldable pub packed : List Bool → List ℕ
 packed v = map (packed_byte v) (range_with_len 0 (bytes_for (length v)))
 
--- how many bits pad the last byte of n bits
+-- the number of padding bits in the last byte of n bits
 abbrev pub pad_of : ℕ → ℕ
 pad_of n = 8 * bytes_for n - n
 
--- the byte with its lowest k bits 0
+-- the byte with its k least significant bits set to 0
 abbrev pub without_low : ℕ → ℕ → ℕ
 without_low k byte = byte / 2 ^ k * 2 ^ k
 
--- the most bits that a list of them has
+-- the greatest length of a bit string
 abbrev pub most_bits : ℕ
 most_bits = 2 ^ 64 - 1
 
--- the bits of all the bytes; more than the most is Transmit, and otherwise only memory is missing
+-- all bits of the bytes; more than the greatest length is Transmit, and any other error is Memory
 abbrev pub TakesBytes : List ℕ → Result (List Bool) Fault → Type 0
 TakesBytes b (Ok v) = (8 * length b ≤ most_bits) × (v ≡ first_bits (8 * length b) b)
 TakesBytes b (Err f) = refusal_of f ≡ (if nat_le (8 * length b) most_bits then None else Some transmit)
 
--- the bit was put at the end; or nothing was changed, with Transmit where there are the most bits already, and
--- otherwise only for memory
+-- the bit was appended; or nothing changed, with Transmit if the greatest length is reached, and with Memory otherwise
 abbrev pub Pushes : List Bool → Bool → List Bool → Result ⊤ Fault → Type 0
 Pushes old bit new (Ok done) = (length old < most_bits) × (new ≡ old ++ bit ∷ [])
 Pushes old bit new (Err f) = (new ≡ old)
     × (refusal_of f ≡ (if nat_lt (length old) most_bits then None else Some transmit))
 
--- the last bit was taken; where there is none, nothing
+-- the last bit was removed; nothing if there is none
 abbrev pub Pops : List Bool → Option Bool → List Bool → Type 0
 Pops old (Some bit) new = old ≡ new ++ bit ∷ []
 Pops old None new = (old ≡ []) × (new ≡ [])
 
--- the bytes spell these bits: their number in four bytes, and bytes of which they are the first bits; there are as many
--- bytes as they take, and what pads the last one is free
+-- the bytes spell these bits: their number in four bytes, and as many bytes as they take, of which they are the first
+-- bits; the padding bits of the last byte may have any value
 pub record SpellsBits (b : List ℕ) (v : List Bool) : Type 0 where
   -- the bytes of the number of bits
   pub count_prefix : List ℕ
-  -- and those of the bits
+  -- the bytes of the bits
   pub bits_bytes : List ℕ
   -- they follow one another
   pub is : b ≡ count_prefix ++ bits_bytes
@@ -96,7 +95,7 @@ pub record SpellsBits (b : List ℕ) (v : List Bool) : Type 0 where
 abbrev pub FormBits : {A : Type 0} → (A → List Bool) → List ℕ → A → Type 0
 FormBits bits_of b v = SpellsBits b (bits_of v)
 
--- the checks of the count come first; then any other number of bytes than the bits take is Size
+-- the checks of the number come first; then any other number of bytes than the bits take is Size
 abbrev pub first_fault_bits : List ℕ → Option Refusal
 first_fault_bits b = first_fault_of
     (count_checks b ++ length_check (bytes_for (count_or_zero (number_in b))) (after_number b) ∷ [])
@@ -105,12 +104,11 @@ first_fault_bits b = first_fault_of
 abbrev pub ReadsBits : {A : Type 0} → (A → List Bool) → Cell → Outcome A → Type 0
 ReadsBits bits_of = ReadsPlain (FormBits bits_of) first_fault_bits
 
--- the bytes of a cell of bits: their number in four bytes, and the bits packed. More bits than the number can say
--- have none
+-- the bytes of a cell of bits: their number in four bytes, and the bits packed; None if the number does not fit
 abbrev pub bits_cell : List Bool → Option (List ℕ)
 bits_cell v = with_prefix (length v) (packed v)
 
--- the cell of bits; where there are too many, Transmit
+-- the cell of bits; Transmit if there are too many
 abbrev pub wire_bits : List Bool → Wire
 wire_bits v = wire_of (bits_cell v)
 

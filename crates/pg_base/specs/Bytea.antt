@@ -1,4 +1,4 @@
--- Bytes: BYTEA (byteasend, bytearecv).
+-- Byte strings: BYTEA (byteasend, bytearecv).
 use Rattle.std.specs.Prelude.{◌≡◌, ℕ, List, [], Option, Some, Ok}
 use Rattle.pg_base.specs.Cells.{Cell}
 use Rattle.pg_types.specs.Faults.{Refusal, Outcome}
@@ -17,6 +17,6 @@ first_fault_bytes b = first_fault_of []
 abbrev pub ReadsBytes : {A : Type 0} → (A → List ℕ) → Cell → Outcome A → Type 0
 ReadsBytes bytes_of = ReadsPlain (FormBytes bytes_of) first_fault_bytes
 
--- the cell of bytes: these bytes
+-- the cell of a byte string: these bytes
 abbrev pub wire_bytes : List ℕ → Wire
 wire_bytes b = Ok (Some b)

@@ -3,7 +3,7 @@ use Rattle.std.specs.Prelude.{◌≡◌, ℕ, List, [], ◌∷◌, Bool, if◌th
 use Rattle.pg_base.specs.Cells.{AreBytes, Cell}
 use Rattle.pg_types.specs.Faults.{Refusal, Outcome, was_null}
 
--- checks, in their order: of each whether it is met, and the fault where it is not
+-- checks in order: for each whether it passes, and the fault if it does not
 abbrev pub Checks : Type 0
 Checks = List (Bool × Refusal)
 
@@ -22,7 +22,7 @@ abbrev pub IsWasNull : {A : Type 0} → Outcome A → Type 0
 IsWasNull (Ok v) = ⊥
 IsWasNull (Err r) = r ≡ was_null
 
--- NULL is WasNull, and bytes are read by `reads`
+-- NULL gives WasNull, and bytes are read by `reads`
 abbrev pub NotNull : {A : Type 0} → (List ℕ → Outcome A → Type 0) → Cell → Outcome A → Type 0
 NotNull reads None outcome = IsWasNull outcome
 NotNull reads (Some b) outcome = reads b outcome

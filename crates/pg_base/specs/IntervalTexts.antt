@@ -8,7 +8,7 @@ use Rattle.pg_calendar.specs.Texts.{clock_text}
 use Rattle.pg_base.specs.declared.interval.text.Before.{Before}
 use Rattle.pg_base.specs.declared.interval.text.Before.TheVariants.{Nothing, Positive, Negative}
 
--- a space after another part
+-- a space after a part
 abbrev pub space_after : Before → List ℕ
 space_after Nothing = []
 space_after Positive = codes " "
@@ -23,18 +23,18 @@ plus_after Negative = codes "+"
 abbrev pub sign_text : Before → Bool → List ℕ
 sign_text before negative = space_after before ++ (if negative then codes "-" else plus_after before)
 
--- a number and its unit, of which there may be more than one (AddPostgresIntPart)
+-- a number and its unit, which may be plural (AddPostgresIntPart)
 abbrev pub plural_text : ℤ → List ℕ
 plural_text n = if is_negative n || not (unsigned_abs n == 1) then codes "s" else []
 
 abbrev pub count_text : ℤ → List ℕ → List ℕ
 count_text n unit = decimal (unsigned_abs n) ++ (codes " " ++ (unit ++ plural_text n))
 
--- a part, which is left out where it is 0
+-- a part, which is left out if it is 0
 abbrev pub part_text : Before → ℤ → List ℕ → List ℕ
 part_text before n unit = if unsigned_abs n == 0 then [] else sign_text before (is_negative n) ++ count_text n unit
 
--- what stands before the next part
+-- what precedes the next part
 abbrev pub after_part : Before → ℤ → Before
 after_part before n = if unsigned_abs n == 0 then before else if is_negative n then Negative else Positive
 
@@ -44,7 +44,7 @@ hours_text micros =
     let seconds = micros / 1_000_000 in
     clock_text (seconds / 3_600) (seconds / 60 % 60) (seconds % 60) (micros % 1_000_000)
 
--- and with their sign
+-- hours, minutes and seconds with their sign
 abbrev pub time_text : Before → ℤ → List ℕ
 time_text before n = sign_text before (is_negative n) ++ hours_text (unsigned_abs n)
 
@@ -53,7 +53,7 @@ is_nothing Nothing = true
 is_nothing Positive = false
 is_nothing Negative = false
 
--- the time, which stands also where all is 0
+-- the time, which is written also if all parts are 0
 abbrev pub last_text : Before → ℤ → List ℕ
 last_text before n = if is_nothing before || not (unsigned_abs n == 0) then time_text before n else []
 

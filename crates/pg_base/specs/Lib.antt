@@ -1,4 +1,4 @@
--- The words of types, faults, cells and formats.
+-- Definitions of cells and formats, and of the types with a format of their own.
 pub mod Appending
 pub mod ArrayTypes
 pub mod Arrays

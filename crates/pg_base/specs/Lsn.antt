@@ -1,4 +1,4 @@
--- The text of a log position (pg_lsn_out); parsing takes wider texts than pg_lsn_in.
+-- The text of a log sequence number (pg_lsn_out); parsing accepts more texts than pg_lsn_in.
 use Rattle.std.specs.Prelude.{ℕ, ◌*◌, ◌/◌, ◌%◌, ◌^◌, ◌==◌, List, ◌∷◌, ◌++◌, length, Bool, true, ◌&&◌, nat_lt}
 use Rattle.std.specs.Prelude.{Option, Some, None, option_map, option_and_then, if◌then◌else◌, bit_or}
 use Rattle.std.specs.Char.{is_digit}
@@ -10,7 +10,7 @@ use Rattle.std.specs.Str.Parse.{digits_value, without_leading_plus}
 abbrev pub slash : ℕ
 slash = 47
 
--- a position is printed as its two halves of 32 bits in upper-case hexadecimal, without leading zeros, with `/` between
+-- it is printed as its two halves of 32 bits in upper-case hexadecimal, without leading zeros, with `/` between them
 abbrev pub lsn_text : ℕ → List ℕ
 lsn_text n = digits 16 true (n / 2 ^ 32) ++ (slash ∷ digits 16 true (n % 2 ^ 32))
 
@@ -18,16 +18,16 @@ lsn_text n = digits 16 true (n / 2 ^ 32) ++ (slash ∷ digits 16 true (n % 2 ^ 3
 abbrev pub is_hex_number : List ℕ → Bool
 is_hex_number s = (nat_lt 0 (length s) && list_all (λ c. is_digit c 16) s) && nat_lt (digits_value 16 s) (2 ^ 64)
 
--- the number of a half of the text, which may begin with a `+`
+-- the number in a half of the text, which may begin with `+`
 abbrev pub half_of : List ℕ → Option ℕ
 half_of s = let number = without_leading_plus s in if is_hex_number number then Some (digits_value 16 number) else None
 
--- the position of two halves, in 64 bits: the high bits of the first fall away, and the second may reach into the first
+-- the number of two halves, in 64 bits: the high bits of the first are lost, and the second may overlap the first
 abbrev pub position_of : ℕ → ℕ → ℕ
 position_of hi lo = bit_or (hi * 2 ^ 32 % 2 ^ 64) lo
 
--- the position that a text names, if any: its halves stand before and after the first `/`. Where there is none, nothing
--- stands after, and that is no half
+-- the number that a text names, if any: its halves are before and after the first `/`. Without a `/` nothing comes
+-- after it, and the empty text is not a half
 abbrev pub lsn_of : List ℕ → Option ℕ
 lsn_of s =
     let hi = half_of (before_first (λ c. c == slash) s) in

@@ -22,16 +22,16 @@ FormSigned = IsBe
 abbrev pub ReadsSigned : Width → Cell → Outcome ℤ → Type 0
 ReadsSigned w = ReadsPlain (FormSigned w) (first_fault_number (byte_len w))
 
--- whether the width holds the number
+-- whether the number fits in the width
 abbrev pub fits_signed : Width → ℤ → Bool
 fits_signed w (pos n) = nat_lt n (2 ^ (bits w - 1))
 fits_signed w (negsuc n) = nat_lt n (2 ^ (bits w - 1))
 
--- the cell of a number: its bytes in the width, or Transmit where the width does not hold it
+-- the cell of a number: its bytes in the width, or Transmit if it does not fit
 abbrev pub wire_signed : Width → ℤ → Wire
 wire_signed w z = if fits_signed w z then Ok (Some (be w z)) else Err transmit
 
--- OID, PG_LSN: the bytes spell this number in the width, big-endian, without a sign
+-- OID, PG_LSN: the bytes spell this number in the width, big-endian, unsigned
 abbrev pub FormUnsigned : Width → List ℕ → ℕ → Type 0
 FormUnsigned = IsBeUnsigned
 
@@ -39,11 +39,11 @@ FormUnsigned = IsBeUnsigned
 abbrev pub ReadsUnsigned : Width → Cell → Outcome ℕ → Type 0
 ReadsUnsigned w = ReadsPlain (FormUnsigned w) (first_fault_number (byte_len w))
 
--- the cell of a number without a sign: its bytes in the width, or Transmit where the width does not hold it
+-- the cell of an unsigned number: its bytes in the width, or Transmit if it does not fit
 abbrev pub wire_unsigned : Width → ℕ → Wire
 wire_unsigned w n = if nat_lt n (2 ^ bits w) then Ok (Some (to_be_bytes w n)) else Err transmit
 
--- BOOL: one byte, and 0 is false and any other byte true
+-- BOOL: one byte, 0 for false and any other for true
 abbrev pub FormBool : List ℕ → Bool → Type 0
 FormBool b v = (byte : ℕ) × (b ≡ byte ∷ []) × (v ≡ not (byte == 0))
 

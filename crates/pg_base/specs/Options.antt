@@ -1,4 +1,4 @@
--- Words on options.
+-- Definitions on options.
 use Rattle.std.specs.Prelude.{Option, Some, None}
 
 -- None, or a value of which P holds

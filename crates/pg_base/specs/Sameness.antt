@@ -1,4 +1,4 @@
--- When two values are the same: by their content, wherever it lies.
+-- When two values are the same: if their contents are, wherever they are stored.
 use Rattle.std.specs.Prelude.{List, [], ◌∷◌, Option, Some, None}
 
 -- a sameness of values is an equivalence: it is reflexive, symmetric and transitive

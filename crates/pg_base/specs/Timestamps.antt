@@ -1,5 +1,5 @@
 -- Timestamps: TIMESTAMP (timestamp_send, timestamp_recv) and TIMESTAMPTZ (timestamptz_send, timestamptz_recv), which
--- have one format. A timestamp is told by its nanoseconds from 1970-01-01 00:00:00 UTC.
+-- have the same format. A timestamp is given by its nanoseconds from 1970-01-01 00:00:00 UTC.
 use Rattle.std.specs.Prelude.{◌≡◌, ℤ, pos, ◌+ℤ◌, ◌-ℤ◌, ◌*ℤ◌, int_div, ℕ, List, Bool, ◌||◌}
 use Rattle.std.specs.Int.{byte_len, w64}
 use Rattle.pg_types.specs.declared.types.built_in.BuiltIn.TheVariants.{Timestamp, Timestamptz}
@@ -11,7 +11,7 @@ use Rattle.pg_base.specs.Formats.{ReadsPlain}
 use Rattle.pg_base.specs.Numbers.{first_fault_number, wire_signed}
 use Rattle.pg_base.specs.Appending.{Wire}
 
--- the nanoseconds of 2000-01-01 00:00:00 UTC, from which PostgreSQL counts
+-- 2000-01-01 00:00:00 UTC, PostgreSQL's epoch, in nanoseconds
 abbrev pub base_nanos : ℤ
 base_nanos = pos 946_684_800_000_000_000
 
@@ -23,7 +23,7 @@ nanos_of v = v.secs *ℤ pos 1_000_000_000 +ℤ pos v.nanos
 abbrev pub accepts_timestamps : Content → Bool
 accepts_timestamps ty = is_row Timestamp ty || is_row Timestamptz ty
 
--- v stands that many microseconds after 2000-01-01 00:00:00 UTC
+-- v is this number of microseconds after 2000-01-01 00:00:00 UTC
 abbrev pub IsAfterBase : {A : Type 0} → (A → ℤ) → ℤ → A → Type 0
 IsAfterBase nanos micros v = nanos v ≡ base_nanos +ℤ micros *ℤ pos 1000
 
@@ -35,10 +35,10 @@ FormTimestamp nanos b v = (micros : ℤ) × IsBe w64 b micros × IsAfterBase nan
 abbrev pub ReadsTimestamp : {A : Type 0} → (A → ℤ) → Cell → Outcome A → Type 0
 ReadsTimestamp nanos = ReadsPlain (FormTimestamp nanos) (first_fault_number (byte_len w64))
 
--- the microseconds from 2000-01-01 00:00:00 UTC to a timestamp, truncated toward it on both sides
+-- the microseconds from 2000-01-01 00:00:00 UTC to a timestamp, truncated toward zero
 abbrev pub whole_micros : ℤ → ℤ
 whole_micros nanos = int_div (nanos -ℤ base_nanos) (pos 1000)
 
--- the cell of a timestamp: these microseconds, or Transmit where they leave 8 bytes
+-- the cell of a timestamp: these microseconds, or Transmit if they do not fit in 8 bytes
 abbrev pub wire_timestamp : ℤ → Wire
 wire_timestamp nanos = wire_signed w64 (whole_micros nanos)

@@ -1,4 +1,4 @@
-//! Lists of bits.
+//! Bit strings.
 ghost use Rattle.std.specs.Prelude.{◌≡◌, ◌==◌, ◌*◌, ◌<◌, ◌≤◌, ℕ, List, [], ◌∷◌, Bool, length, IfOk, IfErr, Some};
 ghost use Rattle.std.specs.Prelude.{slice_get, if◌then◌else◌};
 ghost use Rattle.std.specs.Bool.{beq};
@@ -17,15 +17,16 @@ use std::alloc::{AllocError, Global};
 use std::fmt;
 use std::marker::Model;
 
-/// A list of bits, packed eight to a byte.
+/// A bit string, packed eight bits to a byte.
 #[derive(Debug, Drop)]
 pub struct BitVec {
-    /// The first bit is the top one of the first byte; what pads the last byte is 0.
+    /// The first bit is the most significant one of the first byte; the padding bits of the last
+    /// byte are 0.
     bytes: Vec<u8>,
     len: usize,
 }
 
-/// Contracts see the list.
+/// In contracts, a bit string is the list of its bits.
 impl Model for BitVec {
     ghost use Rattle.std.specs.Prelude.{◌≡◌, Bool, List};
     ghost use Rattle.pg_base.specs.Bits.{first_bits, packed};
@@ -38,7 +39,7 @@ impl Model for BitVec {
 }
 
 impl BitVec {
-    /// No bits.
+    /// Creates an empty bit string.
     pub fn new(alloc: Global) -> BitVec
         ensures { result ≡ [] }
     {
@@ -48,8 +49,9 @@ impl BitVec {
         }
     }
 
-    /// The bits of the bytes, the top one of each byte first. More than `usize::MAX` bits are
-    /// [`Fault::Transmit`].
+    /// Copies the bits of the bytes, the most significant bit of each byte first. Fails with
+    /// [`Fault::Transmit`] if there are more than `usize::MAX` bits, and with [`Fault::Memory`] if
+    /// memory runs out.
     pub fn from_bytes(alloc: Global, bytes: &[u8]) -> Result<BitVec, Fault>
         ensures { TakesBytes bytes.now result }
     {
@@ -60,7 +62,7 @@ impl BitVec {
         Ok(BitVec { bytes, len })
     }
 
-    /// The bits of a cell.
+    /// Copies the bits of a cell. The only error is [`Fault::Memory`].
     pub fn from_varbit(alloc: Global, bits: Varbit<'_>) -> Result<BitVec, Fault>
         ensures ok { IfOk result (λ v. v ≡ first_bits bits.entry.len bits.entry.bytes.now) }
         ensures refused { IfErr result (λ e. e ≡ Memory) }
@@ -74,7 +76,7 @@ impl BitVec {
         Ok(BitVec { bytes, len })
     }
 
-    /// The number of bits.
+    /// Returns the number of bits.
     #[tactic(auto, using(crate::proofs::BitLemmas::first_bits_len))]
     pub fn len(&self) -> usize
         ensures { result ≡ length self.now }
@@ -89,7 +91,7 @@ impl BitVec {
         self.len() == 0
     }
 
-    /// The bit at this place, or `None` past the last one.
+    /// Returns the bit at index `i`, counted from 0, or `None` if there are not that many bits.
     pub fn get(&self, i: usize) -> Option<bool>
         ensures { result ≡ slice_get self.now i }
     {
@@ -100,8 +102,8 @@ impl BitVec {
         }
     }
 
-    /// Appends the bit. Where there are `usize::MAX` of them it is refused with
-    /// [`Fault::Transmit`]. A refused one leaves the bits as they were.
+    /// Appends a bit. Fails with [`Fault::Transmit`] if there are `usize::MAX` bits already, and
+    /// with [`Fault::Memory`] if memory runs out. An error leaves the bits unchanged.
     pub fn push(&mut self, bit: bool) -> Result<(), Fault>
         ensures { Pushes self.old bit self.new result }
     {
@@ -118,7 +120,7 @@ impl BitVec {
         Ok(())
     }
 
-    /// Removes the last bit and answers it, or `None` where there is none.
+    /// Removes the last bit and returns it, or returns `None` if there is none.
     pub fn pop(&mut self) -> Option<bool>
         ensures { Pops self.old result self.new }
     {
@@ -137,7 +139,8 @@ impl BitVec {
         Some(bit)
     }
 
-    /// The bits packed eight to a byte, the first on top. What pads the last byte is 0.
+    /// Returns the bits packed eight to a byte, the first bit being the most significant one of the
+    /// first byte. The padding bits of the last byte are 0.
     #[tactic(auto, using(crate::proofs::BitLemmas::packed_len, crate::proofs::BitLemmas::first_bits_packed))]
     pub fn as_bytes(&self) -> &[u8]
         ensures bytes { result.now ≡ packed self.now }
@@ -147,7 +150,7 @@ impl BitVec {
         self.bytes.as_slice()
     }
 
-    /// A copy of [`as_bytes`](BitVec::as_bytes).
+    /// Returns a copy of [`as_bytes`](BitVec::as_bytes). The only error is [`Fault::Memory`].
     pub fn to_bytes(&self, alloc: Global) -> Result<Vec<u8>, Fault>
         ensures ok { IfOk result (λ bytes. bytes.items ≡ packed self.now) }
         ensures refused { IfErr result (λ e. e ≡ Memory) }
@@ -168,7 +171,7 @@ impl Clone for BitVec {
     }
 }
 
-/// A digit 0 or 1 for each bit (`bit_out`, `varbit_out`).
+/// Writes a digit 0 or 1 for each bit (`bit_out`, `varbit_out`).
 impl fmt::Display for BitVec {
     ghost output = { λ bits. Some (bits_text bits) };
 
@@ -183,14 +186,14 @@ impl fmt::Display for BitVec {
     }
 }
 
-/// The digit of a bit.
+/// Returns the digit of a bit.
 fn bit_text(bit: bool) -> &'static str
     ensures { result.now ≡ bit_digit bit ∷ [] }
 {
     if bit { "1" } else { "0" }
 }
 
-/// Equal where they have the same bits.
+/// Two bit strings are equal if they have the same bits.
 impl PartialEq for BitVec {
     ghost eq = { pointwise beq };
 
@@ -206,7 +209,7 @@ impl Eq for BitVec {
     ghost laws = { lists_equiv bool_eq_equiv };
 }
 
-/// The bit of a byte at this place, counted from the top.
+/// Returns a bit of a byte; place 0 is the most significant bit.
 #[tactic(auto, using(crate::proofs::BitLemmas::read_bit))]
 fn bit_of(byte: u8, place: usize) -> bool
     requires { place < 8 }
@@ -215,7 +218,7 @@ fn bit_of(byte: u8, place: usize) -> bool
     byte >> (7 - place) & 1 == 1
 }
 
-/// The byte with another bit at this place, counted from the top.
+/// Returns the byte with the bit at `place` replaced; place 0 is the most significant bit.
 fn with_bit(byte: u8, place: usize, bit: bool) -> u8
     requires { place < 8 }
     ensures { (at : ℕ) → at < 8 → bit_of result at ≡ (if at == place then bit else bit_of byte at) }

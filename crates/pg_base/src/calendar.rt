@@ -1,4 +1,4 @@
-//! The parts of `jiff`'s dates, times of day and timestamps.
+//! The fields of dates, times of day and timestamps of `jiff`.
 ghost use Rattle.std.specs.Prelude.{◌≡◌, ◌/◌, ◌<◌, int_div, pos};
 ghost use Rattle.pg_base.specs.Civil.{instant_nanos};
 ghost use Rattle.pg_calendar.specs.Calendar.{IsTimestamp};
@@ -6,7 +6,7 @@ ghost use Rattle.pg_calendar.specs.Calendar.{IsTimestamp};
 use jiff::{Timestamp, civil};
 use pg_calendar::{Civil, Clock, DateTime};
 
-/// The day of a date.
+/// Returns the year, month and day of a date.
 pub fn day_of(date: civil::Date) -> Civil
     ensures { (result.year ≡ date.year) × (result.month ≡ date.month) × (result.day ≡ date.day) }
 {
@@ -17,7 +17,7 @@ pub fn day_of(date: civil::Date) -> Civil
     }
 }
 
-/// The time of day, without what is below a microsecond.
+/// Returns the time of day, truncated to microseconds.
 pub fn clock_of(time: civil::Time) -> Clock
     ensures value { (result.hour ≡ time.hour) × (result.minute ≡ time.minute) × (result.second ≡ time.second)
         × (result.micros ≡ time.subsec_nanosecond / 1_000) }
@@ -31,7 +31,8 @@ pub fn clock_of(time: civil::Time) -> Clock
     }
 }
 
-/// The day and the time of day of a timestamp in UTC, truncated to a microsecond toward 1970-01-01.
+/// Returns the date and the time of day of a timestamp in UTC. It is truncated to microseconds
+/// toward 1970-01-01 00:00:00 UTC.
 pub fn datetime_of(timestamp: Timestamp) -> DateTime
     ensures { IsTimestamp result.date.year result.date.month result.date.day result.clock.hour result.clock.minute
         result.clock.second result.clock.micros (int_div (instant_nanos timestamp) (pos 1000)) }

@@ -1,17 +1,17 @@
-//! Intervals of time.
+//! Intervals.
 pub mod laws;
 mod text;
 
-/// An interval of time, in three parts that PostgreSQL keeps apart: a month has no fixed number of
-/// days, and a day no fixed number of hours.
+/// An interval, in the three parts that PostgreSQL keeps apart, because a month has no fixed number
+/// of days and a day no fixed number of hours.
 ///
-/// Each part has a sign of its own. Equality is of the parts, so a month and 30 days are not equal,
-/// while the server's `=` takes them for equal.
+/// Each part has its own sign. Two intervals are equal if their parts are equal: one month and 30
+/// days are different here, while the server's `=` takes them as equal.
 #[derive(Debug, Clone, Copy, PartialEq, Eq)]
 pub struct Interval {
-    /// The microseconds, beside the days and the months.
+    /// The microseconds, without the days and months.
     pub microseconds: i64,
-    /// The days, beside the months.
+    /// The days, without the months.
     pub days: i32,
     /// The months.
     pub months: i32,

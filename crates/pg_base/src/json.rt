@@ -1,14 +1,14 @@
-//! What reading and writing of documents share.
+//! What reading and writing of JSON documents share.
 ghost use Rattle.std.specs.Prelude.{◌≡◌};
 ghost use Rattle.serde_json.specs.View.{view, items_view, members_view};
 ghost use Rattle.serde_json.specs.Written.{has_float, items_have_float, members_have_float};
 
 use serde_json::{Map, Value};
 
-/// The first byte of a JSONB cell.
+/// The version, which is the first byte of a JSONB cell.
 pub const JSONB_VERSION: u8 = 1;
 
-/// Whether the value holds, at any depth, a number that is kept as neither `i64` nor `u64`.
+/// Whether the value contains, at any depth, a number that is neither an `i64` nor a `u64`.
 #[cycle(numbers)]
 pub fn has_other_number(value: &Value) -> bool
     ensures { result ≡ has_float (view value.now) }

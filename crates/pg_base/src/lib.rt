@@ -1,7 +1,7 @@
 //! Postgres types, faults, and the byte formats of plain values.
 //!
-//! A reader of [`protocol`] answers the value that its bytes spell, or the fault of the first check
-//! that they fail; an appender appends its value's bytes, or nothing.
+//! A reader of [`protocol`] returns the value that its bytes spell, or the fault of the first check
+//! that fails. An appender appends its value's bytes, or nothing.
 #![tactic(auto)]
 
 pub mod acceptance;

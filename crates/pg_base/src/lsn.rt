@@ -1,4 +1,4 @@
-//! Log positions.
+//! Positions in the write-ahead log.
 ghost use Rattle.std.specs.Prelude.{◌≡◌, ℕ, Some};
 ghost use Rattle.std.specs.Result.{result_ok};
 ghost use Rattle.pg_base.specs.Lsn.{half_of, lsn_of, lsn_text};
@@ -9,10 +9,10 @@ use std::fmt;
 use std::marker::Model;
 use std::str::FromStr;
 
-/// A position in the write-ahead log, which is a number of 64 bits.
+/// A log sequence number (LSN): a position in the write-ahead log, as a number of 64 bits.
 ///
-/// It is displayed as its high and its low 32 bits in upper-case hexadecimal, without leading zeros
-/// and with `/` between, as by PostgreSQL's `pg_lsn_out`.
+/// Its text is the high and the low 32 bits in upper-case hexadecimal, without leading zeros, with
+/// `/` between them, as in `pg_lsn_out`.
 #[derive(Clone, Copy, PartialEq, Eq, PartialOrd, Ord)]
 pub struct PgLsn(u64);
 
@@ -40,13 +40,14 @@ impl From<PgLsn> for u64 {
     }
 }
 
-/// A text that is no log position.
+/// The error that a text is not a log sequence number.
 #[derive(Debug, Drop)]
 pub struct ParseLsnError(());
 
-/// Parses two halves with a `/` between, at the first `/` of the text. Each is an optional `+` and
-/// one or more hexadecimal digits of either case, of value below 2^64. The position is
-/// `(high << 32) | low`: the high half loses its bits beyond 32, and the low half may have more.
+/// Parses two hexadecimal numbers, separated by the first `/` of the text. Each has one or more
+/// digits of either case, possibly after a `+`, and is below 2^64. The result is
+/// `(high << 32) | low`: of the high number the upper 32 bits are lost, and the low number may have
+/// more than 32 bits. (`pg_lsn_in` takes at most 8 digits and no `+`.)
 impl FromStr for PgLsn {
     type Err = ParseLsnError;
 
@@ -62,7 +63,7 @@ impl FromStr for PgLsn {
     }
 }
 
-/// The number of one half of the text.
+/// Returns the number in one half of the text.
 #[tactic(auto, using(crate::proofs::LsnLemmas::half_from_parse))]
 fn half(text: &str) -> Result<u64, ParseLsnError>
     ensures { result_ok result ≡ half_of text.now }

@@ -12,7 +12,7 @@ use crate::fault::Fault;
 use std::marker::Model;
 use std::net::{IpAddr, Ipv4Addr, Ipv6Addr};
 
-/// How many bits an address has: 32 in IPv4 and 128 in IPv6.
+/// Returns the number of bits in an address: 32 for IPv4 and 128 for IPv6.
 pub fn address_bits(addr: IpAddr) -> u8
     ensures { result ≡ address_bits addr }
 {
@@ -22,8 +22,8 @@ pub fn address_bits(addr: IpAddr) -> u8
     }
 }
 
-/// An address of a host and the length of its netmask, how many of the address's first bits name
-/// the network.
+/// The IP address of a host and the length of its netmask: the number of leading bits of the
+/// address that name the network.
 #[derive(Debug, Clone, Copy, PartialEq, Eq)]
 pub struct IpInet {
     address: IpAddr,
@@ -41,8 +41,8 @@ impl Model for IpInet {
 }
 
 impl IpInet {
-    /// The address with a netmask of `len` bits, which is refused with `Netmask` where the address
-    /// has fewer: 32 in IPv4, 128 in IPv6.
+    /// Creates a value from an address and the length `len` of its netmask. Fails with `Netmask` if
+    /// `len` is greater than 32 for IPv4, or 128 for IPv6.
     #[inline(always)]
     pub fn new(addr: IpAddr, len: u8) -> Result<IpInet, Fault>
         ensures outcome { Answers (NetworkOrFault (with_netmask addr len)
@@ -55,14 +55,14 @@ impl IpInet {
         Ok(IpInet { address: addr, len })
     }
 
-    /// The address.
+    /// Returns the address.
     pub fn address(&self) -> IpAddr
         ensures { result ≡ self.now.address }
     {
         self.address
     }
 
-    /// The length of the netmask.
+    /// Returns the length of the netmask in bits.
     pub fn network_length(&self) -> u8
         ensures length { result ≡ self.now.masklen }
         ensures fits { NetmaskFits self.now }
@@ -71,8 +71,8 @@ impl IpInet {
     }
 }
 
-/// A network: its first address and the length of its netmask, after which no bit of the address
-/// is 1.
+/// A network: its first address and the length of its netmask. The bits of the address after the
+/// netmask are 0.
 #[derive(Debug, Clone, Copy, PartialEq, Eq)]
 pub struct IpCidr {
     first: IpInet,
@@ -89,8 +89,8 @@ impl Model for IpCidr {
 }
 
 impl IpCidr {
-    /// The network of that first address and a netmask of `len` bits. It is refused with `Netmask`
-    /// where the address has fewer bits, 32 in IPv4 and 128 in IPv6, and then with `HostBits` where
+    /// Creates a network from its first address and the length `len` of its netmask. Fails with
+    /// `Netmask` if `len` is greater than 32 for IPv4, or 128 for IPv6, and then with `HostBits` if
     /// a bit of the address after the first `len` is 1.
     #[inline(always)]
     pub fn new(addr: IpAddr, len: u8) -> Result<IpCidr, Fault>
@@ -105,14 +105,14 @@ impl IpCidr {
         Ok(IpCidr { first })
     }
 
-    /// The first address of the network.
+    /// Returns the first address of the network.
     pub fn first_address(&self) -> IpAddr
         ensures { result ≡ self.now.address }
     {
         self.first.address()
     }
 
-    /// The length of the netmask.
+    /// Returns the length of the netmask in bits.
     pub fn network_length(&self) -> u8
         ensures length { result ≡ self.now.masklen }
         ensures fits { NetmaskFits self.now }
@@ -122,7 +122,7 @@ impl IpCidr {
     }
 }
 
-/// Whether a bit of the address after the first `len` is 1.
+/// Whether a bit of the address after the first `len` bits is 1.
 #[inline(always)]
 #[tactic(auto, using(crate::proofs::HostBits::v4_host_part, crate::proofs::HostBits::v6_host_part))]
 fn has_host_bits(addr: IpAddr, len: u8) -> bool
@@ -148,14 +148,14 @@ impl Model for MacAddress {
 }
 
 impl MacAddress {
-    /// The MAC address of these bytes.
+    /// Creates a MAC address from its bytes, in the order of its text.
     pub fn new(bytes: [u8; 6]) -> MacAddress
         ensures { result ≡ bytes }
     {
         MacAddress(bytes)
     }
 
-    /// The bytes of the MAC address.
+    /// Returns the bytes of the MAC address, in the order of its text.
     pub fn to_array(&self) -> [u8; 6]
         ensures { result ≡ self.now }
     {

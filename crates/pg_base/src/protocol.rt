@@ -1,12 +1,12 @@
-//! The byte formats: for each a reader and an appender, over bytes alone.
+//! The binary formats: for each a function that reads it and one that appends it, over bytes alone.
 //!
-//! A reader answers the value that its bytes spell, or the fault of the first check that they fail.
-//! An appender appends the bytes of its value, or leaves the buffer as it was with `Memory`, and
-//! that only where the buffer had less spare room than these bytes; where a limit is passed it
-//! answers `Transmit`.
+//! A reader (`..._from_sql`) returns the value that its bytes spell, or the fault of the first
+//! check that fails. An appender (`..._to_sql`) appends the bytes of its value. It fails with
+//! `Transmit` if a length or a count exceeds a limit, and with `Memory` only if the buffer has less
+//! spare room than the bytes to append. An error leaves the buffer's bytes as they were.
 //!
-//! Appenders are inlined into the conversions, since each call would hand over a `Result` with a
-//! `Fault`, of about 100 bytes, through memory.
+//! Appenders are inlined into the conversions, because a call would return its `Result`, with a
+//! `Fault` of about 100 bytes, through memory.
 
 mod arrays;
 mod bits;
@@ -25,10 +25,10 @@ mod timestamps;
 mod uuids;
 
 pub use arrays::{ArrayCells, array_from_sql, array_to_sql};
-pub(crate) use bits::without_pad;
-pub use bits::{Varbit, varbit_from_sql, varbit_to_sql};
+pub use bits::{Varbit, varbit_from_sql, varbit_to_sql, without_pad};
 pub use bytea::{bytea_from_sql, bytea_to_sql};
 pub use civil::{date_from_sql, date_to_sql, time_from_sql, time_to_sql};
+pub use counts::{split_cell, split_number};
 pub use frames::{MAX_LEN, frame_to_sql, set_number};
 pub use hstore::{HstoreEntries, hstore_from_sql, hstore_to_sql};
 pub use interval::{interval_from_sql, interval_to_sql};

@@ -1,10 +1,10 @@
-//! Dates and timestamps with PostgreSQL's infinities.
+//! Dates and timestamps that may be infinite.
 
 pub mod laws;
 mod text;
 
-/// A date, or PostgreSQL's `infinity` or `-infinity`, which are the greatest and the least number
-/// of the 4 bytes of DATE (`date_recv`, `date_send`).
+/// A date, or PostgreSQL's `infinity` or `-infinity`, whose cells are the greatest and the least
+/// number of 4 bytes (`date_recv`, `date_send`).
 #[derive(Debug, Clone, Copy, PartialEq, Eq, Drop)]
 pub enum Date<T> {
     /// `infinity`, which is later than every other date.
@@ -15,9 +15,9 @@ pub enum Date<T> {
     Value(T),
 }
 
-/// A timestamp, or PostgreSQL's `infinity` or `-infinity`, which are the greatest and the least
-/// number of the 8 bytes of TIMESTAMP and TIMESTAMPTZ (`timestamp_recv`, `timestamptz_recv` and
-/// their sends).
+/// A timestamp, or PostgreSQL's `infinity` or `-infinity`, whose cells are the greatest and the
+/// least number of 8 bytes (`timestamp_recv`, `timestamp_send`, `timestamptz_recv`,
+/// `timestamptz_send`).
 #[derive(Debug, Clone, Copy, PartialEq, Eq, Drop)]
 pub enum Timestamp<T> {
     /// `infinity`, which is later than every other timestamp.

@@ -1,4 +1,4 @@
-//! Timestamps in seconds.
+//! Timestamps in seconds and nanoseconds.
 ghost use Rattle.std.specs.Prelude.{◌≡◌, ◌≤◌, ◌<◌, false, MatchOption, int_div, pos};
 ghost use Rattle.pg_base.specs.Numbers.{fits_signed};
 ghost use Rattle.std.specs.Int.{w64};
@@ -8,10 +8,10 @@ mod text;
 
 use crate::epoch::POSTGRES_EPOCH_SECS;
 
-/// A timestamp: seconds from 1970-01-01 00:00:00 UTC, negative before it, and the nanoseconds after
-/// that second.
+/// A timestamp: the seconds from 1970-01-01 00:00:00 UTC, negative before it, and the nanoseconds
+/// after that second.
 ///
-/// Its order is that of its nanoseconds since the epoch.
+/// Timestamps are ordered by time.
 #[derive(Debug, Clone, Copy, PartialEq, Eq, PartialOrd, Ord)]
 pub struct UnixTime {
     secs: i64,
@@ -22,8 +22,8 @@ pub struct UnixTime {
 impl UnixTime {
     ghost use Rattle.pg_base.specs.Timestamps.{IsAfterBase, nanos_of, whole_micros};
 
-    /// The timestamp `nanos` nanoseconds after second `secs`; `None` where `nanos` is 1,000,000,000
-    /// or more.
+    /// Creates the timestamp that is `nanos` nanoseconds after second `secs`. Returns `None` if
+    /// `nanos` is 1,000,000,000 or more.
     pub fn new(secs: i64, nanos: u32) -> Option<UnixTime>
         ensures { MatchOption result (1_000_000_000 ≤ nanos) (λ t. (t.secs ≡ secs) × (t.nanos ≡ nanos)) }
     {
@@ -33,14 +33,14 @@ impl UnixTime {
         Some(UnixTime { secs, nanos })
     }
 
-    /// The seconds from 1970-01-01 00:00:00 UTC.
+    /// Returns the seconds from 1970-01-01 00:00:00 UTC, rounded down.
     pub fn secs(&self) -> i64
         ensures { result ≡ self.now.secs }
     {
         self.secs
     }
 
-    /// The nanoseconds after that second, fewer than 1,000,000,000.
+    /// Returns the nanoseconds after that second, fewer than 1,000,000,000.
     pub fn nanos(&self) -> u32
         ensures value { result ≡ self.now.nanos }
         ensures within_second { result < 1_000_000_000 }
@@ -48,7 +48,7 @@ impl UnixTime {
         self.nanos
     }
 
-    /// The timestamp that many microseconds after 2000-01-01 00:00:00 UTC.
+    /// Creates the timestamp that is `micros` microseconds after 2000-01-01 00:00:00 UTC.
     pub fn from_postgres_micros(micros: i64) -> UnixTime
         ensures { IsAfterBase nanos_of micros result }
     {
@@ -58,8 +58,8 @@ impl UnixTime {
         }
     }
 
-    /// The microseconds from 2000-01-01 00:00:00 UTC to the timestamp, truncated toward 2000 on
-    /// both sides; `None` where an `i64` does not hold them.
+    /// Returns the microseconds from 2000-01-01 00:00:00 UTC to the timestamp, truncated toward
+    /// zero. Returns `None` if they do not fit in an `i64`.
     pub fn to_postgres_micros(&self) -> Option<i64>
         ensures { MatchOption result (fits_signed w64 (whole_micros (nanos_of self.now)) ≡ false)
             (λ micros. micros ≡ whole_micros (nanos_of self.now)) }
@@ -70,9 +70,9 @@ impl UnixTime {
     }
 }
 
-/// A thousandth, truncated toward zero; `None` where an `i64` does not hold it. Within 64 bits, as
-/// of the years from 1708 to 2292, it is divided there: a division in 128 bits takes many times as
-/// long.
+/// Returns a thousandth, truncated toward zero; `None` if it does not fit in an `i64`. Nanoseconds
+/// that fit in 64 bits, as in the years from 1708 to 2292, are divided in 64 bits, because a
+/// division in 128 bits takes many times as long.
 fn thousandth(nanos: i128) -> Option<i64>
     ensures { MatchOption result (fits_signed w64 (int_div nanos (pos 1000)) ≡ false)
         (λ n. n ≡ int_div nanos (pos 1000)) }

@@ -1,3 +1,3 @@
--- The words of the calendar and of its texts.
+-- Definitions of the calendar and of its texts.
 pub mod Calendar
 pub mod Texts

@@ -6,14 +6,15 @@ ghost use Rattle.jiff_core.specs.Calendar.{days_in_month, is_leap_year};
 ghost use Rattle.jiff_core.specs.March.{march_days};
 ghost use Rattle.pg_calendar.specs.Calendar.{IsDay, day_number};
 
-/// How many days 400 years have.
+/// The number of days in 400 years, after which the calendar repeats.
 const CYCLE: i64 = 146_097;
 
-/// 1970-01-01, in days from 0000-03-01. Years are counted from March here, so that the day that a
-/// leap year has more is the last one of its year.
+/// The number of days from 0000-03-01 to 1970-01-01. Years are counted from March here, so that the
+/// leap day is the last day of its year.
 const EPOCH_FROM_MARCH: u32 = 719_468;
 
-/// A day of the calendar. The year before year 1 is 0, which PostgreSQL writes as 1 BC.
+/// A date of the proleptic Gregorian calendar. Year 0 is the year before year 1; PostgreSQL writes
+/// it as 1 BC.
 #[derive(Debug, Clone, Copy, PartialEq, Eq)]
 pub struct Civil {
     pub year: i64,
@@ -24,7 +25,7 @@ pub struct Civil {
 }
 
 impl Civil {
-    /// The day that many days after 1970-01-01, or before it where the number is negative.
+    /// Returns the date that is `day` days after 1970-01-01, or before it if `day` is negative.
     pub fn from_day(day: i64) -> Civil
         ensures civil { IsDay result.year result.month result.day }
         ensures value { day_number result.year result.month result.day ≡ day }
@@ -41,8 +42,9 @@ impl Civil {
         }
     }
 
-    /// How many days after 1970-01-01 it is, negative before; `None` where the month has no such
-    /// day, or the number of days leaves 64 bits.
+    /// Returns the number of days from 1970-01-01 to this date, which is negative before 1970.
+    /// Returns `None` if the month or the day does not exist, or if the number does not fit in an
+    /// `i64`.
     pub fn to_day(self) -> Option<i64>
         ensures { MatchOption result
             (IsDay self.year self.month self.day → ¬ (FitsSigned w64 (day_number self.year self.month self.day)))
@@ -52,7 +54,7 @@ impl Civil {
         if day == 0 || day > days_in_month(year, month) {
             return None;
         }
-        // 400 years more, of which the first one has one before it.
+        // 400 is added, since January and February of the first year count as the year before.
         let year_of_cycle = year.rem_euclid(400) as u32 + 400;
         let (year_of_cycle, month) = if month > 2 {
             (year_of_cycle, month)
@@ -65,8 +67,8 @@ impl Civil {
     }
 }
 
-/// How many days after 1970-01-01 a day is that has this number in the 400 years, or those before
-/// and after them; `None` where the number of days leaves 64 bits.
+/// Returns the number of days from 1970-01-01 to a day of the 400-year cycle `cycle`; `None` if it
+/// does not fit in an `i64`. Day 1 is 1 March, 400 years before the first year of the cycle.
 fn day_of_cycle(cycle: i64, day: u32) -> Option<i64>
     ensures { MatchOption result (¬ (FitsSigned w64 (cycle *ℤ pos 146_097 +ℤ pos day -ℤ pos 865_566)))
         (λ n. n ≡ cycle *ℤ pos 146_097 +ℤ pos day -ℤ pos 865_566) }
@@ -75,7 +77,7 @@ fn day_of_cycle(cycle: i64, day: u32) -> Option<i64>
     i64::try_from(days - 865_566).ok()
 }
 
-/// The year and the day of the year, each from 0, of a day from 0000-03-01.
+/// Returns the year, and the day of that year, both from 0, for a number of days from 0000-03-01.
 fn year_from_march(day: u32) -> (u32, u32)
     ensures value { march_days result.0 + result.1 ≡ day }
     ensures within { day < march_days (result.0 + 1) }
@@ -90,7 +92,7 @@ fn year_from_march(day: u32) -> (u32, u32)
     (year as u32, (scaled % 1_461 / 4) as u32)
 }
 
-/// How many days the month has; 0 where there is no such month.
+/// Returns the number of days in the month, or 0 if there is no such month.
 fn days_in_month(year: i64, month: u32) -> u32
     ensures { result ≡ if nat_lt 0 month && nat_lt month 13 then days_in_month year month else 0 }
 {

@@ -1,10 +1,10 @@
-//! Times of day, and days with a time of day.
+//! Times of day, and dates with a time of day.
 ghost use Rattle.std.specs.Prelude.{◌≡◌, ◌<◌, ◌/◌, ◌%◌, IfSome, pos, ◌+ℤ◌, ◌-ℤ◌, ◌*ℤ◌};
 ghost use Rattle.pg_calendar.specs.Calendar.{IsTimestamp, micros_of_day};
 
 use crate::civil::Civil;
 
-/// How many seconds a day has.
+/// The number of seconds in a day.
 const DAY: i64 = 86_400;
 
 /// A time of day.
@@ -17,7 +17,7 @@ pub struct Clock {
 }
 
 impl Clock {
-    /// The time that many seconds after midnight, and the microseconds after that second.
+    /// Returns the time of day that is `seconds` seconds and `micros` microseconds after midnight.
     pub fn new(seconds: u32, micros: u32) -> Clock
         ensures { (result.hour ≡ seconds / 3_600) × (result.minute ≡ seconds / 60 % 60) × (result.second ≡ seconds % 60)
             × (result.micros ≡ micros) }
@@ -30,7 +30,7 @@ impl Clock {
         }
     }
 
-    /// The microseconds from midnight; `None` where there is no such time. 24:00:00 is none.
+    /// Returns the microseconds from midnight, or `None` if there is no such time, as for 24:00:00.
     fn to_micros(self) -> Option<i64>
         ensures { IfSome result (λ n. (self.hour < 24) × (self.minute < 60) × (self.second < 60)
             × (self.micros < 1_000_000) × (n ≡ pos (micros_of_day self.hour self.minute self.second self.micros))) }
@@ -49,7 +49,7 @@ impl Clock {
     }
 }
 
-/// A day and a time of day.
+/// A date and a time of day.
 #[derive(Debug, Clone, Copy, PartialEq, Eq)]
 pub struct DateTime {
     pub date: Civil,
@@ -57,8 +57,8 @@ pub struct DateTime {
 }
 
 impl DateTime {
-    /// What stands that many seconds after 1970-01-01 00:00:00, and the microseconds after that
-    /// second.
+    /// Returns the timestamp that is `seconds` seconds and `micros` microseconds after 1970-01-01
+    /// 00:00:00.
     pub fn new(seconds: i64, micros: u32) -> DateTime
         ensures { micros < 1_000_000 → IsTimestamp result.date.year result.date.month result.date.day result.clock.hour
             result.clock.minute result.clock.second result.clock.micros (seconds *ℤ pos 1_000_000 +ℤ pos micros) }
@@ -70,8 +70,9 @@ impl DateTime {
         }
     }
 
-    /// The microseconds from midnight of a day, which is told in days from 1970-01-01; `None` where
-    /// there is no such date or time, or they leave 64 bits.
+    /// Returns the microseconds to this timestamp from midnight of day `day`, which is counted in
+    /// days from 1970-01-01. Returns `None` if the date or the time does not exist, or if the
+    /// number does not fit in an `i64`.
     pub fn micros_from(self, day: i64) -> Option<i64>
         ensures { IfSome result (λ micros. IsTimestamp self.date.year self.date.month self.date.day self.clock.hour
             self.clock.minute self.clock.second self.clock.micros (micros +ℤ day *ℤ pos 86_400_000_000)) }
@@ -80,12 +81,12 @@ impl DateTime {
     }
 }
 
-/// The microseconds from midnight of one day to so many after midnight of another; `None` where they
-/// leave 64 bits.
+/// Returns the microseconds from midnight of day `start` to `micros` after midnight of day `day`;
+/// `None` if they do not fit in an `i64`.
 fn micros_since(start: i64, day: i64, micros: i64) -> Option<i64>
     ensures { IfSome result (λ n. n ≡ (day -ℤ start) *ℤ pos 86_400_000_000 +ℤ micros) }
 {
-    // The day may begin before what 64 bits hold, and the time of day not.
+    // Midnight of `day` may not fit in 64 bits although the timestamp does.
     let days = i128::from(day) - i128::from(start);
     i64::try_from(days * 86_400_000_000 + i128::from(micros)).ok()
 }

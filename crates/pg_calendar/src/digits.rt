@@ -1,9 +1,9 @@
-//! Digits of numbers below a million.
+//! The decimal digits of numbers below a million.
 ghost use Rattle.std.specs.Prelude.{◌≡◌, ◌≤◌, ◌-◌, ◌==◌, ◌∷◌, [], MatchOption, length};
 ghost use Rattle.std.specs.List.{suffix_len};
 ghost use Rattle.pg_calendar.specs.Texts.{padded_text};
 
-/// The two digits of a number, of which the first may be 0; `None` where it has more.
+/// Returns the two digits of a number, padded with a zero; `None` if it has more digits.
 pub fn two_digits(number: u32) -> Option<(u8, u8)>
     ensures { MatchOption result (100 ≤ number) (λ digits. padded_text 2 number ≡ digits.0 ∷ digits.1 ∷ []) }
 {
@@ -14,7 +14,7 @@ pub fn two_digits(number: u32) -> Option<(u8, u8)>
     }
 }
 
-/// The six digits of a number, of which the first may be 0; `None` where it has more.
+/// Returns the six digits of a number, padded with zeros; `None` if it has more digits.
 pub fn six_digits(number: u32) -> Option<[u8; 6]>
     ensures { MatchOption result (1_000_000 ≤ number) (λ digits. digits ≡ padded_text 6 number) }
 {
@@ -24,7 +24,7 @@ pub fn six_digits(number: u32) -> Option<[u8; 6]>
     Some([d0, d1, d2, d3, d4, d5])
 }
 
-/// The length of the text without the zeros at its end.
+/// Returns the length of the text without its trailing zeros.
 pub fn len_without_zeros(text: &[u8]) -> usize
     ensures value { result ≡ length text.now - suffix_len (λ c. c == 48) text.now }
     ensures bound { result ≤ length text.now }

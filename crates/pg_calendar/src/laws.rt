@@ -1,21 +1,23 @@
-//! Each day has one number, and each number one day, as calls whose contracts say it.
+//! Each day has one number, and each number is that of one day, as functions whose contracts state
+//! it.
 ghost use Rattle.std.specs.Prelude.{◌≡◌, ℕ, ℤ};
 ghost use Rattle.jiff_core.specs.Calendar.{IsCivilDate, days_from_civil};
 ghost use Rattle.pg_calendar.specs.Calendar.{IsDay, civil_day, civil_month, civil_year, day_number};
 
-/// The number of a day is the one that the calendar of `jiff` defines for each of its days.
+/// The number of a day is the one that the calendar of `jiff` defines, for each day of that
+/// calendar.
 pub fn days_are_numbered()
     ensures { (year : ℤ) (month day : ℕ) → IsCivilDate year month day
         → day_number year month day ≡ days_from_civil year month day }
 {}
 
-/// Two days have two numbers, so a timestamp has one text.
+/// Different days have different numbers, so a timestamp has one text.
 pub fn a_number_is_of_one_day()
     ensures { (y₁ y₂ : ℤ) (m₁ d₁ m₂ d₂ : ℕ) → IsDay y₁ m₁ d₁ → IsDay y₂ m₂ d₂
         → day_number y₁ m₁ d₁ ≡ day_number y₂ m₂ d₂ → (y₁ ≡ y₂) × (m₁ ≡ m₂) × (d₁ ≡ d₂) }
 {}
 
-/// Each number is a day's.
+/// Each number is that of a day.
 pub fn a_number_is_a_day()
     ensures { (n : ℤ) → IsDay (civil_year n) (civil_month n) (civil_day n)
         × (day_number (civil_year n) (civil_month n) (civil_day n) ≡ n) }

@@ -1,4 +1,5 @@
-//! Days of the proleptic Gregorian calendar, times of day, and their texts as PostgreSQL writes them.
+//! Dates of the proleptic Gregorian calendar, times of day, and their texts as PostgreSQL writes
+//! them.
 #![tactic(auto)]
 
 mod civil;

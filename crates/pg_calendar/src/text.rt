@@ -9,7 +9,7 @@ use crate::date_time::{Clock, DateTime};
 use crate::digits::{len_without_zeros, six_digits};
 use std::{fmt, str};
 
-/// The number of a year in its era.
+/// Returns the number of a year in its era: year 0 is 1 BC, so its number is 1.
 pub fn year_of_era(year: i64) -> u64
     ensures { result ≡ year_of_era year }
 {
@@ -20,7 +20,8 @@ pub fn year_of_era(year: i64) -> u64
     }
 }
 
-/// Writes the date and its era, as `2000-01-31` and `0044-03-15 BC` (`date_out`).
+/// Writes the date, and ` BC` after it for a year before year 1, like `2000-01-31` and
+/// `0044-03-15 BC` (`date_out`).
 pub fn write_date<W: fmt::Write>(date: Civil, f: &mut fmt::Formatter<W>) -> fmt::Result
     ensures { WritesOnOk W.write_str_gives f.old result (date_text date.year date.month date.day) f.new }
 {
@@ -28,7 +29,7 @@ pub fn write_date<W: fmt::Write>(date: Civil, f: &mut fmt::Formatter<W>) -> fmt:
     write_era(date.year, f)
 }
 
-/// Writes the time of day, as `23:59:59.5` (`time_out`).
+/// Writes the time of day, like `23:59:59.5` (`time_out`). `micros` must be below 1,000,000.
 pub fn write_clock<W: fmt::Write>(clock: Clock, f: &mut fmt::Formatter<W>) -> fmt::Result
     requires { clock.micros < 1_000_000 }
     ensures { WritesOnOk W.write_str_gives f.old result
@@ -44,8 +45,8 @@ pub fn write_clock<W: fmt::Write>(clock: Clock, f: &mut fmt::Formatter<W>) -> fm
     write_fraction(micros, f)
 }
 
-/// Writes the day, the time of day, the zone and the era, as `2000-01-31 23:59:59.5+00`
-/// (`timestamptz_out`).
+/// Writes the date, the time of day, the zone and, for a year before year 1, ` BC`, like
+/// `2000-01-31 23:59:59.5+00` (`timestamptz_out`). The microseconds must be below 1,000,000.
 pub fn write_timestamp<W: fmt::Write>(
     datetime: DateTime,
     zone: &str,
@@ -73,15 +74,14 @@ fn write_day<W: fmt::Write>(date: Civil, f: &mut fmt::Formatter<W>) -> fmt::Resu
     write!(f, "{year:04}-{month:02}-{day:02}")
 }
 
-/// Writes the era of a year before year 1, and nothing for another.
+/// Writes ` BC` for a year before year 1, and nothing for another.
 fn write_era<W: fmt::Write>(year: i64, f: &mut fmt::Formatter<W>) -> fmt::Result
     ensures { WritesOnOk W.write_str_gives f.old result (era_text year) f.new }
 {
     f.write_str(if year > 0 { "" } else { " BC" })
 }
 
-/// Writes the parts of a million as digits after a point, without zeros at the end; nothing where
-/// there are none.
+/// Writes a decimal point and the millionths without trailing zeros; nothing if there are none.
 fn write_fraction<W: fmt::Write>(millionths: u32, f: &mut fmt::Formatter<W>) -> fmt::Result
     requires { millionths < 1_000_000 }
     ensures { WritesOnOk W.write_str_gives f.old result (fraction_text millionths) f.new }

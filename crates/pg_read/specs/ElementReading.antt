@@ -19,7 +19,7 @@ TakesCellWith P old new =
 abbrev pub HasCellWith : (Cell → Type 0) → ToRead → Type 0
 HasCellWith P old = (new : ToRead) × TakesCellWith P old new
 
--- t is r but for its cells
+-- t is r, except for its cells
 pub record IsAlike {A : Type 0} (r t : ElementReader A) : Type 0 where
   pub element : t.element ≡ r.element
   pub expected : t.expected ≡ r.expected
@@ -31,28 +31,28 @@ abbrev pub GivesElement : {A : Type 0} → (Content → Cell → Outcome A → T
 GivesElement reads r v t =
     TakesCellWith (λ c. reads (content r.element.now) c (Ok v)) r.cells t.cells × IsAlike r t
 
--- the first check of what comes next that fails is this
+-- the first check that fails of what comes next has this fault
 abbrev pub IsDamaged : ToRead → Refusal → Type 0
 IsDamaged cells q = first_fault_of (next_checks cell_checks cells) ≡ Some q
 
--- the next cell is damaged, or refused with this; or memory ran out, where the cell is not read without
+-- the next cell is damaged, or refused with this; or memory ran out, and reading the cell allocates
 abbrev pub Fails : {A : Type 0} → (Content → Cell → Outcome A → Type 0) → (Cell → Type 0) → ElementReader A
     → Option Refusal → Type 0
 Fails reads free r None = HasCellWith (λ c. free c → ⊥) r.cells
 Fails reads free r (Some q) =
     IsDamaged r.cells q ⊎ HasCellWith (λ c. reads (content r.element.now) c (Err q)) r.cells
 
--- no element was read: there is no further cell, and the fault stays, or the fault is that of the next
+-- no element was read: there is no further cell and the fault is unchanged, or the fault is that of the next cell
 abbrev pub Stops : {A : Type 0} → (Content → Cell → Outcome A → Type 0) → (Cell → Type 0) → ElementReader A
     → ElementReader A → Type 0
 Stops reads free r t = ((r.cells ≡ nothing) × (t.fault ≡ r.fault)) ⊎ Fails reads free r (refusal_of t.fault)
 
--- what comes next is damaged, or is a cell too many; and memory is not asked for
+-- what comes next is damaged, or is a cell too many; and memory never runs out
 abbrev pub RestFails : {A : Type 0} → ElementReader A → Option Refusal → Type 0
 RestFails r None = ⊥
 RestFails r (Some q) = IsDamaged r.cells q ⊎ HasCellWith (λ c. q ≡ excess r.expected) r.cells
 
--- nothing is left, or that is the fault
+-- nothing is left, or this is the fault
 abbrev pub Finishes : {A : Type 0} → ElementReader A → Result (Unit {0}) Fault → Type 0
 Finishes r (Ok u) = r.cells ≡ nothing
 Finishes r (Err f) = RestFails r (refusal_of f)

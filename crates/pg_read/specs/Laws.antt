@@ -1,3 +1,3 @@
--- Lemmas that the sources cite; what they say is proved, so that none need be trusted.
+-- Lemmas that the sources cite. Their statements are proved, so none of them has to be trusted.
 pub mod ArrayReading
 pub mod Reading

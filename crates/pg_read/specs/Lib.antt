@@ -1,4 +1,4 @@
--- The words of reading.
+-- Definitions of reading.
 pub mod ArrayReading
 pub mod BoxReading
 pub mod ElementReading

@@ -9,7 +9,7 @@ IsNoneOutcome (Ok None) = Unit {0}
 IsNoneOutcome (Ok (Some v)) = ⊥
 IsNoneOutcome (Err r) = ⊥
 
--- NULL is None, and bytes are Some of the value that they give, or its fault
+-- NULL gives None, and bytes give Some of their value, or its fault
 abbrev pub ReadsOption : {A : Type 0} → (Cell → Outcome A → Type 0) → Cell → Outcome (Option A) → Type 0
 ReadsOption reads None outcome = IsNoneOutcome outcome
 ReadsOption reads (Some b) (Ok None) = ⊥

@@ -18,11 +18,11 @@ GivesSingle same gives = (r s : _) → gives r → gives s → SameOutcome same 
 abbrev pub ReadsSingle : {A : Type 0} → (A → A → Type 0) → (Cell → Outcome A → Type 0) → Type 0
 ReadsSingle same reads = (c : Cell) → GivesSingle same (reads c)
 
--- what `memory_free` says of a type that takes no memory: it holds of every cell
+-- `memory_free` of a type that never allocates: it holds of every cell
 abbrev pub EveryCell : Cell → Type 0
 EveryCell c = Unit {0}
 
--- what it says of a type that takes memory for bytes alone: it holds of NULL
+-- `memory_free` of a type that allocates for bytes only: it holds of NULL
 abbrev pub NullAlone : Cell → Type 0
 NullAlone None = Unit {0}
 NullAlone (Some b) = ⊥

@@ -10,9 +10,11 @@ ghost use Rattle.pg_read.specs.Laws.ArrayReading.{list_single, by_elements_singl
 ghost use Rattle.pg_read.specs.ArrayReading.{ReadsList, ReadsByElement};
 ghost use Rattle.pg_read.specs.Reading.{NullAlone};
 
-mod fixed_size;
+pub(crate) mod fixed_size;
 
-use crate::from_sql::{FromSql, from_sql_nullable};
+use crate::from_sql::FromSql;
+use crate::growth::with_first_room;
+use crate::laws::never_answers_memory_at_null;
 use pg_base::acceptance::element_type;
 use pg_base::fault::Fault;
 use pg_base::protocol::array_from_sql;
@@ -20,14 +22,14 @@ use pg_base::types::PgType;
 use std::alloc::Global;
 use std::boxed::BoxedSlice;
 
-/// An array of a type that `T` accepts (`array_recv`), of one dimension or none: its elements, in
-/// order, of which every negative length is NULL. The flags, the OID of the elements' type and the
-/// lower bound are not looked at.
+/// Reads an array whose element type `T` accepts (`array_recv`), of at most one dimension: its
+/// elements in order, for which every negative length is NULL. The flags, the OID of the element
+/// type and the lower bound are not checked.
 ///
-/// The head's checks come first: where it is truncated it is `Size`, a negative number of
-/// dimensions or elements is `Count`, and more than 1 dimension `Dimensions`. Then the first
-/// element that is truncated is `Size`, or the first that `T` refuses gives `T`'s fault, whichever
-/// stands first. Bytes after the last element are `Size`. NULL is `WasNull`.
+/// The header is checked first: a truncated one is refused with `Size`, a negative number of
+/// dimensions or elements with `Count`, and more than 1 dimension with `Dimensions`. Then the first
+/// element that is truncated or that `T` refuses decides: with `Size`, or with `T`'s fault.
+/// Trailing bytes after the last element are refused with `Size`, and NULL with `WasNull`.
 impl<'a, T: FromSql<'a>> FromSql<'a> for Vec<T> {
     ghost same = { λ v w. SameList T.same v.items w.items };
 
@@ -59,7 +61,7 @@ impl<'a, T: FromSql<'a>> FromSql<'a> for Vec<T> {
     }
 }
 
-/// An array of a type that `T` accepts, read as for `Vec<T>`. NULL is `WasNull`.
+/// Reads an array as `Vec<T>` does. NULL is refused with `WasNull`.
 impl<'a, T: FromSql<'a>> FromSql<'a> for BoxedSlice<T> {
     ghost same = { λ v w. SameList T.same (boxed_slice_items v) (boxed_slice_items w) };
 
@@ -91,7 +93,7 @@ impl<'a, T: FromSql<'a>> FromSql<'a> for BoxedSlice<T> {
     }
 }
 
-/// Whether the type is an array of a type that `T` accepts.
+/// Whether the type is an array whose element type `T` accepts.
 pub(crate) fn accepts_list<'a, T: FromSql<'a>>(ty: &PgType) -> bool
     ensures { result ≡ accepted_list T.accepted (content ty.now) }
 {
@@ -101,8 +103,8 @@ pub(crate) fn accepts_list<'a, T: FromSql<'a>>(ty: &PgType) -> bool
     }
 }
 
-/// Reads the elements of an array, which are of the type `element`. The list grows as they come,
-/// since a head may state more than the cell has.
+/// Reads the elements of an array of `element`. The list grows as they are read, because the header
+/// may state more elements than the cell has.
 fn read_list<'a, T: FromSql<'a>>(
     alloc: Global,
     element: &PgType,
@@ -112,18 +114,31 @@ fn read_list<'a, T: FromSql<'a>>(
     ensures { Answers (ReadsList (λ v. v.items) (T.reads (content element.now)) (Some raw.entry.now)) result }
 {
     let mut cells = array_from_sql(alloc, raw)?;
-    let mut values = Vec::new(alloc);
+    let mut values = with_first_room(alloc, cells.len());
     while let Some(cell) = cells.next() {
-        // A match moves the fault of a refusal alone, where `?` would move each answer.
+        // A match where a result is returned moves only the fault. `?` and `from_sql_nullable` would
+        // move every result.
         let cell = match cell {
             Ok(cell) => cell,
             Err(fault) => return Err(fault),
         };
-        let value: T = match from_sql_nullable(alloc, element, cell) {
-            Ok(value) => value,
-            Err(fault) => return Err(fault),
+        let value: T = match cell {
+            Some(bytes) => match T::from_sql(alloc, element, bytes) {
+                Ok(value) => value,
+                Err(fault) => return Err(fault),
+            },
+            None => match T::from_sql_null(alloc, element) {
+                Ok(value) => value,
+                Err(fault) => return Err(fault),
+            },
         };
         values.push(value)?;
     }
     Ok(values)
+}
+
+/// NULL is read without memory.
+pub(crate) fn read_without_memory() {
+    never_answers_memory_at_null::<Vec<i32>>();
+    never_answers_memory_at_null::<BoxedSlice<i32>>();
 }

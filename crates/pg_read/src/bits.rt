@@ -1,4 +1,4 @@
-//! Reading lists of bits.
+//! Reading bit strings.
 ghost use Rattle.std.specs.Prelude.{◌≡◌};
 ghost use Rattle.pg_base.specs.Bits.{FormBits, accepted_bits, ReadsBits, first_fault_bits};
 ghost use Rattle.pg_base.proofs.BitsLaws.{bits_grammar};
@@ -7,6 +7,7 @@ ghost use Rattle.pg_read.specs.Reading.{NullAlone};
 ghost use Rattle.pg_read.specs.Laws.Reading.{plain_single};
 
 use crate::from_sql::FromSql;
+use crate::laws::never_answers_memory_at_null;
 use pg_base::acceptance::is_bits;
 use pg_base::bits::BitVec;
 use pg_base::fault::Fault;
@@ -14,9 +15,10 @@ use pg_base::protocol::varbit_from_sql;
 use pg_base::types::PgType;
 use std::alloc::Global;
 
-/// BIT and VARBIT: the number of bits in 4 bytes, big-endian, and as many bytes as they take, the
-/// first bit on top of the first byte (`bit_recv`, `varbit_recv`). A number that is truncated is
-/// `Size`, a negative one `Count`, any other number of bytes `Size`, and NULL is `WasNull`.
+/// Reads BIT and VARBIT: the number of bits in 4 bytes, big-endian, and as many bytes as they take,
+/// the first bit being the most significant one of the first byte (`bit_recv`, `varbit_recv`). A
+/// truncated number is refused with `Size`, a negative one with `Count`, any other number of bytes
+/// with `Size`, and NULL with `WasNull`.
 impl<'a> FromSql<'a> for BitVec {
     ghost same = { λ v w. v ≡ w };
 
@@ -41,4 +43,9 @@ impl<'a> FromSql<'a> for BitVec {
     fn accepts(ty: &PgType) -> bool {
         is_bits(ty)
     }
+}
+
+/// NULL is read without memory.
+pub(crate) fn read_without_memory() {
+    never_answers_memory_at_null::<BitVec>();
 }

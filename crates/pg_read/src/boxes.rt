@@ -5,12 +5,13 @@ ghost use Rattle.pg_read.specs.Reading.{NullAlone};
 ghost use Rattle.pg_read.specs.Laws.Reading.{box_single};
 
 use crate::from_sql::FromSql;
+use crate::laws::never_answers_memory_at_null;
 use pg_base::fault::Fault;
 use pg_base::types::PgType;
 use std::alloc::Global;
 
-/// Bytes are `T`'s value in memory of its own, or `T`'s fault. NULL is `WasNull`, whatever `T` says
-/// of NULL.
+/// Reads bytes as `T` does, into a box. NULL is refused with `WasNull`, even if `T` has a value for
+/// it.
 impl<'a, T: FromSql<'a>> FromSql<'a> for Box<T> {
     ghost same = { λ v w. T.same v.value w.value };
 
@@ -36,4 +37,10 @@ impl<'a, T: FromSql<'a>> FromSql<'a> for Box<T> {
     fn accepts(ty: &PgType) -> bool {
         T::accepts(ty)
     }
+}
+
+/// NULL is read without memory.
+pub(crate) fn read_without_memory() {
+    never_answers_memory_at_null::<Box<i32>>();
+    never_answers_memory_at_null::<Box<Option<i32>>>();
 }

@@ -1,4 +1,4 @@
-//! Reading bytes.
+//! Reading byte strings.
 ghost use Rattle.std.specs.Prelude.{◌≡◌};
 ghost use Rattle.pg_types.specs.declared.types.built_in.BuiltIn.TheVariants.{Bytea};
 ghost use Rattle.pg_base.specs.Bytea.{FormBytes, ReadsBytes, first_fault_bytes};
@@ -9,12 +9,13 @@ ghost use Rattle.pg_read.specs.Reading.{EveryCell, NullAlone};
 ghost use Rattle.pg_read.specs.Laws.Reading.{plain_single};
 
 use crate::from_sql::FromSql;
+use crate::laws::{never_answers_memory, never_answers_memory_at_null};
 use pg_base::fault::Fault;
 use pg_base::protocol::bytea_from_sql;
 use pg_base::types::PgType;
 use std::alloc::Global;
 
-/// BYTEA: the bytes, in place (`bytearecv`). NULL is `WasNull`.
+/// Reads BYTEA: the bytes of the cell, borrowed (`bytearecv`). NULL is refused with `WasNull`.
 impl<'a> FromSql<'a> for &'a [u8] {
     ghost same = { λ s t. s.now ≡ t.now };
 
@@ -44,7 +45,7 @@ impl<'a> FromSql<'a> for &'a [u8] {
     }
 }
 
-/// BYTEA: a copy of the bytes (`bytearecv`). NULL is `WasNull`.
+/// Reads BYTEA: a copy of the bytes of the cell (`bytearecv`). NULL is refused with `WasNull`.
 impl<'a> FromSql<'a> for Vec<u8> {
     ghost same = { λ s t. s.items ≡ t.items };
 
@@ -70,4 +71,10 @@ impl<'a> FromSql<'a> for Vec<u8> {
     fn accepts(ty: &PgType) -> bool {
         ty.is(&PgType::BYTEA)
     }
+}
+
+/// Borrowed bytes are read without memory, and NULL as owned ones.
+pub(crate) fn read_without_memory() {
+    never_answers_memory::<&[u8]>();
+    never_answers_memory_at_null::<Vec<u8>>();
 }

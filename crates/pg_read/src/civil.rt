@@ -1,4 +1,4 @@
-//! Reading dates, times of day, and timestamps of `jiff`.
+//! Reading dates, times of day and timestamps of `jiff`.
 ghost use Rattle.std.specs.Prelude.{◌≡◌, pos};
 ghost use Rattle.std.specs.Int.{w32, w64};
 ghost use Rattle.jiff.specs.Words.{civil_nanos, epoch_day, time_nanos};
@@ -19,6 +19,7 @@ ghost use Rattle.pg_read.specs.Reading.{EveryCell};
 ghost use Rattle.pg_read.specs.Laws.Reading.{plain_single};
 
 use crate::from_sql::FromSql;
+use crate::laws::never_answers_memory;
 use jiff::civil::{Date, DateTime, Time};
 use jiff::{SignedDuration, Timestamp};
 use pg_base::epoch::{POSTGRES_EPOCH_DAY, POSTGRES_EPOCH_NANOS};
@@ -27,7 +28,7 @@ use pg_base::protocol::{date_from_sql, time_from_sql, timestamp_from_sql};
 use pg_base::types::PgType;
 use std::alloc::Global;
 
-/// The date that many days after 2000-01-01.
+/// Returns the date that is `days` days after 2000-01-01.
 fn date_of(days: i32) -> Result<Date, Fault>
     ensures gives { Answers (CountGives first_day last_day IsDayOf days) result }
     ensures never_memory { NeverMemory result }
@@ -41,7 +42,7 @@ fn date_of(days: i32) -> Result<Date, Fault>
     }
 }
 
-/// The time that many microseconds after midnight.
+/// Returns the time that is `micros` microseconds after midnight.
 fn time_of(micros: i64) -> Result<Time, Fault>
     ensures gives { Answers (CountGives (pos 0) last_micros IsAfterMidnight micros) result }
     ensures never_memory { NeverMemory result }
@@ -52,7 +53,7 @@ fn time_of(micros: i64) -> Result<Time, Fault>
     }
 }
 
-/// The civil datetime that many microseconds after 2000-01-01 00:00:00.
+/// Returns the civil datetime that is `micros` microseconds after 2000-01-01 00:00:00.
 fn datetime_of(micros: i64) -> Result<DateTime, Fault>
     ensures gives { Answers (CountGives first_civil last_civil (IsAfterBase civil_nanos) micros) result }
     ensures never_memory { NeverMemory result }
@@ -66,7 +67,7 @@ fn datetime_of(micros: i64) -> Result<DateTime, Fault>
     }
 }
 
-/// The instant that many microseconds after 2000-01-01 00:00:00 UTC.
+/// Returns the instant that is `micros` microseconds after 2000-01-01 00:00:00 UTC.
 fn instant_of(micros: i64) -> Result<Timestamp, Fault>
     ensures gives { Answers (CountGives first_instant last_instant (IsAfterBase instant_nanos) micros) result }
     ensures never_memory { NeverMemory result }
@@ -77,9 +78,10 @@ fn instant_of(micros: i64) -> Result<Timestamp, Fault>
     }
 }
 
-/// DATE: 4 bytes, big-endian, in two's complement, the days from 2000-01-01 (`date_recv`). Any
-/// other length is `Size`, a date before -9999-01-01 or after 9999-12-31 is `Decode`, the two
-/// counts that PostgreSQL takes for infinities included, and NULL is `WasNull`.
+/// Reads DATE: the days from 2000-01-01 in 4 bytes, big-endian, in two's complement (`date_recv`).
+/// Any other length is refused with `Size`, and a date before -9999-01-01 or after 9999-12-31 with
+/// `Decode`; so are the two numbers that PostgreSQL reads as infinities. NULL is refused with
+/// `WasNull`.
 impl<'a> FromSql<'a> for Date {
     ghost same = { λ v w. epoch_day v ≡ epoch_day w };
 
@@ -108,9 +110,9 @@ impl<'a> FromSql<'a> for Date {
     }
 }
 
-/// TIME: 8 bytes, big-endian, in two's complement, the microseconds from midnight (`time_recv`).
-/// Any other length is `Size`, what lies outside 0 to 86,399,999,999 is `Decode`, 24:00:00
-/// included, and NULL is `WasNull`.
+/// Reads TIME: the microseconds from midnight in 8 bytes, big-endian, in two's complement
+/// (`time_recv`). Any other length is refused with `Size`, and a number outside 0 to 86,399,999,999
+/// with `Decode`; so is 24:00:00. NULL is refused with `WasNull`.
 impl<'a> FromSql<'a> for Time {
     ghost same = { λ v w. time_nanos v ≡ time_nanos w };
 
@@ -139,10 +141,10 @@ impl<'a> FromSql<'a> for Time {
     }
 }
 
-/// TIMESTAMP: 8 bytes, big-endian, in two's complement, the microseconds from 2000-01-01 00:00:00
-/// (`timestamp_recv`). Any other length is `Size`, a timestamp before -9999-01-01 00:00:00 or after
-/// 9999-12-31 23:59:59.999999 is `Decode`, the two counts that PostgreSQL takes for infinities
-/// included, and NULL is `WasNull`.
+/// Reads TIMESTAMP: the microseconds from 2000-01-01 00:00:00 in 8 bytes, big-endian, in two's
+/// complement (`timestamp_recv`). Any other length is refused with `Size`, and a timestamp before
+/// -9999-01-01 00:00:00 or after 9999-12-31 23:59:59.999999 with `Decode`; so are the two numbers
+/// that PostgreSQL reads as infinities. NULL is refused with `WasNull`.
 impl<'a> FromSql<'a> for DateTime {
     ghost same = { λ v w. civil_nanos v ≡ civil_nanos w };
 
@@ -172,10 +174,10 @@ impl<'a> FromSql<'a> for DateTime {
     }
 }
 
-/// TIMESTAMPTZ: 8 bytes, big-endian, in two's complement, the microseconds from 2000-01-01
-/// 00:00:00 UTC (`timestamptz_recv`). Any other length is `Size`, an instant before
-/// [`Timestamp::MIN`] or after [`Timestamp::MAX`] is `Decode`, the two counts that PostgreSQL takes
-/// for infinities included, and NULL is `WasNull`.
+/// Reads TIMESTAMPTZ: the microseconds from 2000-01-01 00:00:00 UTC in 8 bytes, big-endian, in
+/// two's complement (`timestamptz_recv`). Any other length is refused with `Size`, and an instant
+/// before [`Timestamp::MIN`] or after [`Timestamp::MAX`] with `Decode`; so are the two numbers that
+/// PostgreSQL reads as infinities. NULL is refused with `WasNull`.
 impl<'a> FromSql<'a> for Timestamp {
     ghost same = { λ v w. instant_nanos v ≡ instant_nanos w };
 
@@ -203,4 +205,12 @@ impl<'a> FromSql<'a> for Timestamp {
     fn accepts(ty: &PgType) -> bool {
         ty.is(&PgType::TIMESTAMPTZ)
     }
+}
+
+/// The types of `jiff` are read without memory.
+pub(crate) fn read_without_memory() {
+    never_answers_memory::<Date>();
+    never_answers_memory::<Time>();
+    never_answers_memory::<DateTime>();
+    never_answers_memory::<Timestamp>();
 }

@@ -1,4 +1,4 @@
-//! The trait of reading.
+//! The trait of types that are read from cells.
 ghost use Rattle.std.specs.Prelude.{◌≡◌, Some, None, Bool, IsTrue};
 ghost use Rattle.pg_base.specs.Cells.{Cell, cell_of};
 ghost use Rattle.pg_types.specs.Content.{Content, content};
@@ -12,9 +12,9 @@ use std::alloc::Global;
 
 /// A type that is read from a cell in PostgreSQL's binary format.
 ///
-/// An implementation says by its ghost members what it reads, and proves that its functions answer
-/// so; it writes all three functions. Apart from `Memory`, what a call answers depends on the type
-/// and the cell alone.
+/// The ghost members of an implementation say what it reads, and the implementation proves that its
+/// functions return just that. It writes all three functions. Apart from `Memory`, what a call
+/// returns depends on the type and the cell alone.
 pub trait FromSql<'a>: Sized + Drop {
     /// Two values have the same content.
     ghost same: { Self → Self → Type 0 };
@@ -22,27 +22,27 @@ pub trait FromSql<'a>: Sized + Drop {
     /// The Postgres type is accepted.
     ghost accepted: { Content → Bool };
 
-    /// The cell of that type has that outcome.
+    /// A cell of the type has the outcome.
     ghost reads: { Content → Cell → Outcome Self → Type 0 };
 
-    /// The cell is read without memory. An implementation that says nothing claims it of no cell.
+    /// Reading the cell does not allocate. By default this holds of no cell.
     ghost memory_free: { Cell → Type 0 } = { λ _. ⊥ };
 
-    /// Reads the bytes of a cell that is not NULL, and answers the value, the fault of the first
-    /// check that they fail, or `Memory`. The type must be accepted.
+    /// Reads the bytes of a cell that is not NULL. Returns the value, the fault of the first check
+    /// that fails, or `Memory`. The type must be accepted.
     fn from_sql(alloc: Global, ty: &PgType, raw: &'a [u8]) -> Result<Self, Fault>
         requires { IsTrue (accepted (content ty.now)) }
         ensures outcome { Answers (reads (content ty.now) (Some raw.entry.now)) result }
         ensures never_memory { memory_free (Some raw.entry.now) → NeverMemory result };
 
-    /// Reads NULL, and answers the value or the fault that it is for this Rust type, most often
+    /// Reads NULL. Returns the value that this Rust type has for NULL, or a fault, most often
     /// `WasNull`. The type must be accepted.
     fn from_sql_null(alloc: Global, ty: &PgType) -> Result<Self, Fault>
         requires { IsTrue (accepted (content ty.now)) }
         ensures outcome { Answers (reads (content ty.now) None) result }
         ensures never_memory { memory_free None → NeverMemory result };
 
-    /// Whether cells of that type are read.
+    /// Whether cells of this type are read.
     fn accepts(ty: &PgType) -> bool
         ensures { result ≡ accepted (content ty.now) };
 
@@ -53,8 +53,7 @@ pub trait FromSql<'a>: Sized + Drop {
     ghost single: { (ty : Content) → IsTrue (accepted ty) → ReadsSingle same (reads ty) };
 }
 
-/// Reads a cell, of which `None` is NULL: answers what `from_sql` or `from_sql_null` does. The type
-/// must be accepted.
+/// Reads a cell (`None` is NULL), by `from_sql` or `from_sql_null`. The type must be accepted.
 pub fn from_sql_nullable<'a, T: FromSql<'a>>(
     alloc: Global,
     ty: &PgType,

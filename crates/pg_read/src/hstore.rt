@@ -9,6 +9,7 @@ ghost use Rattle.pg_read.specs.Reading.{NullAlone};
 ghost use Rattle.pg_read.specs.Laws.Reading.{plain_single};
 
 use crate::from_sql::FromSql;
+use crate::laws::never_answers_memory_at_null;
 use pg_base::acceptance::is_hstore;
 use pg_base::fault::Fault;
 use pg_base::protocol::hstore_from_sql;
@@ -17,11 +18,12 @@ use std::alloc::Global;
 use std::collections::HashMap;
 use std::hash::BuildHasher;
 
-/// Any type that is named hstore (`hstore_recv`): the number of entries in 4 bytes, big-endian,
-/// and the frames of each key and its value, of which `None` is NULL. Of equal keys the last stays.
-/// Where the count, a length or a text is truncated, or bytes are left after the last entry, it is
-/// `Size`; a negative count is `Count`, a negative length of a key `KeyLength`, and a text that is
-/// not UTF-8 `Utf8`. NULL is `WasNull`.
+/// Reads every type named hstore (`hstore_recv`): the number of entries in 4 bytes, big-endian, and
+/// for each entry the frames of its key and its value, where NULL is `None`. Of entries with the
+/// same key the last one is kept. A truncated number, length or text is refused with `Size`, and so
+/// are trailing bytes after the last entry; a negative number of entries is refused with `Count`, a
+/// negative length of a key with `KeyLength`, a text that is not UTF-8 with `Utf8`, and NULL with
+/// `WasNull`.
 impl<'a, S: Default + BuildHasher + Drop> FromSql<'a> for HashMap<String, Option<String>, S> {
     ghost same = { SameMap };
 
@@ -46,7 +48,7 @@ impl<'a, S: Default + BuildHasher + Drop> FromSql<'a> for HashMap<String, Option
             let (key, value) = entry?;
             let key = String::from_str(alloc, key)?;
             let value = owned_copy(alloc, value)?;
-            // An earlier value of the key gives way.
+            // An earlier value of the key is replaced.
             drop(map.insert(key, value)?);
         }
         Ok(map)
@@ -64,7 +66,7 @@ impl<'a, S: Default + BuildHasher + Drop> FromSql<'a> for HashMap<String, Option
     }
 }
 
-/// Copies a text, if there is one.
+/// Copies the text, if there is one.
 fn owned_copy(alloc: Global, text: Option<&str>) -> Result<Option<String>, Fault>
     ensures copy { IfOk result (λ copy. option_map string_bytes copy ≡ cell_of text.entry) }
     ensures refused { IfErr result (λ fault. fault ≡ Memory) }
@@ -73,4 +75,9 @@ fn owned_copy(alloc: Global, text: Option<&str>) -> Result<Option<String>, Fault
         Some(text) => Ok(Some(String::from_str(alloc, text)?)),
         None => Ok(None),
     }
+}
+
+/// NULL is read without memory.
+pub(crate) fn read_without_memory() {
+    never_answers_memory_at_null::<HashMap<String, Option<String>>>();
 }

@@ -1,4 +1,4 @@
-//! Reading intervals of time.
+//! Reading intervals.
 ghost use Rattle.std.specs.Prelude.{◌≡◌};
 ghost use Rattle.pg_types.specs.declared.types.built_in.BuiltIn.TheVariants.{Interval as IntervalRow};
 ghost use Rattle.pg_types.specs.Content.{is_row};
@@ -10,14 +10,16 @@ ghost use Rattle.pg_read.specs.Reading.{EveryCell};
 ghost use Rattle.pg_read.specs.Laws.Reading.{plain_single};
 
 use crate::from_sql::FromSql;
+use crate::laws::never_answers_memory;
 use pg_base::fault::Fault;
 use pg_base::interval::Interval;
 use pg_base::protocol::interval_from_sql;
 use pg_base::types::PgType;
 use std::alloc::Global;
 
-/// INTERVAL: 16 bytes, the microseconds in 8, then the days and the months in 4 each, big-endian,
-/// in two's complement (`interval_recv`). Any other length is `Size`, and NULL is `WasNull`.
+/// Reads INTERVAL: the microseconds in 8 bytes, then the days and the months in 4 bytes each,
+/// big-endian, in two's complement (`interval_recv`). Any other length than 16 bytes is refused
+/// with `Size`, and NULL with `WasNull`.
 impl<'a> FromSql<'a> for Interval {
     ghost same = { λ v w. v ≡ w };
 
@@ -48,4 +50,9 @@ impl<'a> FromSql<'a> for Interval {
     fn accepts(ty: &PgType) -> bool {
         ty.is(&PgType::INTERVAL)
     }
+}
+
+/// An interval is read without memory.
+pub(crate) fn read_without_memory() {
+    never_answers_memory::<Interval>();
 }

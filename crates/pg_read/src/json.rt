@@ -1,4 +1,4 @@
-//! Reading documents.
+//! Reading JSON documents.
 ghost use Rattle.std.specs.Prelude.{◌≡◌, Some, true, false};
 ghost use Rattle.serde_json.specs.View.{view};
 ghost use Rattle.pg_types.specs.declared.types.built_in.BuiltIn.TheVariants.{Jsonb};
@@ -11,6 +11,7 @@ ghost use Rattle.pg_read.specs.Reading.{NullAlone};
 ghost use Rattle.pg_read.specs.Laws.Reading.{plain_single};
 
 use crate::from_sql::FromSql;
+use crate::laws::never_answers_memory_at_null;
 use pg_base::acceptance::{is_json, is_jsonb};
 use pg_base::fault::Fault;
 use pg_base::json::{JSONB_VERSION, has_other_number};
@@ -18,12 +19,13 @@ use pg_base::types::PgType;
 use serde_json::Value;
 use std::alloc::Global;
 
-/// JSON: the document's text (`json_recv`). JSONB: the version 1 and the text (`jsonb_recv`); no
-/// bytes are `Size`, and another first byte is `JsonVersion`. A text from which `serde_json` reads
-/// no document is `JsonText`: it is not JSON or not UTF-8, it nests more than 127 deep, or a number
-/// passes the greatest `f64`. A document that holds, at any depth, a number that is kept as neither
-/// `i64` nor `u64` is `JsonNumber`: a fraction, an exponent, `-0`, or an integer outside both.
-/// NULL is `WasNull`.
+/// Reads JSON, which is the document's text (`json_recv`), and JSONB, which is the version 1 in one
+/// byte and the text (`jsonb_recv`). An empty JSONB cell is refused with `Size`, and another
+/// version with `JsonVersion`. A text from which `serde_json` reads no document is refused with
+/// `JsonText`: it is not JSON or not UTF-8, it nests more than 127 levels deep, or a number exceeds
+/// the greatest `f64`. A document that contains, at any depth, a number that is neither an `i64`
+/// nor a `u64` is refused with `JsonNumber`: a fraction, an exponent, `-0`, or an integer out of
+/// their ranges. NULL is refused with `WasNull`.
 impl<'a> FromSql<'a> for Value {
     ghost same = { λ v w. view v ≡ view w };
 
@@ -55,7 +57,7 @@ impl<'a> FromSql<'a> for Value {
     }
 }
 
-/// The document after the version.
+/// Reads the version and the document after it.
 fn jsonb_document(alloc: Global, raw: &[u8]) -> Result<Value, Fault>
     ensures { Answers (ReadsJson view true (Some raw.now)) result }
 {
@@ -66,7 +68,7 @@ fn jsonb_document(alloc: Global, raw: &[u8]) -> Result<Value, Fault>
     }
 }
 
-/// The document of a text.
+/// Reads the document of a text.
 #[tactic(auto, using(pg_base::proofs::JsonLemmas::no_document, pg_base::proofs::JsonLemmas::other_number))]
 fn document(alloc: Global, text: &[u8]) -> Result<Value, Fault>
     ensures { Answers (ReadsJson view false (Some text.now)) result }
@@ -80,4 +82,9 @@ fn document(alloc: Global, text: &[u8]) -> Result<Value, Fault>
         return Err(Fault::JsonNumber);
     }
     Ok(value)
+}
+
+/// NULL is read without memory.
+pub(crate) fn read_without_memory() {
+    never_answers_memory_at_null::<Value>();
 }

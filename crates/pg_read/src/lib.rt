@@ -1,7 +1,7 @@
-//! Reading: a type and a cell to a value.
+//! Reading: from a type and a cell to a value.
 //!
-//! [`from_sql_nullable`](from_sql::from_sql_nullable) reads a cell, of which `None` is NULL: it
-//! answers the value, or the fault that refuses the cell.
+//! [`from_sql_nullable`](from_sql::from_sql_nullable) reads a cell (`None` is NULL). It returns the
+//! value, or the fault that refuses the cell.
 #![tactic(auto)]
 
 mod arrays;
@@ -10,6 +10,7 @@ mod boxes;
 mod bytea;
 mod civil;
 pub mod from_sql;
+mod growth;
 mod hstore;
 mod interval;
 mod json;

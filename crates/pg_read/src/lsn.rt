@@ -1,4 +1,4 @@
-//! Reading log positions.
+//! Reading log sequence numbers.
 ghost use Rattle.std.specs.Prelude.{◌≡◌};
 ghost use Rattle.std.specs.Int.{w64};
 ghost use Rattle.pg_types.specs.declared.types.built_in.BuiltIn.TheVariants.{PgLsn as PgLsnRow};
@@ -10,14 +10,15 @@ ghost use Rattle.pg_read.specs.Reading.{EveryCell};
 ghost use Rattle.pg_read.specs.Laws.Reading.{plain_single};
 
 use crate::from_sql::FromSql;
+use crate::laws::never_answers_memory;
 use pg_base::fault::Fault;
 use pg_base::lsn::PgLsn;
 use pg_base::protocol::lsn_from_sql;
 use pg_base::types::PgType;
 use std::alloc::Global;
 
-/// PG_LSN: 8 bytes, unsigned, big-endian (`pg_lsn_recv`). Any other length is `Size`, and NULL
-/// is `WasNull`.
+/// Reads PG_LSN: 8 bytes, unsigned, big-endian (`pg_lsn_recv`). Any other length is refused with
+/// `Size`, and NULL with `WasNull`.
 impl<'a> FromSql<'a> for PgLsn {
     ghost same = { λ v w. v ≡ w };
 
@@ -42,4 +43,9 @@ impl<'a> FromSql<'a> for PgLsn {
     fn accepts(ty: &PgType) -> bool {
         ty.is(&PgType::PG_LSN)
     }
+}
+
+/// A log sequence number is read without memory.
+pub(crate) fn read_without_memory() {
+    never_answers_memory::<PgLsn>();
 }

@@ -1,4 +1,4 @@
-//! Reading Internet addresses and MAC addresses.
+//! Reading IP addresses and MAC addresses.
 ghost use Rattle.std.specs.Prelude.{◌≡◌};
 ghost use Rattle.pg_types.specs.declared.types.built_in.BuiltIn.TheVariants.{Cidr, Inet, Macaddr};
 ghost use Rattle.pg_types.specs.Content.{is_row};
@@ -13,6 +13,7 @@ ghost use Rattle.pg_read.specs.Reading.{EveryCell};
 ghost use Rattle.pg_read.specs.Laws.Reading.{plain_single};
 
 use crate::from_sql::FromSql;
+use crate::laws::never_answers_memory;
 use pg_base::fault::Fault;
 use pg_base::network::{IpCidr, IpInet, MacAddress};
 use pg_base::protocol::{inet_from_sql, macaddr_from_sql};
@@ -20,11 +21,12 @@ use pg_base::types::PgType;
 use std::alloc::Global;
 use std::net::IpAddr;
 
-/// INET (`inet_recv`), in one byte each: the family's number, 2 or 3, the length of the netmask, a
-/// flag of any value, the number of octets, and the octets, 4 or 16, which alone are the value.
-/// Fewer than 4 bytes are `Size`; then another family is `Family`, a netmask that is longer than
-/// the address `Netmask`, another number of octets than the family's `AddressLength`, and octets of
-/// another length than that `Size`. NULL is `WasNull`.
+/// Reads INET (`inet_recv`), in one byte each: the address family (2 for IPv4, 3 for IPv6), the
+/// length of the netmask, a flag of any value, the number of octets, and the 4 or 16 octets. Only
+/// the octets are kept. Fewer than 4 bytes are refused with `Size`, then another family with
+/// `Family`, a netmask that is longer than the address with `Netmask`, another number of octets
+/// than the family has with `AddressLength`, and any other number of bytes after it with `Size`.
+/// NULL is refused with `WasNull`.
 impl<'a> FromSql<'a> for IpAddr {
     ghost same = { λ v w. v ≡ w };
 
@@ -52,7 +54,7 @@ impl<'a> FromSql<'a> for IpAddr {
     }
 }
 
-/// INET (`inet_recv`): as for `IpAddr`, with the netmask. NULL is `WasNull`.
+/// Reads INET (`inet_recv`) as `IpAddr` does, with the netmask. NULL is refused with `WasNull`.
 impl<'a> FromSql<'a> for IpInet {
     ghost same = { λ v w. v ≡ w };
 
@@ -81,8 +83,8 @@ impl<'a> FromSql<'a> for IpInet {
     }
 }
 
-/// CIDR (`cidr_recv`): as INET for `IpInet`, and then, where a bit of the address after the netmask
-/// is 1, `HostBits`. NULL is `WasNull`.
+/// Reads CIDR (`cidr_recv`) as `IpInet` reads INET; then a bit of the address after the netmask
+/// that is 1 is refused with `HostBits`. NULL is refused with `WasNull`.
 impl<'a> FromSql<'a> for IpCidr {
     ghost same = { λ v w. v ≡ w };
 
@@ -111,8 +113,8 @@ impl<'a> FromSql<'a> for IpCidr {
     }
 }
 
-/// MACADDR: 6 bytes, in the order of its text (`macaddr_recv`). Any other length is
-/// `Size`, and NULL is `WasNull`.
+/// Reads MACADDR: 6 bytes, in the order of its text (`macaddr_recv`). Any other length is refused
+/// with `Size`, and NULL with `WasNull`.
 impl<'a> FromSql<'a> for MacAddress {
     ghost same = { λ v w. v ≡ w };
 
@@ -138,4 +140,12 @@ impl<'a> FromSql<'a> for MacAddress {
     fn accepts(ty: &PgType) -> bool {
         ty.is(&PgType::MACADDR)
     }
+}
+
+/// Addresses, networks and MAC addresses are read without memory.
+pub(crate) fn read_without_memory() {
+    never_answers_memory::<IpAddr>();
+    never_answers_memory::<IpInet>();
+    never_answers_memory::<IpCidr>();
+    never_answers_memory::<MacAddress>();
 }

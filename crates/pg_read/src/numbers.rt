@@ -12,6 +12,7 @@ ghost use Rattle.pg_read.specs.Reading.{EveryCell};
 ghost use Rattle.pg_read.specs.Laws.Reading.{plain_single};
 
 use crate::from_sql::FromSql;
+use crate::laws::never_answers_memory;
 use pg_base::fault::Fault;
 use pg_base::protocol::{
     bool_from_sql, char_from_sql, int2_from_sql, int4_from_sql, int8_from_sql, oid_from_sql,
@@ -19,8 +20,8 @@ use pg_base::protocol::{
 use pg_base::types::PgType;
 use std::alloc::Global;
 
-/// BOOL: 1 byte, of which 0 is false and any other true (`boolrecv`). Any other length is `Size`,
-/// and NULL is `WasNull`.
+/// Reads BOOL: 1 byte, 0 for false and any other for true (`boolrecv`). Any other length is refused
+/// with `Size`, and NULL with `WasNull`.
 impl<'a> FromSql<'a> for bool {
     ghost same = { λ v w. v ≡ w };
 
@@ -47,8 +48,8 @@ impl<'a> FromSql<'a> for bool {
     }
 }
 
-/// CHAR: 1 byte, in two's complement (`charrecv`). Any other length is `Size`, and NULL is
-/// `WasNull`.
+/// Reads CHAR, the type `"char"`: 1 byte, in two's complement (`charrecv`). Any other length is
+/// refused with `Size`, and NULL with `WasNull`.
 impl<'a> FromSql<'a> for i8 {
     ghost same = { λ v w. v ≡ w };
 
@@ -75,8 +76,8 @@ impl<'a> FromSql<'a> for i8 {
     }
 }
 
-/// INT2: 2 bytes, big-endian, in two's complement (`int2recv`). Any other length is `Size`, and
-/// NULL is `WasNull`.
+/// Reads INT2: 2 bytes, big-endian, in two's complement (`int2recv`). Any other length is refused
+/// with `Size`, and NULL with `WasNull`.
 impl<'a> FromSql<'a> for i16 {
     ghost same = { λ v w. v ≡ w };
 
@@ -103,8 +104,8 @@ impl<'a> FromSql<'a> for i16 {
     }
 }
 
-/// INT4: 4 bytes, big-endian, in two's complement (`int4recv`). Any other length is `Size`, and
-/// NULL is `WasNull`.
+/// Reads INT4: 4 bytes, big-endian, in two's complement (`int4recv`). Any other length is refused
+/// with `Size`, and NULL with `WasNull`.
 impl<'a> FromSql<'a> for i32 {
     ghost same = { λ v w. v ≡ w };
 
@@ -131,8 +132,8 @@ impl<'a> FromSql<'a> for i32 {
     }
 }
 
-/// INT8: 8 bytes, big-endian, in two's complement (`int8recv`). Any other length is `Size`, and
-/// NULL is `WasNull`.
+/// Reads INT8: 8 bytes, big-endian, in two's complement (`int8recv`). Any other length is refused
+/// with `Size`, and NULL with `WasNull`.
 impl<'a> FromSql<'a> for i64 {
     ghost same = { λ v w. v ≡ w };
 
@@ -159,8 +160,8 @@ impl<'a> FromSql<'a> for i64 {
     }
 }
 
-/// OID: 4 bytes, unsigned, big-endian (`oidrecv`). Any other length is `Size`, and NULL is
-/// `WasNull`.
+/// Reads OID: 4 bytes, unsigned, big-endian (`oidrecv`). Any other length is refused with `Size`,
+/// and NULL with `WasNull`.
 impl<'a> FromSql<'a> for u32 {
     ghost same = { λ v w. v ≡ w };
 
@@ -185,4 +186,14 @@ impl<'a> FromSql<'a> for u32 {
     fn accepts(ty: &PgType) -> bool {
         ty.is(&PgType::OID)
     }
+}
+
+/// Integers and booleans are read without memory.
+pub(crate) fn read_without_memory() {
+    never_answers_memory::<bool>();
+    never_answers_memory::<i8>();
+    never_answers_memory::<i16>();
+    never_answers_memory::<i32>();
+    never_answers_memory::<i64>();
+    never_answers_memory::<u32>();
 }

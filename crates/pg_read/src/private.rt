@@ -1,5 +1,5 @@
-//! What conversions of rows and records are built from: framed cells, read from the front of a
-//! slice.
+//! The calls from which conversions of rows and records are built: they read framed cells from the
+//! front of a slice.
 ghost use Rattle.std.specs.Prelude.{◌<◌, ℕ, IsTrue, slice_index};
 ghost use Rattle.pg_base.specs.Cells.{FramesSingle, FramePrefixesSingle};
 ghost use Rattle.pg_types.specs.Content.{content};
@@ -7,14 +7,15 @@ ghost use Rattle.pg_read.specs.FrameReading.{TakesNumber, TakesCell, ReadsFrame}
 ghost use Rattle.pg_read.specs.RunReading.{ReadsRun, ReadsFrames};
 
 use crate::from_sql::{FromSql, from_sql_nullable};
+use crate::growth::with_first_room;
 pub use bytes::BytesMut;
 use pg_base::fault::Fault;
 use pg_base::protocol::int4_from_sql;
 use pg_base::types::PgType;
 use std::alloc::Global;
 
-/// Reads a number of 4 bytes, big-endian, and moves the slice after them. Where fewer are left
-/// it answers `Size`, and the slice stays.
+/// Reads a number of 4 bytes, big-endian, in two's complement, and advances the slice past it. If
+/// fewer bytes are left it returns `Size`, and the slice is unchanged.
 pub fn read_be_i32(buf: &mut &[u8]) -> Result<i32, Fault>
     ensures { TakesNumber buf.old.now result buf.new.now }
 {
@@ -28,7 +29,7 @@ pub fn read_be_i32(buf: &mut &[u8]) -> Result<i32, Fault>
     Ok(n)
 }
 
-/// Takes the framed cell at the front of the slice.
+/// Takes the framed cell from the front of the slice.
 fn read_cell<'a>(buf: &mut &'a [u8]) -> Result<Option<&'a [u8]>, Fault>
     ensures { TakesCell buf.old.now result buf.new.now }
 {
@@ -46,12 +47,12 @@ fn read_cell<'a>(buf: &mut &'a [u8]) -> Result<Option<&'a [u8]>, Fault>
     Ok(Some(cell))
 }
 
-/// Reads the framed cell at the front of the slice: a length of 4 bytes, every negative one NULL,
-/// and that many bytes. The type must be accepted.
+/// Reads the framed cell at the front of the slice: a length of 4 bytes, big-endian, and as many
+/// bytes; every negative length is NULL. The type must be accepted.
 ///
-/// Where the length is truncated it answers `Size`, and the slice stays at its start. Where the
-/// cell is truncated it answers `Size`, and the slice stands after the length. Otherwise the slice
-/// stands after the cell, whether the value is answered or the conversion's fault.
+/// If the length is truncated it returns `Size`, and the slice is unchanged. If the cell is
+/// truncated it returns `Size`, and the slice begins after the length. Otherwise the slice begins
+/// after the cell, whether the conversion returns a value or a fault.
 pub fn read_value<'a, T: FromSql<'a>>(
     alloc: Global,
     type_: &PgType,
@@ -64,22 +65,23 @@ pub fn read_value<'a, T: FromSql<'a>>(
     from_sql_nullable(alloc, type_, raw)
 }
 
-/// Each item of a slice of bytes is below 256, which proofs know of arguments alone.
+/// Each item of a slice of bytes is below 256; proofs know this only of the arguments of a
+/// function.
 fn holds_bytes(bytes: &[u8])
     ensures { (i : ℕ) → slice_index bytes.now i < 256 }
 {}
 
-/// Reads `n` framed cells in a row from the front of the slice, as `n` calls of [`read_value`] do.
-/// The type must be accepted. The list grows as values come, whatever `n` states.
+/// Reads `n` consecutive framed cells from the front of the slice, as `n` calls of [`read_value`]
+/// do. The type must be accepted. The list grows as values are read, whatever `n` is.
 ///
-/// The first cell that is refused gives its fault, and the slice stands after that cell. Where no
-/// cell is refused, but the one after them is truncated before there are `n`, it answers `Size`,
-/// and the slice stands where [`read_value`] leaves it at a truncated cell. Where memory runs out
-/// it stands after a cell, and each cell before that one gives a value. Otherwise it stands after
-/// the last cell.
+/// The first cell that is refused gives the fault, and the slice begins after that cell. If a cell
+/// is truncated before `n` are read, and none before it is refused, it returns `Size`, and the
+/// slice is as [`read_value`] leaves it at a truncated cell. If memory runs out, the slice begins
+/// after a cell, and each cell before that one gives a value. Otherwise the slice begins after the
+/// last cell.
 ///
-/// Frames determine their cells, and before other bytes they do where the number of cells is
-/// known; from the frames of `n` cells that each give a value these values are read.
+/// The frames of `n` cells, with any bytes after them, are the frames of no other cells. If each of
+/// these cells gives a value, the call returns those values, or `Memory`.
 #[tactic(auto, using(pg_base::proofs::CellLaws::frames_single, pg_base::proofs::CellLaws::frame_prefixes_single))]
 pub fn read_values<'a, T: FromSql<'a>>(
     alloc: Global,
@@ -94,7 +96,7 @@ pub fn read_values<'a, T: FromSql<'a>>(
     ensures frame_prefixes_single { FramePrefixesSingle }
 {
     holds_bytes(*buf);
-    let mut values = Vec::new(alloc);
+    let mut values = with_first_room(alloc, n);
     for _ in 0..n {
         let value: T = read_value(alloc, type_, buf)?;
         values.push(value)?;

@@ -1,4 +1,4 @@
-//! Reading dates and timestamps with infinities.
+//! Reading dates and timestamps that may be infinite.
 
-mod date;
-mod timestamp;
+pub(crate) mod date;
+pub(crate) mod timestamp;

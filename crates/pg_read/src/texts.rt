@@ -11,6 +11,7 @@ ghost use Rattle.pg_read.specs.Reading.{EveryCell, NullAlone};
 ghost use Rattle.pg_read.specs.Laws.Reading.{plain_single};
 
 use crate::from_sql::FromSql;
+use crate::laws::{never_answers_memory, never_answers_memory_at_null};
 use pg_base::acceptance::{has_version, is_text};
 use pg_base::fault::Fault;
 use pg_base::protocol::{ltree_from_sql, text_from_sql};
@@ -19,7 +20,7 @@ use std::alloc::Global;
 use std::borrow::CowStr;
 use std::boxed::BoxedStr;
 
-/// The text of a cell of that type.
+/// Returns the text of a cell of this type.
 fn text_of<'a>(ty: &PgType, raw: &'a [u8]) -> Result<&'a str, Fault>
     ensures outcome { Answers (ReadsText (λ s. s.now) (has_version (content ty.now)) (Some raw.now)) result }
     ensures never_memory { NeverMemory result }
@@ -31,10 +32,11 @@ fn text_of<'a>(ty: &PgType, raw: &'a [u8]) -> Result<&'a str, Fault>
     }
 }
 
-/// VARCHAR, TEXT, BPCHAR, NAME, UNKNOWN, and any type named citext, ltree, lquery or ltxtquery: the
-/// text's bytes, in place (`textrecv`). A type that is named ltree, lquery or ltxtquery has the
-/// version 1 first (`ltree_recv`), and another first byte, or none, is `TextVersion`. What is not
-/// UTF-8 is `Utf8`, and NULL is `WasNull`.
+/// Reads VARCHAR, TEXT, BPCHAR, NAME, UNKNOWN, and every type named citext, ltree, lquery or
+/// ltxtquery: the text's bytes in UTF-8, borrowed (`textrecv`). A cell of ltree, lquery or
+/// ltxtquery begins with the version 1 (`ltree_recv`, `lquery_recv`, `ltxtq_recv`); another first
+/// byte, or none, is refused with `TextVersion`. A text that is not UTF-8 is refused with `Utf8`,
+/// and NULL with `WasNull`.
 impl<'a> FromSql<'a> for &'a str {
     ghost same = { λ s t. s.now ≡ t.now };
 
@@ -64,10 +66,11 @@ impl<'a> FromSql<'a> for &'a str {
     }
 }
 
-/// VARCHAR, TEXT, BPCHAR, NAME, UNKNOWN, and any type named citext, ltree, lquery or ltxtquery: the
-/// text's bytes, always borrowed (`textrecv`). A type that is named ltree, lquery or ltxtquery has
-/// the version 1 first (`ltree_recv`), and another first byte, or none, is `TextVersion`. What is
-/// not UTF-8 is `Utf8`, and NULL is `WasNull`.
+/// Reads VARCHAR, TEXT, BPCHAR, NAME, UNKNOWN, and every type named citext, ltree, lquery or
+/// ltxtquery: the text's bytes in UTF-8, always borrowed (`textrecv`). A cell of ltree, lquery or
+/// ltxtquery begins with the version 1 (`ltree_recv`, `lquery_recv`, `ltxtq_recv`); another first
+/// byte, or none, is refused with `TextVersion`. A text that is not UTF-8 is refused with `Utf8`,
+/// and NULL with `WasNull`.
 impl<'a> FromSql<'a> for CowStr<'a> {
     ghost same = { λ s t. cow_str_bytes s ≡ cow_str_bytes t };
 
@@ -102,10 +105,11 @@ impl<'a> FromSql<'a> for CowStr<'a> {
     }
 }
 
-/// VARCHAR, TEXT, BPCHAR, NAME, UNKNOWN, and any type named citext, ltree, lquery or ltxtquery: a
-/// copy of the text's bytes (`textrecv`). A type that is named ltree, lquery or ltxtquery has the
-/// version 1 first (`ltree_recv`), and another first byte, or none, is `TextVersion`. What is not
-/// UTF-8 is `Utf8`, and NULL is `WasNull`.
+/// Reads VARCHAR, TEXT, BPCHAR, NAME, UNKNOWN, and every type named citext, ltree, lquery or
+/// ltxtquery: the text's bytes in UTF-8, copied (`textrecv`). A cell of ltree, lquery or ltxtquery
+/// begins with the version 1 (`ltree_recv`, `lquery_recv`, `ltxtq_recv`); another first byte, or
+/// none, is refused with `TextVersion`. A text that is not UTF-8 is refused with `Utf8`, and NULL
+/// with `WasNull`.
 impl<'a> FromSql<'a> for String {
     ghost same = { λ s t. string_bytes s ≡ string_bytes t };
 
@@ -134,10 +138,11 @@ impl<'a> FromSql<'a> for String {
     }
 }
 
-/// VARCHAR, TEXT, BPCHAR, NAME, UNKNOWN, and any type named citext, ltree, lquery or ltxtquery: a
-/// copy of the text's bytes (`textrecv`). A type that is named ltree, lquery or ltxtquery has the
-/// version 1 first (`ltree_recv`), and another first byte, or none, is `TextVersion`. What is not
-/// UTF-8 is `Utf8`, and NULL is `WasNull`.
+/// Reads VARCHAR, TEXT, BPCHAR, NAME, UNKNOWN, and every type named citext, ltree, lquery or
+/// ltxtquery: the text's bytes in UTF-8, copied (`textrecv`). A cell of ltree, lquery or ltxtquery
+/// begins with the version 1 (`ltree_recv`, `lquery_recv`, `ltxtq_recv`); another first byte, or
+/// none, is refused with `TextVersion`. A text that is not UTF-8 is refused with `Utf8`, and NULL
+/// with `WasNull`.
 impl<'a> FromSql<'a> for BoxedStr {
     ghost same = { λ s t. boxed_str_bytes s ≡ boxed_str_bytes t };
 
@@ -164,4 +169,12 @@ impl<'a> FromSql<'a> for BoxedStr {
     fn accepts(ty: &PgType) -> bool {
         is_text(ty)
     }
+}
+
+/// Borrowed texts are read without memory, and NULL as an owned one.
+pub(crate) fn read_without_memory() {
+    never_answers_memory::<&str>();
+    never_answers_memory::<CowStr>();
+    never_answers_memory_at_null::<String>();
+    never_answers_memory_at_null::<BoxedStr>();
 }

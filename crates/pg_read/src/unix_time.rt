@@ -8,6 +8,7 @@ ghost use Rattle.pg_read.specs.Reading.{EveryCell};
 ghost use Rattle.pg_read.specs.Laws.Reading.{plain_single};
 
 use crate::from_sql::FromSql;
+use crate::laws::never_answers_memory;
 use pg_base::acceptance::is_timestamp;
 use pg_base::fault::Fault;
 use pg_base::protocol::timestamp_from_sql;
@@ -15,9 +16,10 @@ use pg_base::types::PgType;
 use pg_base::unix_time::UnixTime;
 use std::alloc::Global;
 
-/// TIMESTAMP, TIMESTAMPTZ: 8 bytes, big-endian, in two's complement, the microseconds from
-/// 2000-01-01 00:00:00 UTC (`timestamp_recv`, `timestamptz_recv`). Every count is a timestamp. Any
-/// other length is `Size`, and NULL is `WasNull`.
+/// Reads TIMESTAMP and TIMESTAMPTZ: the microseconds from 2000-01-01 00:00:00 UTC in 8 bytes,
+/// big-endian, in two's complement (`timestamp_recv`, `timestamptz_recv`). Every number is a
+/// timestamp, also the two that PostgreSQL reads as infinities. Any other length is refused with
+/// `Size`, and NULL with `WasNull`.
 impl<'a> FromSql<'a> for UnixTime {
     ghost same = { λ v w. nanos_of v ≡ nanos_of w };
 
@@ -43,4 +45,9 @@ impl<'a> FromSql<'a> for UnixTime {
     fn accepts(ty: &PgType) -> bool {
         is_timestamp(ty)
     }
+}
+
+/// A `UnixTime` is read without memory.
+pub(crate) fn read_without_memory() {
+    never_answers_memory::<UnixTime>();
 }

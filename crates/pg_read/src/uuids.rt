@@ -10,14 +10,15 @@ ghost use Rattle.pg_read.specs.Reading.{EveryCell};
 ghost use Rattle.pg_read.specs.Laws.Reading.{plain_single};
 
 use crate::from_sql::FromSql;
+use crate::laws::never_answers_memory;
 use pg_base::fault::Fault;
 use pg_base::protocol::uuid_from_sql;
 use pg_base::types::PgType;
 use std::alloc::Global;
 use uuid::Uuid;
 
-/// UUID: 16 bytes, in the order of its text (`uuid_recv`). Any other length is
-/// `Size`, and NULL is `WasNull`.
+/// Reads UUID: 16 bytes, in the order of its text (`uuid_recv`). Any other length is refused with
+/// `Size`, and NULL with `WasNull`.
 impl<'a> FromSql<'a> for Uuid {
     ghost same = { λ v w. v ≡ w };
 
@@ -43,4 +44,9 @@ impl<'a> FromSql<'a> for Uuid {
     fn accepts(ty: &PgType) -> bool {
         ty.is(&PgType::UUID)
     }
+}
+
+/// A UUID is read without memory.
+pub(crate) fn read_without_memory() {
+    never_answers_memory::<Uuid>();
 }

@@ -23,7 +23,7 @@ use Rattle.postgres_types.specs.CompositeFields.{no_fields_equivalence, no_field
 use Rattle.postgres_types.specs.Composites.{accepts_record, composite_lawful, composite_single, reads_record}
 use Rattle.postgres_types.specs.Composites.{record_cell}
 use Rattle.postgres_types.specs.Conversion.{int4_lawful, int4_single, int8_lawful, int8_single}
-use Rattle.postgres_types.specs.Laws.FormatBack.{text_lawful}
+use Rattle.postgres_types.specs.Laws.TextBack.{text_lawful}
 use Rattle.postgres_types.specs.Laws.OptionBack.{option_lawful}
 use Rattle.postgres_types.specs.ReadingBack.{BackKept, BackOption, IsLawful}
 use Rattle.postgres_types.specs.Laws.Record.{AreLawful}
@@ -52,7 +52,7 @@ text_cell ty v = wire_text (has_version ty) (string_bytes v)
 abbrev pub Equal : ℤ → ℤ → Type 0
 Equal v w = v ≡ w
 
--- the fields of an item in a row
+-- the fields of an item, one after another
 abbrev pub Row : Type 0
 Row = And Text (And ℤ (And (Option ℤ) End))
 
@@ -62,11 +62,11 @@ row_of v = and v.name (and v.supplier_id (and v.price end))
 abbrev pub SameRow : Row → Row → Type 0
 SameRow = SameAnd SameText (SameAnd Equal (SameAnd (SameOption Equal) (λ v w. Unit {0})))
 
--- their types: a type of texts, INT4 and INT8
+-- the types of the fields: a type of texts, INT4 and INT8
 abbrev pub accepts_row : FieldsContent → Bool
 accepts_row = accepts_and accepted_text (accepts_and (is_row Int4) (accepts_and (is_row Int8) no_fields))
 
--- the price, the supplier's number and the price, and the whole
+-- what the price reads as, then the supplier and the price, then all fields
 abbrev pub reads_price : FieldsContent → List ℕ → Outcome (And (Option ℤ) End) → Type 0
 reads_price = ReadsAnd (λ ty. ReadsOption (ReadsSigned w64)) ReadsEnd
 
@@ -90,7 +90,7 @@ back_row = BackAnd (λ ty. BackKept SameText) (BackAnd (λ ty. BackKept Equal)
 abbrev pub SameItem : InventoryItem → InventoryItem → Type 0
 SameItem v w = SameRow (row_of v) (row_of w)
 
--- a composite type of this name, of fields of these names and types
+-- the composite type has this name, and fields of these names and types
 abbrev pub item_names : List (List ℕ)
 item_names = codes "name" ∷ codes "supplier_id" ∷ codes "price" ∷ []
 
@@ -107,7 +107,7 @@ item_bytes fs v = record_bytes (count_of fs) (row_bytes fs (row_of v))
 abbrev pub wire_item : FieldsContent → InventoryItem → Wire
 wire_item fs v = wire_record (count_of fs) (row_bytes fs (row_of v))
 
--- and what it is read back as: itself
+-- what an item is read back as: itself
 abbrev pub back_item : FieldsContent → InventoryItem → Outcome InventoryItem → Type 0
 back_item fs v = Through row_of (back_row fs (row_of v))
 

@@ -1,2 +1,2 @@
--- Lemmas that the sources cite; what they say is proved, so that none need be trusted.
+-- Lemmas that the sources cite. Their statements are proved, so none of them has to be trusted.
 pub mod Mood

@@ -1,4 +1,4 @@
--- The words of this crate's types.
+-- Definitions of the types of this crate.
 pub mod InventoryItems
 pub mod Laws
 pub mod Moods

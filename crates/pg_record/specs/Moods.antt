@@ -1,4 +1,4 @@
--- The enumerated type "Mood", of the labels Sad, Ok and Happy (enum_send, enum_recv).
+-- The enumerated type "Mood" with the labels Sad, Ok and Happy (enum_send, enum_recv).
 use Rattle.std.specs.Prelude.{◌≡◌, ℕ, List, [], ◌∷◌, Bool, Option, Some, Ok, codes}
 use Rattle.postgres_types.specs.Appending.{Wire}
 use Rattle.postgres_types.specs.Cells.{Cell}
@@ -23,7 +23,7 @@ labels = label Sad ∷ label MoodOk ∷ label Happy ∷ []
 abbrev pub members : List Mood
 members = Sad ∷ MoodOk ∷ Happy ∷ []
 
--- the place of a value's label among them
+-- the index of the label of a value
 abbrev pub place : Mood → ℕ
 place Sad = 0
 place MoodOk = 1
@@ -37,7 +37,7 @@ is_mood = is_enum (codes "Mood") labels
 abbrev pub FormMood : List ℕ → Mood → Type 0
 FormMood b v = b ≡ label v
 
--- what is no UTF-8 is Utf8, and a text that is no label is User
+-- bytes that are not UTF-8 are Utf8, and a text that is not a label is User
 abbrev pub first_fault_mood : List ℕ → Option Refusal
 first_fault_mood = first_fault_label labels
 

@@ -13,7 +13,7 @@ use Rattle.pg_record.specs.declared.session_id.SessionId.{SessionId}
 abbrev pub is_session_id : Content → Bool
 is_session_id = accepts_domain (codes "SessionId") (is_row Bytea)
 
--- what a cell reads as: what that of the underlying type does
+-- what a cell reads as: the same as a cell of the underlying type
 abbrev pub ReadsSessionId : Cell → Outcome SessionId → Type 0
 ReadsSessionId = ReadsBytes (λ v. v.0.items)
 

@@ -1,15 +1,15 @@
--- Types of a client's own, in the schema public.
+-- Types of a user's own, in the schema public.
 use Rattle.std.specs.Prelude.{ℕ, List, [], ◌∷◌, codes}
 use Rattle.postgres_types.specs.Content.{Content, BuiltInType, UserDefinedType, KindContent, SimpleKind, EnumKind}
 use Rattle.postgres_types.specs.Content.{ArrayKind, CompositeKind, DomainKind, FieldAnd, NoFields}
 use Rattle.pg_types.specs.declared.types.built_in.BuiltIn.TheVariants.{Bytea as ByteaRow, Int4 as Int4Row}
 use Rattle.pg_types.specs.declared.types.built_in.BuiltIn.TheVariants.{Int8 as Int8Row, Text as TextRow}
 
--- a type of that name, OID and kind
+-- a type of this name, OID and kind
 abbrev pub user_type : List ℕ → ℕ → KindContent → Content
 user_type name oid kind = UserDefinedType name oid kind (codes "public")
 
--- a type of that name and OID, of kind Simple
+-- a type of this name and OID, of kind Simple
 abbrev pub simple_type : List ℕ → ℕ → Content
 simple_type name oid = user_type name oid SimpleKind
 

@@ -17,22 +17,22 @@ use postgres_types::private::BytesMut;
 use postgres_types::{Fault, Field, Format, FromSql, IsNull, Paired, ToSql, Type, check_type};
 use std::alloc::Global;
 
-/// The names of the type's fields, in their order.
+/// The names of the fields of the type, in order.
 const FIELDS: &[&str] = &["name", "supplier_id", "price"];
 
 /// A value of the composite type that
 /// `CREATE TYPE "InventoryItem" AS (name text, supplier_id int4, price int8)` makes.
 ///
-/// It accepts a composite type of that name, with fields of these names in this order, of types
-/// that [`String`], `i32` and `Option<i64>` accept. Its cell is a record (`record_recv`,
-/// `record_send`): the field count 3 in 4 bytes, and then, of each field, the OID of its type in 4 bytes
-/// and the frame of its cell, big-endian. NULL is `WasNull`.
+/// It accepts a composite type of that name, with fields of these names in this order, whose types
+/// [`String`], `i32` and `Option<i64>` accept. Its cell is a record (`record_recv`, `record_send`):
+/// the field count 3 in 4 bytes, and then, for each field, the OID of its type in 4 bytes and the
+/// frame of its cell. The numbers are big-endian. NULL is refused with `WasNull`.
 ///
-/// In reading, fewer than 4 bytes are `Size`, and another number is `FieldCount`; a truncated OID
-/// is `Size`, and another one `FieldOid`; a truncated cell is `Size`, and a cell that a field's
-/// type refuses has its fault; trailing bytes are `Size`. In writing, the first field that is
-/// refused gives the fault, `Transmit` where its cell passes 2,147,483,647 bytes. A refusal leaves
-/// the buffer's bytes as they were.
+/// In reading, fewer than 4 bytes are refused with `Size`, and another field count with
+/// `FieldCount`; a truncated OID with `Size`, and another one with `FieldOid`; a truncated cell
+/// with `Size`, and a cell that the type of the field refuses with its fault; and trailing bytes
+/// with `Size`. In writing, the first field that is refused gives the fault, which is `Transmit` if
+/// its cell exceeds 2,147,483,647 bytes. An error leaves the buffer's bytes as they were.
 #[derive(Debug, PartialEq, Eq, Drop)]
 pub struct InventoryItem {
     pub name: String,
@@ -41,7 +41,7 @@ pub struct InventoryItem {
     pub price: Option<i64>,
 }
 
-/// Whether the type is `InventoryItem`, of fields whose types are accepted.
+/// Whether the type is `InventoryItem` with fields whose types are accepted.
 fn is_item(ty: &Type) -> bool
     ensures { result ≡ accepts_item (content ty.now) }
 {
@@ -97,7 +97,7 @@ fn read_item(alloc: Global, fields: &[Field], raw: &[u8]) -> Result<InventoryIte
     read_fields(alloc, name, supplier_id, price, raw)
 }
 
-/// Appends the record of these fields, whose types are accepted. A refusal leaves what was appended
+/// Appends the record of these fields, whose types are accepted. An error leaves what was appended
 /// so far.
 fn append_fields(
     alloc: Global,
@@ -121,7 +121,7 @@ fn append_fields(
     field_to_sql(alloc, &item.price, price.type_(), out)
 }
 
-/// Appends the record of the fields, whose types are accepted. A refusal leaves the buffer's bytes
+/// Appends the record of the fields, whose types are accepted. An error leaves the buffer's bytes
 /// as they were.
 #[tactic(auto, using(crate::proofs::ItemFields::three_of_list))]
 fn item_to_sql(

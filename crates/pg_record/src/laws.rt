@@ -1,10 +1,10 @@
-//! What equality means, each as a call whose contract says it.
+//! What equality of these types means, each as a function whose contract states it.
 ghost use Rattle.std.specs.Prelude.{◌≡◌, ◌↔◌, IsTrue};
 ghost use Rattle.pg_record.specs.InventoryItems.{SameItem};
 
 use crate::{InventoryItem, Mood, SessionId};
 
-/// Whether two items are equal: of the same name, supplier and price.
+/// Whether two items are equal: with the same name, supplier and price.
 pub fn same_item(a: &InventoryItem, b: &InventoryItem) -> bool
     ensures { IsTrue result ↔ SameItem a.now b.now }
 {
@@ -18,7 +18,7 @@ pub fn same_mood(a: &Mood, b: &Mood) -> bool
     *a == *b
 }
 
-/// Whether two session ids are equal: the same bytes.
+/// Whether two session ids are equal: with the same bytes.
 pub fn same_session_id(a: &SessionId, b: &SessionId) -> bool
     ensures { IsTrue result ↔ (a.now.0.items ≡ b.now.0.items) }
 {

@@ -1,4 +1,4 @@
-//! Types of a client's own, read and written by hand: a composite type, an enumerated type and a
+//! Types of a user's own, read and written by hand: a composite type, an enumerated type and a
 //! domain.
 #![tactic(auto)]
 

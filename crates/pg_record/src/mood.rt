@@ -56,9 +56,10 @@ impl EnumType for Mood {
     }
 }
 
-/// A type named `Mood`, whatever its schema, of kind Enum with the labels `Sad`, `Ok` and `Happy` in any
-/// order: the label's text (`enum_recv`). Bytes that are not UTF-8 are `Utf8`, and a text that is no
-/// label, as `sad`, is the fault `User` with the text `invalid variant`. NULL is `WasNull`.
+/// Reads a type named `Mood`, whatever its schema, that is an enumerated type with the labels
+/// `Sad`, `Ok` and `Happy`, in any order: the text of the label (`enum_recv`). Bytes that are not
+/// UTF-8 are refused with `Utf8`, a text that is not a label, like `sad`, with `User` and the text
+/// `invalid variant`, and NULL with `WasNull`.
 impl<'a> FromSql<'a> for Mood {
     ghost same = { λ v w. v ≡ w };
 
@@ -85,7 +86,7 @@ impl<'a> FromSql<'a> for Mood {
     }
 }
 
-/// The same types: the label's text (`enum_send`). A mood is never NULL.
+/// Writes the same types: the text of the label (`enum_send`). A mood is never NULL.
 impl ToSql for Mood {
     ghost accepted = { is_mood };
 

@@ -4,7 +4,7 @@ ghost use Rattle.pg_base.proofs.FormatLaws.{bytes_grammar};
 ghost use Rattle.postgres_types.specs.Bytea.{FormBytes, first_fault_bytes};
 ghost use Rattle.postgres_types.specs.Content.{content};
 ghost use Rattle.postgres_types.specs.Conversion.{BackKept, NullAlone, codes, content_equivalence, plain_single, refl};
-ghost use Rattle.postgres_types.specs.Laws.FormatBack.{bytes_lawful};
+ghost use Rattle.postgres_types.specs.Laws.TextBack.{bytes_lawful};
 ghost use Rattle.pg_record.specs.SessionIds.{ReadsSessionId, is_session_id, wire_session_id};
 
 use postgres_types::newtype::{is_domain, underlying_type};
@@ -12,12 +12,12 @@ use postgres_types::private::BytesMut;
 use postgres_types::{Fault, Format, FromSql, IsNull, Paired, ToSql, Type, check_type};
 use std::alloc::Global;
 
-/// A value of a domain that `CREATE DOMAIN "SessionId" AS BYTEA` makes. A constraint of the domain is the
-/// server's to check.
+/// A value of the domain that `CREATE DOMAIN "SessionId" AS BYTEA` makes. A constraint of the
+/// domain is left to the server.
 #[derive(Debug, PartialEq, Eq, Drop)]
 pub struct SessionId(pub Vec<u8>);
 
-/// Whether session ids are read from cells of that type and written to them: it is named `SessionId`,
+/// Whether session ids are read from and written to cells of this type: it is named `SessionId`,
 /// whatever its schema, and is a domain over BYTEA.
 fn is_session_id(ty: &Type) -> bool
     ensures { result ≡ is_session_id (content ty.now) }
@@ -25,8 +25,8 @@ fn is_session_id(ty: &Type) -> bool
     is_domain("SessionId", ty) && <Vec<u8> as FromSql>::accepts(&underlying_type(ty))
 }
 
-/// A type named `SessionId`, whatever its schema, of kind Domain over BYTEA: the cell of the underlying
-/// type (`domain_recv`), which is a copy of the bytes. NULL is `WasNull`.
+/// Reads a type named `SessionId`, whatever its schema, that is a domain over BYTEA: the cell of
+/// the underlying type (`domain_recv`), whose bytes are copied. NULL is refused with `WasNull`.
 impl<'a> FromSql<'a> for SessionId {
     ghost same = { λ v w. v.0.items ≡ w.0.items };
 
@@ -54,8 +54,8 @@ impl<'a> FromSql<'a> for SessionId {
     }
 }
 
-/// The same types: the cell of the underlying type (`byteasend`). A session id is never NULL, even where it has
-/// no bytes.
+/// Writes the same types: the cell of the underlying type (`byteasend`). A session id is never
+/// NULL, even if it has no bytes.
 impl ToSql for SessionId {
     ghost accepted = { is_session_id };
 

@@ -1,4 +1,4 @@
-//! Postgres types of a client's own, in the schema public and with the OID that a server gave them.
+//! Postgres types of a user's own, in the schema `public` and with the OID that a server gave them.
 ghost use Rattle.std.specs.Prelude.{◌≡◌, IfOk};
 ghost use Rattle.postgres_types.specs.Content.{content, field_name, field_type, kind_content};
 ghost use Rattle.pg_record.specs.Types as spec;
@@ -6,7 +6,7 @@ ghost use Rattle.pg_record.specs.Types as spec;
 use postgres_types::{Field, Kind, Oid, Type};
 use std::alloc::{AllocError, Global};
 
-/// A type of that name, OID and kind.
+/// Creates a type of this name, OID and kind.
 fn user_type(alloc: Global, name: &str, oid: Oid, kind: Kind) -> Result<Type, AllocError>
     ensures { IfOk result (λ ty. content ty ≡ spec.user_type name.now oid (kind_content kind)) }
 {
@@ -15,21 +15,22 @@ fn user_type(alloc: Global, name: &str, oid: Oid, kind: Kind) -> Result<Type, Al
     Type::new(alloc, name, oid, kind, schema).map_err(|_| AllocError)
 }
 
-/// A type of that name and OID, of kind Simple.
+/// Creates a type of this name and OID, of kind `Simple`. The only error is a failed allocation.
 pub fn simple_type(alloc: Global, name: &str, oid: Oid) -> Result<Type, AllocError>
     ensures { IfOk result (λ ty. content ty ≡ spec.simple_type name.now oid) }
 {
     user_type(alloc, name, oid, Kind::Simple)
 }
 
-/// A field of that name and type.
+/// Creates a field of this name and type.
 fn field(alloc: Global, name: &str, type_: Type) -> Result<Field, AllocError>
     ensures { IfOk result (λ field. (field_name field ≡ name.now) × (content (field_type field) ≡ content type_)) }
 {
     Ok(Field::new(String::from_str(alloc, name)?, type_))
 }
 
-/// The composite type of [`InventoryItem`](crate::InventoryItem).
+/// Creates the composite type of [`InventoryItem`](crate::InventoryItem). The only error is a
+/// failed allocation.
 #[tactic(auto, using(pg_types::proofs::Fields::composite_content))]
 pub fn item_type(alloc: Global, oid: Oid) -> Result<Type, AllocError>
     ensures { IfOk result (λ ty. content ty ≡ spec.item_type oid) }
@@ -41,14 +42,14 @@ pub fn item_type(alloc: Global, oid: Oid) -> Result<Type, AllocError>
     user_type(alloc, "InventoryItem", oid, Kind::Composite(fields))
 }
 
-/// The type of arrays of the composite type.
+/// Creates the array type of the composite type `item`. The only error is a failed allocation.
 pub fn item_array_type(alloc: Global, oid: Oid, item: Type) -> Result<Type, AllocError>
     ensures { IfOk result (λ ty. content ty ≡ spec.item_array_type oid (content item)) }
 {
     user_type(alloc, "_InventoryItem", oid, Kind::Array(item))
 }
 
-/// The enumerated type of [`Mood`](crate::Mood).
+/// Creates the enumerated type of [`Mood`](crate::Mood). The only error is a failed allocation.
 pub fn mood_type(alloc: Global, oid: Oid) -> Result<Type, AllocError>
     ensures { IfOk result (λ ty. content ty ≡ spec.mood_type oid) }
 {
@@ -59,7 +60,7 @@ pub fn mood_type(alloc: Global, oid: Oid) -> Result<Type, AllocError>
     user_type(alloc, "Mood", oid, Kind::Enum(labels))
 }
 
-/// The domain of [`SessionId`](crate::SessionId).
+/// Creates the domain of [`SessionId`](crate::SessionId). The only error is a failed allocation.
 pub fn session_id_type(alloc: Global, oid: Oid) -> Result<Type, AllocError>
     ensures { IfOk result (λ ty. content ty ≡ spec.session_id_type oid) }
 {

@@ -1,4 +1,4 @@
--- The words of this crate's contracts.
+-- Definitions for the contracts of this crate.
 pub mod Reading
 pub mod Refusals
 pub mod Tuples

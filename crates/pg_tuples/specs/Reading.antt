@@ -1,4 +1,4 @@
--- What stands at the front of bytes that are read as a binary COPY.
+-- What is at the front of bytes that are read as a binary COPY.
 use Rattle.std.specs.Prelude.{◌≡◌, ◌⊎◌, ◌<◌, ℕ, pos, List, [], ◌∷◌, ◌++◌, length, Option, Some, None}
 use Rattle.std.specs.Int.{w16}
 use Rattle.pg_base.specs.Cells.{be}
@@ -7,7 +7,7 @@ use Rattle.pg_tuples.specs.Tuples.{FrameThen, FramesThen, IsHeader, signature, t
 use Rattle.pg_tuples.specs.declared.tuples.Front.{Front}
 use Rattle.pg_tuples.specs.declared.tuples.Front.TheVariants.{Tuple, Trailer, Part}
 
--- with any so many bytes more it is a header
+-- followed by any `len` bytes it is a header
 abbrev pub AwaitsExtension : ℕ → List ℕ → Type 0
 AwaitsExtension len s = (more : List ℕ) → length more ≡ len → IsHeader (s ++ more)
 
@@ -32,12 +32,12 @@ EndsInHeader s = EndsInSignature s ⊎ (EndsInFlags s ⊎ EndsInLength s)
 abbrev pub EndsInExtension : List ℕ → Type 0
 EndsInExtension s = (len : ℕ) × (0 < len) × AwaitsExtension len s
 
--- the header was taken but for so many bytes of its extension; or it is truncated, and nothing was taken
+-- the header was taken, except for `len` bytes of its extension; or it is truncated, and nothing was taken
 abbrev pub TakesHeader : List ℕ → Option ℕ → List ℕ → Type 0
 TakesHeader old None new = EndsInHeader old × (new ≡ old)
 TakesHeader old (Some len) new = (t : List ℕ) × AwaitsExtension len t × (old ≡ t ++ new)
 
--- no frame of a cell stands whole at the front
+-- no complete frame of a cell is at the front
 abbrev pub NoFrame : List ℕ → Type 0
 NoFrame s = (rest : List ℕ) → FrameThen s rest → ⊥
 
@@ -52,7 +52,7 @@ EndsInTuple n s =
     ⊎ ((place : ℕ) × (fields rest : List ℕ) × (place < n) × (s ≡ be w16 (pos n) ++ fields)
     × FramesThen fields place rest × EndsInFrame rest)
 
--- a tuple of n columns, or the trailer, stands at the front
+-- a tuple of n columns, or the trailer, is at the front
 abbrev pub StandsAt : ℕ → List ℕ → Front → Type 0
 StandsAt n s (Tuple frames rest) =
     FramesThen frames.now n [] × (s ≡ be w16 (pos n) ++ (frames.now ++ rest.now))

@@ -3,7 +3,7 @@ use Rattle.std.specs.Prelude.{◌≡◌, ℕ, pos, List, [], ◌∷◌, ◌++◌
 use Rattle.std.specs.Int.{w16}
 use Rattle.pg_base.specs.Cells.{Cell, be, concat, frame, frames}
 
--- what a COPY begins with
+-- the signature, with which a COPY begins
 abbrev pub signature : List ℕ
 signature = 80 ∷ 71 ∷ 67 ∷ 79 ∷ 80 ∷ 89 ∷ 10 ∷ 255 ∷ 13 ∷ 10 ∷ 0 ∷ []
 
@@ -14,7 +14,7 @@ IsHeader s =
     (a b : ℕ) × (extension framed : List ℕ) × (frame (Some extension) ≡ Some framed)
     × (s ≡ signature ++ 0 ∷ 0 ∷ a ∷ b ∷ framed)
 
--- the signature, no flag, and a header extension of no byte
+-- the signature, no flag set, and an empty header extension
 abbrev pub header : List ℕ
 header =
     80 ∷ 71 ∷ 67 ∷ 79 ∷ 80 ∷ 89 ∷ 10 ∷ 255 ∷ 13 ∷ 10 ∷ 0 ∷ 0 ∷ 0 ∷ 0 ∷ 0 ∷ 0 ∷ 0 ∷ 0 ∷ 0 ∷ []
@@ -28,7 +28,7 @@ abbrev pub tuples : List (List Cell) → Option (List ℕ)
 tuples [] = Some []
 tuples (row ∷ rows) = concat (tuple row) (tuples rows)
 
--- -1 in the place of a number of columns
+-- -1 instead of a number of columns
 abbrev pub trailer : List ℕ
 trailer = 255 ∷ 255 ∷ []
 
@@ -45,7 +45,7 @@ IsCopy rows s = (t : List ℕ) × BeginsCopy rows t × (s ≡ t ++ trailer)
 abbrev pub FrameThen : List ℕ → List ℕ → Type 0
 FrameThen s rest = (cell : Cell) × (bytes : List ℕ) × (frame cell ≡ Some bytes) × (s ≡ bytes ++ rest)
 
--- s is the frames of so many cells, one after another, and then rest
+-- s is the frames of n cells, one after another, and then rest
 abbrev pub FramesThen : List ℕ → ℕ → List ℕ → Type 0
 FramesThen s n rest =
     (cells : List Cell) × (bytes : List ℕ) × (length cells ≡ n) × (frames cells ≡ Some bytes) × (s ≡ bytes ++ rest)

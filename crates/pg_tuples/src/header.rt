@@ -1,4 +1,4 @@
-//! The header: its signature, the flags and the length of its extension.
+//! The header: the signature, the flags and the length of the header extension.
 ghost use Rattle.std.specs.Prelude.{◌≡◌, IfErr, IfOk, OnErr, OnOk};
 ghost use Rattle.pg_tuples.specs.Reading.{TakesHeader};
 ghost use Rattle.pg_tuples.specs.Refusals.{RefusesFlags, RefusesHeader};
@@ -6,22 +6,22 @@ ghost use Rattle.pg_tuples.specs.Refusals.{RefusesFlags, RefusesHeader};
 use pg_read::private::read_be_i32;
 use thiserror::Error;
 
-/// What a binary COPY begins with.
+/// The signature, with which a binary COPY begins.
 const SIGNATURE: &[u8; 11] = b"PGCOPY\n\xff\r\n\0";
 
-/// The critical flag of a COPY whose tuples begin with an OID.
+/// The critical flag that says that the tuples begin with an OID.
 const OIDS: u16 = 1;
 
 /// Why a header is refused.
 #[derive(Debug, Clone, Copy, PartialEq, Eq, Error)]
 pub enum HeaderFault {
-    /// The bytes do not begin as a binary COPY does.
+    /// The bytes do not begin with the signature.
     #[error("not a binary COPY")]
     Signature,
-    /// The tuples have OIDs, as those of servers before version 12 could.
+    /// The tuples have OIDs, as servers before version 12 could send them.
     #[error("tuples with OIDs")]
     Oids,
-    /// A critical flag that is not known.
+    /// An unknown critical flag is set.
     #[error("unknown critical flag")]
     Flags,
     /// The length of the header extension is negative.
@@ -29,9 +29,9 @@ pub enum HeaderFault {
     Extension,
 }
 
-/// Takes the signature, the flags and the length of the header extension off the front of the bytes:
-/// how many bytes the extension has. `None` where the bytes are truncated before; then, and
-/// after a fault, nothing is taken.
+/// Takes the signature, the flags and the length of the header extension from the front of the
+/// bytes. Returns the length of the extension, or `None` if the bytes end before it. In that case,
+/// and after a fault, nothing is taken.
 pub fn take_header(bytes: &mut &[u8]) -> Result<Option<usize>, HeaderFault>
     ensures ok { IfOk result (λ extension. TakesHeader bytes.old.now extension bytes.new.now) }
     ensures err { OnErr result (bytes.new.now ≡ bytes.old.now) }
@@ -59,7 +59,8 @@ pub fn take_header(bytes: &mut &[u8]) -> Result<Option<usize>, HeaderFault>
     Ok(Some(len as usize))
 }
 
-/// Refuses the critical flags, the first two bytes of the four, of which none is known.
+/// Refuses critical flags that are set; they are the first two of the four bytes of flags, and none
+/// of them is known.
 fn check_flags(high: u8, low: u8) -> Result<(), HeaderFault>
     ensures ok { OnOk result ((high ≡ 0) × (low ≡ 0)) }
     ensures refused { IfErr result (RefusesFlags high low) }

@@ -1,8 +1,8 @@
-//! The binary format of COPY: a header, a tuple for each row, and a trailer (documentation of the command COPY,
-//! "Binary Format").
+//! The binary format of COPY: a header, a tuple for each row, and a trailer (documentation of the
+//! command COPY, "Binary Format").
 //!
-//! [`take_header`] takes the header up to its extension off the front of bytes, and [`front_of`] says what stands there
-//! after it. Bytes that are truncated are no fault, since more may come.
+//! [`take_header`] takes the header, up to its extension, from the front of the bytes, and
+//! [`front_of`] returns what comes after it. Truncated bytes are not a fault, since more may come.
 #![tactic(auto)]
 
 mod header;

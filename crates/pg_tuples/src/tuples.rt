@@ -9,40 +9,41 @@ ghost use Rattle.pg_tuples.specs.Tuples.{FrameThen, FramesThen};
 use pg_read::private::read_be_i32;
 use thiserror::Error;
 
-/// The trailer: -1 in the place of a number of columns.
+/// The trailer: -1 instead of a number of columns.
 const TRAILER: [u8; 2] = [0xff, 0xff];
 
 /// Why a tuple is refused.
 #[derive(Debug, Clone, Copy, PartialEq, Eq, Error)]
 pub enum TupleFault {
-    /// It has another number of columns.
+    /// The tuple has another number of columns.
     #[error("{got} columns in place of {expected}")]
     Columns { expected: usize, got: i16 },
-    /// The length prefix of a column is negative, and not that of NULL. Columns are counted from 1.
+    /// The length prefix of a column is negative, and is not -1. Columns are counted from 1.
     #[error("column {column}: negative length")]
     Length { column: usize },
 }
 
-/// What stands at the front of the bytes after the header.
+/// The front of the bytes after the header.
 #[derive(Debug, Clone, Copy)]
 pub enum Front<'a> {
-    /// A whole tuple.
+    /// A complete tuple.
     Tuple {
         /// The frames of its cells.
         frames: &'a [u8],
-        /// What stands after it.
+        /// The bytes after it.
         rest: &'a [u8],
     },
-    /// The trailer: what stands after it.
+    /// The trailer, and the bytes after it.
     Trailer(&'a [u8]),
-    /// A part of a tuple or of the trailer.
+    /// A truncated tuple or trailer.
     Part,
 }
 
-/// What stands at the front of the bytes: a tuple of so many columns, the trailer, or a part of them.
+/// Returns what is at the front of the bytes: a tuple of `columns` columns, the trailer, or a
+/// truncated one of these.
 ///
-/// A tuple is a number of columns in two bytes and the frame of each cell, a length of 4 bytes, -1 for NULL, and that
-/// many bytes; the trailer is -1 in two bytes.
+/// A tuple is the number of columns in 2 bytes and the frame of each cell: a length of 4 bytes, -1
+/// for NULL, and as many bytes. The trailer is -1 in 2 bytes. The numbers are big-endian.
 pub fn front_of(bytes: &[u8], columns: usize) -> Result<Front<'_>, TupleFault>
     ensures ok { IfOk result (λ front. StandsAt columns bytes.now front) }
     ensures refused { IfErr result (RefusesTupleOf columns bytes.now) }
@@ -71,7 +72,7 @@ pub fn front_of(bytes: &[u8], columns: usize) -> Result<Front<'_>, TupleFault>
     }
 }
 
-/// The number that two bytes are.
+/// Returns the number in two bytes, big-endian.
 fn number_in(bytes: [u8; 2]) -> i16
     ensures { IsBe w16 bytes result }
 {
@@ -79,7 +80,7 @@ fn number_in(bytes: [u8; 2]) -> i16
     i16::from_be_bytes([high, low])
 }
 
-/// Whether the two bytes are that number of columns.
+/// Whether the two bytes are this number of columns, big-endian.
 pub fn is_count(count: [u8; 2], columns: usize) -> bool
     ensures { IsTrue result ↔ IsBe w16 count (pos columns) }
 {
@@ -89,8 +90,8 @@ pub fn is_count(count: [u8; 2], columns: usize) -> bool
     }
 }
 
-/// What stands after so many frames at the front of the bytes; or the place of the first one that is
-/// truncated, or has a negative length that is not that of NULL, and the bytes from there.
+/// Returns the bytes after `count` frames; or the index of the first frame that is truncated or has
+/// a negative length other than -1, and the bytes from there.
 fn after_frames(bytes: &[u8], count: usize) -> Result<&[u8], (usize, &[u8])>
     ensures ok { IfOk result (λ rest. FramesThen bytes.now count rest.now) }
     ensures err { IfErr result (λ at. (at.0 < count) × FramesThen bytes.now at.0 at.1.now × NoFrame at.1.now) }
@@ -105,7 +106,7 @@ fn after_frames(bytes: &[u8], count: usize) -> Result<&[u8], (usize, &[u8])>
     Ok(rest)
 }
 
-/// Refuses a negative length that is not that of NULL, at that place of the row.
+/// Refuses a negative length other than -1, at this index of the row.
 fn check_length(bytes: &[u8], place: usize) -> Result<(), TupleFault>
     requires { place < usize.MAX }
     ensures ok { OnOk result (HasNegativeLength bytes.now → ⊥) }
@@ -122,8 +123,8 @@ fn check_length(bytes: &[u8], place: usize) -> Result<(), TupleFault>
     Ok(())
 }
 
-/// What stands after the frame at the front of the bytes; `None` where the frame is truncated, or has
-/// a negative length that is not that of NULL.
+/// Returns the bytes after the frame at the front; `None` if the frame is truncated, or has a
+/// negative length other than -1.
 fn after_frame(bytes: &[u8]) -> Option<&[u8]>
     ensures some { IfSome result (λ rest. FrameThen bytes.now rest.now) }
     ensures none { IfNone result (NoFrame bytes.now) }

@@ -1,20 +1,20 @@
--- The table of the built-in types, as in the server's catalog pg_type.
+-- The table of the built-in types, as in the system catalog pg_type.
 use Rattle.std.specs.Prelude.{ℕ, List, codes, Option, Some, None}
 use Prim.Native.String.{String as Literal}
 use Rattle.pg_types.specs.declared.types.built_in.BuiltIn.{BuiltIn as Row}
 use Rattle.pg_types.specs.declared.types.built_in.BuiltIn.TheVariants as row
 
--- what the catalog says of a type: its OID, its name without the schema, and of an array the type of its elements
+-- what the catalog has for a type: its OID, its name without the schema and, for an array, its element type
 pub record CatalogRow : Type 0 where
   pub oid : ℕ
   pub name : List ℕ
   pub element : Option Row
 
--- a type that is no array
+-- a type that is not an array
 abbrev pub simple : ℕ → Literal → CatalogRow
 simple oid name = record { oid = oid; name = codes name; element = None }
 
--- an array of such elements
+-- an array with this element type
 abbrev pub array : ℕ → Literal → Row → CatalogRow
 array oid name element = record { oid = oid; name = codes name; element = Some element }
 
@@ -82,6 +82,6 @@ row_oid r = (catalog r).oid
 abbrev pub row_name : Row → List ℕ
 row_name r = (catalog r).name
 
--- the row that an array type holds
+-- the element type of an array type
 abbrev pub row_element : Row → Option Row
 row_element r = (catalog r).element

@@ -12,7 +12,7 @@ use Rattle.pg_types.specs.declared.types.kind.Kind.{Domain', Composite', Row_of-
 use Rattle.pg_types.specs.BuiltInRows.{row_oid, row_name, row_element}
 
 mutual
-  -- what a type is: a built-in one, or one of this name, OID, kind and schema
+  -- what a type is: a built-in one, or one with this name, OID, kind and schema
   pub data Content : Type 0 where
     BuiltInType : Row → Content
     UserDefinedType : List ℕ → ℕ → KindContent → List ℕ → Content
@@ -34,7 +34,7 @@ mutual
     FieldAnd : List ℕ → Content → FieldsContent → FieldsContent
 
 abbrev mutual
-  -- what the inside of a type stands for
+  -- what the representation of a type stands for
   pub inner_content : Inner → Content
   inner_content (BuiltIn row) = BuiltInType row
   inner_content (Other' _ name oid kind schema) =
@@ -66,7 +66,7 @@ fields_content [] = NoFields
 fields_content (f ∷ fs) = FieldAnd (string_bytes f.name) (content f.type_) (fields_content fs)
 
 abbrev mutual
-  -- whether two types are the same: built-in ones by their OID, and user-defined ones by their parts
+  -- whether two types are the same: built-in ones by their OIDs, and user-defined ones by their parts
   pub same_type : Content → Content → Bool
   same_type (BuiltInType a) (BuiltInType b) = row_oid a == row_oid b
   same_type (UserDefinedType name oid kind schema) (UserDefinedType name' oid' kind' schema') =
@@ -92,7 +92,7 @@ abbrev mutual
       (pointwise ◌==◌ name name' && same_type a b) && same_fields rest rest'
   same_fields _ _ = false
 
--- the kind of a row: an array where it holds another row, and else a simple type
+-- the kind of a row: an array if it has an element type, and otherwise a simple type
 abbrev pub row_kind : Row → KindContent
 row_kind row = option_map_or (λ element. ArrayKind (BuiltInType element)) (row_element row) SimpleKind
 
@@ -121,7 +121,7 @@ abbrev pub IsBuiltIn : Content → Type 0
 IsBuiltIn (BuiltInType _) = Unit {0}
 IsBuiltIn (UserDefinedType _ _ _ _) = ⊥
 
--- the text of a type: its name, after its schema and a dot unless that is `public` or `pg_catalog`
+-- the text of a type: its name, after its schema and a dot unless the schema is `public` or `pg_catalog`
 abbrev pub type_text : Content → List ℕ
 type_text t =
     if pointwise ◌==◌ (schema_of t) (codes "public") || pointwise ◌==◌ (schema_of t)
@@ -135,7 +135,7 @@ field_name f = string_bytes f.name
 abbrev pub field_type : Field → PgType
 field_type f = f.type_
 
--- the second field has the name of the first and the same type
+-- the second field has the same name and the same type as the first
 abbrev pub SameField : Field → Field → Type 0
 SameField f g = (field_name g ≡ field_name f) × (content (field_type g) ≡ content (field_type f))
 

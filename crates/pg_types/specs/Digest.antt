@@ -1,4 +1,4 @@
--- The number that the default hasher makes of what it is fed.
+-- The hash that the default hasher computes from what is written to it.
 use Rattle.std.specs.Prelude.{ℕ, List, fold}
 use Rattle.std.specs.Hash.DefaultHasher as sip
 

@@ -1,4 +1,4 @@
--- What the two faults with a type of their own hold, and what they print.
+-- The content of the two faults that have a type of their own, and the texts that they print.
 use Rattle.std.specs.Prelude.{ℕ, List, ◌++◌, codes}
 use Rattle.pg_types.specs.Content.{Content, content, type_text}
 use Rattle.pg_types.specs.declared.fault.WrongType.{WrongType}
@@ -11,11 +11,11 @@ postgres_type w = content w.postgres
 abbrev pub rust_name : WrongType → List ℕ
 rust_name w = w.rust.bytes
 
--- what WasNull prints
+-- the text of WasNull
 abbrev pub was_null_text : List ℕ
 was_null_text = codes "a Postgres value was `NULL`"
 
--- what WrongType prints
+-- the text of WrongType
 abbrev pub wrong_type_text : Content → List ℕ → List ℕ
 wrong_type_text ty rust =
     codes "cannot convert between the Rust type `"

@@ -1,4 +1,4 @@
--- Faults as plain data, and what a call may answer.
+-- Faults as plain data, and the results of calls.
 use Rattle.std.specs.Prelude.{ℕ, List, Option, Some, None, Result, Ok, Err, IfSome, IsSome}
 use Rattle.std.specs.Option.{option_map_or}
 use Rattle.pg_types.specs.Content.{Content}
@@ -59,7 +59,7 @@ number_of (user text) = 21
 number_of field_count = 22
 number_of field_oid = 23
 
--- a fault as plain data; Memory is none, since it says nothing of the cell or the value
+-- a fault as plain data; Memory is None, since it says nothing about the cell or the value
 abbrev pub refusal_of : Fault → Option Refusal
 refusal_of Memory = None
 refusal_of WasNull = Some was_null
@@ -93,12 +93,12 @@ code_of fault = option_map_or number_of (refusal_of fault) 1
 abbrev pub Outcome : Type 0 → Type 0
 Outcome A = Result A Refusal
 
--- what a call answered is an outcome that R allows, unless memory ran out
+-- a result is an outcome that R allows, unless memory ran out
 abbrev pub Answers : {A : Type 0} → (Outcome A → Type 0) → Result A Fault → Type 0
 Answers R (Ok v) = R (Ok v)
 Answers R (Err f) = IfSome (refusal_of f) (λ r. R (Err r))
 
--- a call did not answer Memory
+-- a result is not Memory
 abbrev pub NeverMemory : {A : Type 0} → Result A Fault → Type 0
 NeverMemory (Ok v) = Unit {0}
 NeverMemory (Err f) = IsSome (refusal_of f)

@@ -1,4 +1,4 @@
-//! Why a value is not read or not written.
+//! Why a value could not be read or written.
 ghost use Rattle.std.specs.Prelude.{◌≡◌, ◌≤◌, length};
 ghost use Rattle.pg_types.specs.declared.fault.Fault.TheVariants.{Memory};
 
@@ -8,13 +8,15 @@ use std::alloc::{AllocError, AllocFailed};
 use std::error::Error;
 use std::fmt;
 
-/// The most bytes of a [`Reason`]: a name in a [`WrongType`], a text in a [`Fault::User`].
+/// The greatest length in bytes of a [`Reason`]: a name in a [`WrongType`], or a text in a
+/// [`Fault::User`].
 pub const REASON_LEN: usize = 64;
 
-/// A short text that lies in the fault itself, so that a fault holds no reference.
+/// A short text that is stored in the fault itself, so that a fault borrows nothing and does not
+/// allocate.
 pub type Reason = ArrayString<REASON_LEN>;
 
-/// A NULL was read by a type that has no value for it.
+/// NULL was read as a type that has no value for it.
 #[derive(Debug, Clone, Copy)]
 pub struct WasNull;
 
@@ -31,7 +33,7 @@ impl fmt::Display for WasNull {
 
 impl Error for WasNull {}
 
-/// A Rust type that does not accept a Postgres type.
+/// The error that a Rust type does not accept a Postgres type.
 #[derive(Debug, Drop)]
 pub struct WrongType {
     postgres: PgType,
@@ -42,8 +44,8 @@ impl WrongType {
     ghost use Rattle.pg_types.specs.FaultTexts.{postgres_type, rust_name};
     ghost use Rattle.pg_types.specs.Content.{content};
 
-    /// The refusal of the Postgres type `ty` by the Rust type of that name, which is at most
-    /// [`REASON_LEN`] bytes long.
+    /// Creates the error that the Rust type named `rust` does not accept the Postgres type `ty`.
+    /// The name has at most [`REASON_LEN`] bytes.
     pub fn new(ty: PgType, rust: &'static str) -> WrongType
         requires { length rust.now ≤ REASON_LEN }
         ensures postgres { postgres_type result ≡ content ty }
@@ -56,7 +58,7 @@ impl WrongType {
     }
 }
 
-/// The text, in place.
+/// Copies the text into a `Reason`.
 fn reason(text: &'static str) -> Reason
     requires { length text.now ≤ REASON_LEN }
     ensures { result.bytes ≡ text.now }
@@ -84,19 +86,19 @@ impl fmt::Display for WrongType {
 
 impl Error for WrongType {}
 
-/// Why a value is not read or not written. Each has a number, [`code`](Fault::code).
+/// Why a value could not be read or written. Each has a number, [`code`](Fault::code).
 #[derive(Debug, Drop, thiserror::Error)]
 pub enum Fault {
-    /// Memory was refused. It may come at any point of a call that takes memory.
+    /// An allocation failed. Every call that allocates may return it, at any point.
     #[error("out of memory")]
     Memory,
-    /// A NULL was read by a type that has no value for it.
+    /// NULL was read as a type that has no value for it.
     #[error("a Postgres value was `NULL`")]
     WasNull,
     /// The Rust type does not accept the Postgres type.
     #[error(transparent)]
     WrongType(WrongType),
-    /// The cell, or a part of it, has another length than its format.
+    /// The cell, or a part of it, has another length than its format prescribes.
     #[error("invalid buffer size")]
     Size,
     /// A text is not UTF-8.
@@ -105,7 +107,7 @@ pub enum Fault {
     /// A count is negative.
     #[error("invalid count")]
     Count,
-    /// The length of an hstore's key is negative.
+    /// The key of an hstore has a negative length.
     #[error("invalid key length")]
     KeyLength,
     /// An array has more than one dimension.
@@ -120,40 +122,41 @@ pub enum Fault {
     /// The cell's date, time or timestamp lies outside the Rust type's range.
     #[error("value too large to decode")]
     Decode,
-    /// The value is too large for its cell.
+    /// The value, or the number of its bytes or elements, is too large for its cell.
     #[error("value too large to transmit")]
     Transmit,
-    /// A JSONB cell is of another version than 1.
+    /// A JSONB cell has another version than 1.
     #[error("unsupported JSONB encoding version")]
     JsonVersion,
-    /// An ltree, lquery or ltxtquery cell is of another version than 1.
+    /// An ltree, lquery or ltxtquery cell has another version than 1.
     #[error("unsupported text version")]
     TextVersion,
-    /// A JSON cell is no document.
+    /// The text of a JSON or JSONB cell is not a JSON document.
     #[error("invalid JSON")]
     JsonText,
-    /// A JSON document holds a number that is neither an `i64` nor a `u64`.
+    /// A JSON document contains a number that is neither an `i64` nor a `u64`.
     #[error("JSON number is not a whole number")]
     JsonNumber,
-    /// An address is neither IPv4 nor IPv6.
+    /// The address family is neither IPv4 nor IPv6.
     #[error("invalid IP family")]
     Family,
     /// A netmask is longer than its address.
     #[error("invalid netmask")]
     Netmask,
-    /// An address has another length than its family.
+    /// An address has another length than its family prescribes.
     #[error("invalid address length")]
     AddressLength,
-    /// A network has bits set after its netmask.
+    /// A network address has bits set to the right of its netmask.
     #[error("host bits are set")]
     HostBits,
-    /// The refusal of a user's own conversion, by its text; see [`user`](Fault::user).
+    /// A user's own conversion refused the cell or the value, with this text; see
+    /// [`user`](Fault::user).
     #[error("{0}")]
     User(Reason),
-    /// A record has another number of fields than its type.
+    /// A record has another number of fields than its composite type.
     #[error("invalid field count")]
     FieldCount,
-    /// A record's field has another type than its type says.
+    /// A field of a record has another type OID than its composite type prescribes.
     #[error("unexpected field type")]
     FieldOid,
 }
@@ -162,7 +165,8 @@ impl Fault {
     ghost use Rattle.std.specs.Prelude.{Some};
     ghost use Rattle.pg_types.specs.Faults.{code_of, refusal_of, user};
 
-    /// The number of the fault, from 1 for `Memory` to 23 for `FieldOid`.
+    /// Returns the number of the fault: from 1 for `Memory` to 23 for `FieldOid`, in the order of
+    /// the variants.
     pub fn code(&self) -> u32
         ensures { result ≡ code_of self.now }
     {
@@ -193,7 +197,8 @@ impl Fault {
         }
     }
 
-    /// The refusal of a user's own conversion, by a text of at most [`REASON_LEN`] bytes.
+    /// Creates the fault with which a user's own conversion refuses a cell or a value. The text has
+    /// at most [`REASON_LEN`] bytes.
     pub fn user(text: &'static str) -> Fault
         requires { length text.now ≤ REASON_LEN }
         ensures { refusal_of result ≡ Some (user text.now) }

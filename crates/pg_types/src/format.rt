@@ -1,4 +1,4 @@
-//! What a write says of its cell, and the format that a value travels in.
+//! The result of a write, and the format in which a value is sent.
 
 pub mod laws;
 
@@ -7,11 +7,11 @@ pub mod laws;
 pub enum IsNull {
     /// The value is NULL, and nothing was appended.
     Yes,
-    /// The value is not NULL, and its bytes were appended, of which there may be none.
+    /// The value is not NULL, and its bytes, possibly none, were appended.
     No,
 }
 
-/// The format of a parameter, as the protocol's format codes name it.
+/// The format of a parameter, numbered as the format codes of the frontend/backend protocol.
 #[derive(Debug, Clone, Copy, PartialEq, Eq)]
 pub enum Format {
     /// Text format, code 0.

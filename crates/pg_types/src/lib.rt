@@ -1,4 +1,4 @@
-//! Postgres types, the faults of conversions, and the formats of values on the wire.
+//! Postgres types, the faults of conversions, and the formats of values.
 #![tactic(auto)]
 
 pub mod fault;

@@ -1,4 +1,4 @@
-//! Postgres types: the built-in ones and those that a client makes.
+//! Postgres types: the built-in ones, and those that users define.
 ghost use Rattle.std.specs.Prelude.{◌≡◌, Some, IsOk, IfOk, IfErr, string_bytes};
 ghost use Rattle.pg_types.specs.declared.fault.Fault.TheVariants.{Memory};
 ghost use Rattle.pg_types.specs.Content.{UserDefinedType, IsBuiltIn, content, kind_content};
@@ -19,13 +19,14 @@ pub mod laws;
 
 pub use kind::{Field, Kind, KindRef};
 
-/// The number by which a Postgres server names a type.
+/// The object identifier by which a Postgres server names a type.
 pub type Oid = u32;
 
 /// A Postgres type.
 ///
-/// Two built-in types are equal where they are the same one. Two user-defined types are equal where
-/// their name, OID, kind and schema are. A user-defined type never equals a built-in one.
+/// Two built-in types are equal if they are the same type. Two user-defined types are equal if
+/// their name, OID, kind and schema are equal. A user-defined type never equals a built-in one,
+/// even one with the same parts.
 #[cycle(types)]
 #[derive(PartialEq, Eq, Hash, Drop)]
 pub struct PgType {
@@ -49,7 +50,8 @@ struct Other {
 }
 
 impl PgType {
-    /// A user-defined type of these four parts, which is refused with [`Fault::Memory`] only.
+    /// Creates a user-defined type from its name, OID, kind and schema. The only error is
+    /// [`Fault::Memory`].
     pub fn new(
         alloc: Global,
         name: String,
@@ -75,7 +77,7 @@ impl PgType {
         })
     }
 
-    /// The OID of this type.
+    /// Returns the OID of this type.
     pub fn oid(&self) -> Oid
         ensures { result ≡ oid_of (content self.now) }
     {
@@ -85,7 +87,7 @@ impl PgType {
         }
     }
 
-    /// The name of this type, without its schema.
+    /// Returns the name of this type, without its schema.
     #[inline(always)]
     pub fn name(&self) -> &str
         ensures { result.now ≡ name_of (content self.now) }
@@ -96,7 +98,7 @@ impl PgType {
         }
     }
 
-    /// The schema of this type, which is `pg_catalog` for every built-in one.
+    /// Returns the schema of this type, which is `pg_catalog` for every built-in type.
     pub fn schema(&self) -> &str
         ensures { result.now ≡ schema_of (content self.now) }
     {
@@ -106,8 +108,8 @@ impl PgType {
         }
     }
 
-    /// The kind of this type. The element type of a built-in array is owned; whatever a
-    /// user-defined type holds is borrowed from it.
+    /// Returns the kind of this type. The element type of a built-in array is owned; everything
+    /// that a user-defined type contains is borrowed from it.
     #[inline(always)]
     #[tactic(auto, using(crate::proofs::Fields::composite_content))]
     pub fn kind(&self) -> KindRef<'_>
@@ -124,23 +126,23 @@ impl PgType {
         }
     }
 
-    /// Whether this is that type, as `==` answers. The contract is in the words of an acceptance, so
-    /// a test of acceptance over it is proved without a lemma.
+    /// Whether this type equals `other`, as `==` does. Its contract is the one that a test of
+    /// accepted types needs, so such a test is proved without a lemma.
     #[inline]
     #[tactic(auto, using(crate::proofs::DerivedTypes::eq_content, crate::proofs::Contents::eq_rows))]
     pub fn is(&self, other: &PgType) -> bool
         ensures { result ≡ same_type (content self.now) (content other.now) }
     {
         match (&self.inner, &other.inner) {
-            // Most types are built in, and then no call is made.
+            // Most types are built in, and for them nothing is called.
             (Inner::BuiltIn(row), Inner::BuiltIn(other)) => *row == *other,
             (Inner::Other(_), Inner::Other(_)) => *self == *other,
             _ => false,
         }
     }
 
-    /// An equal type. A built-in one is never refused, and a user-defined one with
-    /// [`Fault::Memory`] only.
+    /// Returns an equal type. This never fails for a built-in type; for a user-defined type the
+    /// only error is [`Fault::Memory`].
     pub fn try_clone(&self) -> Result<PgType, Fault>
         ensures same { IfOk result (λ t. content t ≡ content self.now) }
         ensures refused { IfErr result (λ e. e ≡ Memory) }
@@ -164,8 +166,8 @@ impl Clone for PgType {
     }
 }
 
-/// Writes the variant that upstream's `Type` is: `Int4` for `int4`, and `Other(Other { .. })`, with
-/// the four parts, for a user-defined type.
+/// Writes a built-in type as its variant, `Int4` for `int4`, and a user-defined type as
+/// `Other(Other { .. })` with its four parts, as `postgres-types` does.
 impl fmt::Debug for PgType {
     #[cycle(debug)]
     fn fmt<W: fmt::Write>(&self, f: &mut fmt::Formatter<W>) -> fmt::Result {

@@ -1,21 +1,11 @@
 -- The cells of elements, one after another.
-use Rattle.std.proofs.Common.{◌≡◌, ◌<◌, ◌≤◌, ◌+◌, ◌++◌, ℕ, ℤ, List, [], ◌∷◌, length, take, drop, get_or}
-use Rattle.std.proofs.Common.{Option, Some, None, IfSome, Ok, Err, true, cond, refl, sym, ap, ap₂, subst, ◌∙◌}
-use Rattle.std.proofs.Common.{append_assoc, arith}
-use Rattle.std.specs.Bool.{⊤}
-use Rattle.std.proofs.lemmas.Bool.Decides.{nat_tests}
+use Rattle.std.proofs.Common.{◌≡◌, ◌<◌, ◌+◌, ◌++◌, ℕ, List, [], ◌∷◌, length, take, drop, get_or}
+use Rattle.std.proofs.Common.{Option, Some, None, IfSome, Ok, Err, refl, sym, ap, ◌∙◌, append_assoc}
 use Rattle.std.proofs.lemmas.List.{take_more, take-append-drop}
-use Rattle.bytes.specs.Filled.{Filled}
-use Rattle.pg_base.specs.Appending.{Appends, Wire, wire_of}
-use Rattle.pg_base.specs.Arrays.{array_bytes, cells_of}
-use Rattle.pg_base.specs.Cells.{Cell, fits_prefix, max_length}
-use Rattle.pg_types.specs.Content.{Content, oid_of}
-use Rattle.pg_types.specs.Faults.{Outcome, Refusal, refusal_of, transmit}
-use Rattle.pg_types.specs.declared.fault.Fault.{Fault}
-use Rattle.pg_types.specs.declared.fault.Fault.TheVariants.{Transmit}
-use Rattle.pg_base.specs.ArrayTypes.{element_of}
-use Rattle.pg_write.specs.ArrayWriting.{element_cells, element_frame_cell, cons_cell, lower_bound_of, wire_array}
-use Rattle.pg_write.specs.ArrayWriting.{wire_list, wire_by_element}
+use Rattle.pg_base.specs.Appending.{Wire}
+use Rattle.pg_base.specs.Cells.{Cell}
+use Rattle.pg_types.specs.Faults.{Outcome, Refusal}
+use Rattle.pg_write.specs.ArrayWriting.{element_cells, element_frame_cell, cons_cell}
 
 -- what is known where a cell stands before others
 pub record IsInFront (w : Wire) (r : Outcome (List Cell)) (cs : List Cell) : Type 0 where
@@ -80,45 +70,3 @@ module _ {A : Type 0} (wire : A → Wire) where
         → IfSome refusal (λ r. element_cells wire vs ≡ Err r)
     next_refusal cs None so_far next = tt
     next_refusal cs (Some r) so_far next = next_fault cs r so_far next
-
-module _ {A : Type 0} (wire : Content → A → Wire) (ty element : Content) (vs : List A)
-    (element_is : element_of ty ≡ Some element) (few : length vs ≤ max_length) where
-  list_cells : wire_list wire ty vs ≡ wire_array (lower_bound_of ty) (oid_of element) (element_cells (wire element) vs)
-  list_cells =
-      let fits : fits_prefix (length vs) ≡ true = grind (arith, nat_tests) in
-      ap (λ m. wire_by_element wire ty m vs) element_is
-      ∙ ap (λ t. cond t (wire_array (lower_bound_of ty) (oid_of element) (element_cells (wire element) vs))
-      (Err transmit)) fits
-
-  -- what a list is written as, where its elements have cells
-  pub list_written : (cs : List Cell) → element_cells (wire element) vs ≡ Ok cs
-      → wire_list wire ty vs ≡ wire_of (array_bytes (lower_bound_of ty) (oid_of element) cs)
-  list_written cs cells = list_cells ∙ ap (wire_array (lower_bound_of ty) (oid_of element)) cells
-
-  -- and where they are refused, unless memory ran out
-  pub list_refused : (o : Option Refusal) → IfSome o (λ r. element_cells (wire element) vs ≡ Err r)
-      → IfSome o (λ r. wire_list wire ty vs ≡ Err r)
-  list_refused None cells = tt
-  list_refused (Some r) cells = list_cells ∙ ap (wire_array (lower_bound_of ty) (oid_of element)) cells
-
--- an appender that did not refuse had bytes to append
-pub had_bytes : {u : ⊤} (w : Option (List ℕ)) (old new : Filled) → Appends w old new (Ok u) → (b : List ℕ)
-    × (w ≡ Some b) × (new.items ≡ old.items ++ b)
-had_bytes None old new a = absurd a
-had_bytes (Some b) old new a = (b, refl, a.0)
-
--- one that refused had none, or no memory
-pub had_none : (w : Option (List ℕ)) (old new : Filled) (f : Fault) → Appends w old new (Err f)
-    → (new.items ≡ old.items) × IfSome (refusal_of f) (λ r. wire_of w ≡ Err r)
-had_none None old new f a =
-    let refused : IfSome (refusal_of Transmit) (λ r. wire_of None ≡ Err r) = refl in
-    (ap (λ (x : Filled). x.items) a.0, subst (λ g. IfSome (refusal_of g) (λ r. wire_of None ≡ Err r)) (sym a.1) refused)
-had_none (Some b) old new f a =
-    (a.0, subst (λ g. IfSome (refusal_of g) (λ r. wire_of (Some b) ≡ Err r)) (sym a.1) tt)
-
--- an array of the same parts
-pub same_array : (a z : ℤ) (m n : ℕ) (s t : List ℕ) (ks ls : List (Option ℕ)) → a ≡ z → m ≡ n → s ≡ t → ks ≡ ls
-    → array_bytes a m (cells_of s ks) ≡ array_bytes z n (cells_of t ls)
-same_array a z m n s t ks ls e f g h =
-    ap (λ x. array_bytes x m (cells_of s ks)) e ∙ ap (λ x. array_bytes z x (cells_of s ks)) f
-    ∙ ap₂ (λ x y. array_bytes z n (cells_of x y)) g h

@@ -1,7 +1,7 @@
 -- The lemmas of this crate's proofs.
-pub mod CellNotes
 pub mod ElementCells
 pub mod Insertion
+mod ElementFrames
 mod KeyOrder
 mod ParamFrames
 mod ParamLists

@@ -1,6 +1,6 @@
 -- The frame of a parameter, after what the buffer held.
 use Rattle.std.proofs.Common.{◌≡◌, ◌<◌, ◌≤◌, ◌+◌, ◌++◌, ℕ, pos, List, length, take, drop, Option, Some, None, IfNone, Bool, true}
-use Rattle.std.proofs.Common.{false, cond, Result, Ok, Err, IfSome, refl, ap, sym, ◌∙◌, subst, arith}
+use Rattle.std.proofs.Common.{false, is_none, cond, Result, Ok, Err, IfSome, refl, ap, sym, ◌∙◌, subst, arith}
 use Rattle.std.proofs.Common.{append_assoc, length-append}
 use Rattle.std.specs.Bool.{⊤}
 use Rattle.std.specs.Int.{to_be_bytes, w32}
@@ -14,7 +14,7 @@ use Rattle.pg_types.specs.Faults.{Refusal, refusal_of, transmit}
 use Rattle.pg_types.specs.declared.fault.Fault.{Fault}
 use Rattle.pg_types.specs.declared.format.IsNull.TheVariants.{No}
 use Rattle.pg_write.specs.ArrayWriting.{element_frame_cell, with_frame}
-use Rattle.pg_write.specs.ParamWriting.{AppendsFrameOrPart, FramesFrom}
+use Rattle.pg_write.specs.ParamWriting.{AppendsFrameOrPart, FrameFollows, FramesFrom}
 use Rattle.pg_write.specs.Writing.{Writes}
 
 cond_fails : (t : Bool) (b : List ℕ) → t ≡ false → cond t (Some b) None ≡ None
@@ -50,23 +50,32 @@ module _ (old head b written : List ℕ) (four : length head ≡ number_width) (
       let n : length (old ++ head) ≡ length old + number_width = omega (arith, four, length-append old head) in
       ap (drop (length old + number_width)) is ∙ drop_at (old ++ head) b (length old + number_width) n
 
--- a cell that was written after four bytes, which became its length
+-- a cell that was written after four bytes, which became its length, is not NULL
+pub some_after_cell : {u : ⊤} (w : Wire) (old head mid written new : List ℕ) (n : ℕ) → n ≡ length old
+    → length head ≡ number_width → mid ≡ old ++ head → Writes w mid written (Ok No) → FramesFrom n written new (Ok u)
+    → (f : FrameFollows w old new) × (is_none f.cell ≡ false)
+some_after_cell w old head mid written new n at four m cell gives =
+    let is : written ≡ (old ++ head) ++ cell.0 = cell.2 ∙ ap (λ s. s ++ cell.0) m in
+    let whole : frame (Some cell.0) ≡ Some gives.0 =
+    ap (λ s. frame (Some s)) (sym (cell_is old head cell.0 written four is))
+    ∙ ap (λ k. frame (Some (drop (k + number_width) written))) (sym at) ∙ gives.1 in (
+      record {
+        cell = Some cell.0;
+        bytes = gives.0;
+        cell_is = cell.1;
+        frame_is = whole;
+        is = gives.2 ∙ ap (λ k. take k written ++ gives.0) at
+            ∙ ap (λ s. s ++ gives.0) (front old head cell.0 written four is);
+      },
+      refl,
+    )
+
+-- it has its frame, or is too long for one
 pub frame_after_cell : (w : Wire) (old head mid written new : List ℕ) (n : ℕ) (r : Result ⊤ Fault) → n ≡ length old
     → length head ≡ number_width → mid ≡ old ++ head → Writes w mid written (Ok No)
     → FramesFrom n written new r → AppendsFrameOrPart w old new r
 frame_after_cell w old head mid written new n (Ok done) at four m cell gives =
-    let is : written ≡ (old ++ head) ++ cell.0 = cell.2 ∙ ap (λ s. s ++ cell.0) m in
-    let whole : frame (Some cell.0) ≡ Some gives.0 =
-    ap (λ s. frame (Some s)) (sym (cell_is old head cell.0 written four is))
-    ∙ ap (λ k. frame (Some (drop (k + number_width) written))) (sym at) ∙ gives.1 in
-    record {
-      cell = Some cell.0;
-      bytes = gives.0;
-      cell_is = cell.1;
-      frame_is = whole;
-      is = gives.2 ∙ ap (λ k. take k written ++ gives.0) at
-          ∙ ap (λ s. s ++ gives.0) (front old head cell.0 written four is);
-    }
+    (some_after_cell w old head mid written new n at four m cell gives).0
 frame_after_cell w old head mid written new n (Err f) at four m cell gives =
     let is : written ≡ (old ++ head) ++ cell.0 = cell.2 ∙ ap (λ s. s ++ cell.0) m in
     let none : frame (Some cell.0) ≡ None = ap (λ s. frame (Some s)) (sym (cell_is old head cell.0 written four is))

@@ -17,13 +17,30 @@ use Rattle.pg_base.proofs.Concat.{concat-nil}
 use Rattle.pg_write.proofs.ElementCells.{next_cell}
 use Rattle.pg_write.specs.ArrayWriting.{element_cells, element_frame_cell, with_frame}
 use Rattle.pg_write.proofs.ParamRoom.{each_at, frames_before, frames_take, if_none_then, same_frames_len}
-use Rattle.pg_write.specs.ParamWriting.{AppendsFrameOrPart, Binds, frame_len, frames_len}
+use Rattle.pg_write.specs.ParamWriting.{AppendsFrameOrPart, Binds, FrameFollows, FramesFollow, frame_len, frames_len}
 
 -- one frame more
 next_frame : (cs : List Cell) (c : Cell) (bs b : List ℕ) → frames cs ≡ Some bs → frame c ≡ Some b
     → frames (cs ++ c ∷ []) ≡ Some (bs ++ b)
 next_frame cs c bs b so_far next = frames-append cs (c ∷ []) ∙ ap (concat (frames cs)) (concat-nil (frame c))
     ∙ rw (so_far, next) refl
+
+module _ {A : Type 0} (f : A → Wire) (vs : List A) (i : ℕ) (v : A) (h : i < length vs) (is : v ≡ get_or vs i v) where
+  -- the frame of one more value was appended
+  pub one_more : (old mid new : List ℕ) (so_far : FramesFollow f (take i vs) old mid) (next : FrameFollows (f v) mid new)
+      → (all : FramesFollow f (take (i + 1) vs) old new) × (all.cells ≡ so_far.cells ++ next.cell ∷ [])
+  one_more old mid new so_far next =
+      let has : element_frame_cell (f v) ≡ Ok next.cell = ap element_frame_cell next.cell_is
+      ∙ ap (with_frame next.cell) next.frame_is in (
+        record {
+          cells = so_far.cells ++ next.cell ∷ [];
+          bytes = so_far.bytes ++ next.bytes;
+          cells_are = next_cell f vs i v h is so_far.cells next.cell so_far.cells_are has;
+          frames_are = next_frame so_far.cells next.cell so_far.bytes next.bytes so_far.frames_are next.frame_is;
+          is = next.is ∙ ap (λ s. s ++ next.bytes) so_far.is ∙ append_assoc old so_far.bytes next.bytes;
+        },
+        refl,
+      )
 
 is_ok : {A : Type 0} (r : Outcome A) (a : A) → r ≡ Ok a → IsOk r
 is_ok (Ok x) a e = refl
@@ -49,15 +66,7 @@ module _ {A B : Type 0} (f : A × B → Wire) (xs : List A) (ys : List B) (same 
     pub next_param : {u : ⊤} (old mid new : List ℕ) → Binds f (take i (zip xs ys)) old mid (Ok u)
         → AppendsFrameOrPart (f here) mid new (Ok u) → Binds f (take (i + 1) (zip xs ys)) old new (Ok u)
     next_param old mid new so_far next =
-        let has : element_frame_cell (f here) ≡ Ok next.cell = ap element_frame_cell next.cell_is
-        ∙ ap (with_frame next.cell) next.frame_is in
-        record {
-          cells = so_far.cells ++ next.cell ∷ [];
-          bytes = so_far.bytes ++ next.bytes;
-          cells_are = next_cell f (zip xs ys) i here within stands so_far.cells next.cell so_far.cells_are has;
-          frames_are = next_frame so_far.cells next.cell so_far.bytes next.bytes so_far.frames_are next.frame_is;
-          is = next.is ∙ ap (λ s. s ++ next.bytes) so_far.is ∙ append_assoc old so_far.bytes next.bytes;
-        }
+        (one_more f (zip xs ys) i here within stands old mid new so_far next).0
 
     -- there was no room for the frame of the parameter here, so that there was none for all
     pub no_room : {u : ⊤} (g : A × B → Wire) (P : A × B → Type 0) → ((v : A × B) → P v → f v ≡ g v)

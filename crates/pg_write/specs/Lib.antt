@@ -1,4 +1,4 @@
--- The words of writing.
+-- Definitions of writing.
 pub mod ArrayWriting
 pub mod OptionWriting
 pub mod ParamWriting

@@ -1,30 +1,32 @@
 //! Writing lists.
-ghost use Rattle.std.specs.Prelude.{◌≡◌, ◌≤◌, [], IsTrue, length, true, codes};
+ghost use Rattle.std.specs.Prelude.{◌≡◌, ◌≤◌, IsTrue, length, true, codes};
 ghost use Rattle.std.specs.Box.{boxed_slice_items};
-ghost use Rattle.std.specs.Vec.{vec_capacity};
-ghost use Rattle.pg_types.specs.Content.{content};
+ghost use Rattle.pg_types.specs.Content.{content, oid_of};
 ghost use Rattle.pg_base.specs.ArrayTypes.{accepted_list};
-ghost use Rattle.pg_write.specs.ArrayWriting.{NotesCells, element_cells, frame_len};
-ghost use Rattle.pg_write.specs.ArrayWriting.{lower_bound_of, wire_fixed, wire_list};
+ghost use Rattle.pg_base.specs.Cells.{max_length};
+ghost use Rattle.pg_write.specs.ArrayWriting.{AppendsArrayOrPart, element_cells};
+ghost use Rattle.pg_write.specs.ArrayWriting.{lower_bound_of, wire_array, wire_fixed, wire_list};
+ghost use Rattle.pg_write.specs.ParamWriting.{AppendsElement, AppendsFrames};
 ghost use Rattle.pg_base.specs.Appending.{KeepsCapacity};
 ghost use Rattle.pg_write.specs.Writing.{Writes};
 
+use crate::laws::refuses_without_memory;
+use crate::params::frame_from;
 use crate::to_sql::{ToSql, check_type};
-use bytes::BytesMut;
+use bytes::{BufMut, BytesMut};
 use pg_base::acceptance::element_type;
 use pg_base::fault::Fault;
 use pg_base::format::{Format, IsNull};
-use pg_base::protocol::{MAX_LEN, array_to_sql};
+use pg_base::protocol::{MAX_LEN, array_to_sql, set_number};
 use pg_base::types::PgType;
 use std::alloc::Global;
 use std::boxed::BoxedSlice;
-use std::mem;
 
-/// An array of a type that `T` writes (`array_send`): one dimension, the element type's OID, the
-/// elements in their order, and the lower bound 1, or 0 for OID_VECTOR and INT2_VECTOR. More than
-/// 2,147,483,647 elements are `Transmit`; otherwise the first element that `T` refuses gives its
-/// fault, and the first whose cell passes 2,147,483,647 bytes `Transmit`, whichever stands first.
-/// The elements are written in a scratch buffer first, a list within a list in that of the outer one.
+/// Writes an array whose element type `T` accepts (`array_send`): one dimension, the OID of the
+/// element type, the elements in order, and the lower bound 1, or 0 for OID_VECTOR and INT2_VECTOR.
+/// More than 2,147,483,647 elements are refused with `Transmit`. Otherwise the first element that
+/// `T` refuses, or whose cell exceeds 2,147,483,647 bytes, decides: with `T`'s fault, or with
+/// `Transmit`.
 impl<T: ToSql> ToSql for Vec<T> {
     ghost accepted = { accepted_list T.accepted };
 
@@ -57,7 +59,7 @@ impl<T: ToSql> ToSql for Vec<T> {
     }
 }
 
-/// As a `Vec` of these elements is written.
+/// Writes the elements as a `Vec` of them is written.
 impl<'b, T: ToSql> ToSql for &'b [T] {
     ghost accepted = { accepted_list T.accepted };
 
@@ -92,7 +94,7 @@ impl<'b, T: ToSql> ToSql for &'b [T] {
     }
 }
 
-/// As a `Vec` of these elements is written.
+/// Writes the elements as a `Vec` of them is written.
 impl<T: ToSql, const N: usize> ToSql for [T; N] {
     ghost accepted = { accepted_list T.accepted };
 
@@ -125,7 +127,7 @@ impl<T: ToSql, const N: usize> ToSql for [T; N] {
     }
 }
 
-/// As a `Vec` of these elements is written.
+/// Writes the elements as a `Vec` of them is written.
 impl<T: ToSql> ToSql for BoxedSlice<T> {
     ghost accepted = { accepted_list T.accepted };
 
@@ -168,6 +170,12 @@ fn accepts_list<T: ToSql>(ty: &PgType) -> bool
     }
 }
 
+/// Where in an array's head the flags stand.
+const FLAGS_AT: usize = 4;
+
+/// Where in an array's head the number of elements stands.
+const COUNT_AT: usize = 12;
+
 /// Appends the array of the values.
 fn list_to_sql<T: ToSql>(
     alloc: Global,
@@ -185,67 +193,93 @@ fn list_to_sql<T: ToSql>(
     if values.len() > MAX_LEN {
         return Err(Fault::Transmit);
     }
-    // The cells of most elements are no longer than the values.
-    let mut scratch = BytesMut::with_capacity(alloc, mem::size_of_val(values))?;
-    let mut lens = Vec::with_capacity(alloc, values.len())?;
-    elements_to_sql(alloc, &element, values, &mut scratch, &mut lens)?;
-    let first = lower_bound(ty);
-    array_to_sql(
-        alloc,
-        first,
-        element.oid(),
-        scratch.as_slice(),
-        lens.as_slice(),
-        out,
-    )?;
-    Ok(IsNull::No)
+    let start = out.len();
+    match head_and_elements_to_sql(alloc, lower_bound(ty), &element, values, out) {
+        Ok(()) => Ok(IsNull::No),
+        Err(fault) => {
+            out.truncate(start);
+            Err(fault)
+        }
+    }
 }
 
-/// Appends the cells of the values to `scratch`, and notes their lengths in `lens`, of which `None`
-/// is NULL. There is room for the lengths. A refusal leaves what was appended and noted so far.
+/// Appends the array of the values, of which there are at most 2,147,483,647. A refusal leaves what
+/// was appended so far.
+fn head_and_elements_to_sql<T: ToSql>(
+    alloc: Global,
+    lower_bound: i32,
+    element: &PgType,
+    values: &[T],
+    out: &mut BytesMut,
+) -> Result<(), Fault>
+    requires accepted { IsTrue (T.accepted (content element.now)) }
+    requires few { length values.now ≤ max_length }
+    ensures array { AppendsArrayOrPart (wire_array lower_bound (oid_of (content element.now))
+        (element_cells (T.wire (content element.now)) values.now)) out.old.items out.new.items result }
+    ensures capacity { KeepsCapacity out.old out.new }
+{
+    let start = out.len();
+    // The head of an array without elements, of which the count and the flags are put right.
+    array_to_sql(alloc, lower_bound, element.oid(), &[], &[], out)?;
+    set_number(start + COUNT_AT, values.len() as u32, out);
+    let has_null = elements_to_sql(alloc, element, values, out)?;
+    set_number(start + FLAGS_AT, u32::from(has_null), out);
+    Ok(())
+}
+
+/// Appends the frames of the values' cells, and says whether one of them is NULL. A refusal leaves
+/// what was appended so far.
 fn elements_to_sql<T: ToSql>(
     alloc: Global,
     element: &PgType,
     values: &[T],
-    scratch: &mut BytesMut,
-    lens: &mut Vec<Option<usize>>,
-) -> Result<(), Fault>
-    requires accepted { IsTrue (T.accepted (content element.now)) }
-    requires empty { (scratch.now.items ≡ []) × (lens.now.items ≡ []) }
-    requires room { length values.now ≤ vec_capacity lens.now }
-    ensures { NotesCells (element_cells (T.wire (content element.now)) values.now)
-        scratch.new.items lens.new.items result }
+    out: &mut BytesMut,
+) -> Result<bool, Fault>
+    requires { IsTrue (T.accepted (content element.now)) }
+    ensures frames { AppendsFrames (T.wire (content element.now)) values.now out.old.items out.new.items result }
+    ensures capacity { KeepsCapacity out.old out.new }
 {
-    let mut start = scratch.len();
+    let mut has_null = false;
     for value in values {
-        // A match moves the fault of a refusal alone, where `?` would move each answer.
-        let is_null = match value.to_sql(alloc, element, scratch) {
-            Ok(is_null) => is_null,
+        // A match moves only the fault, while `?` would move every result.
+        match element_to_sql(alloc, element, value, out) {
+            Ok(is_null) => has_null |= is_null,
             Err(fault) => return Err(fault),
-        };
-        let end = scratch.len();
-        let Some(len) = frame_len(is_null, end - start) else {
-            return Err(Fault::Transmit);
-        };
-        lens.push_reserved(len);
-        start = end;
+        }
     }
-    Ok(())
+    Ok(has_null)
 }
 
-/// What is noted of a cell of that length, of which NULL has none. A cell that is to have a frame and passes
-/// 2,147,483,647 bytes has none.
-fn frame_len(is_null: IsNull, len: usize) -> Option<Option<usize>>
-    ensures { result ≡ frame_len is_null len }
+/// Appends the frame of the value's cell, and says whether it is NULL. A refusal leaves what was
+/// appended so far.
+#[inline(always)]
+fn element_to_sql<T: ToSql>(
+    alloc: Global,
+    element: &PgType,
+    value: &T,
+    out: &mut BytesMut,
+) -> Result<bool, Fault>
+    requires { IsTrue (T.accepted (content element.now)) }
+    ensures frame { AppendsElement (T.wire (content element.now) value.now) out.old.items out.new.items result }
+    ensures capacity { KeepsCapacity out.old out.new }
 {
-    match is_null {
-        IsNull::Yes => Some(None),
-        IsNull::No if len > MAX_LEN => None,
-        IsNull::No => Some(Some(len)),
+    let start = out.len();
+    // The frame of NULL, whose length is put right once a cell stands after it.
+    out.put_i32(-1)?;
+    let is_null = match value.to_sql(alloc, element, out) {
+        Ok(is_null) => is_null,
+        Err(fault) => return Err(fault),
+    };
+    if let IsNull::Yes = is_null {
+        return Ok(true);
+    }
+    match frame_from(start, out) {
+        Ok(()) => Ok(false),
+        Err(fault) => Err(fault),
     }
 }
 
-/// The number of the first element of an array of that type.
+/// Returns the lower bound of an array of this type.
 fn lower_bound(ty: &PgType) -> i32
     ensures { result ≡ lower_bound_of (content ty.now) }
 {
@@ -254,4 +288,13 @@ fn lower_bound(ty: &PgType) -> i32
     } else {
         1
     }
+}
+
+/// Lists are refused without memory, although their writing takes some.
+pub(crate) fn refused_without_memory() {
+    refuses_without_memory::<Vec<i32>>();
+    refuses_without_memory::<&[i32]>();
+    refuses_without_memory::<[i32; 2]>();
+    refuses_without_memory::<BoxedSlice<i32>>();
+    refuses_without_memory::<Vec<Vec<Option<i16>>>>();
 }

@@ -1,7 +1,8 @@
-//! Writing lists of bits.
+//! Writing bit strings.
 ghost use Rattle.std.specs.Prelude.{true, codes};
 ghost use Rattle.pg_base.specs.Bits.{accepted_bits, wire_bits};
 
+use crate::laws::keeps_room_rule;
 use crate::to_sql::{ToSql, check_type};
 use bytes::BytesMut;
 use pg_base::acceptance::is_bits;
@@ -12,9 +13,10 @@ use pg_base::protocol::varbit_to_sql;
 use pg_base::types::PgType;
 use std::alloc::Global;
 
-/// BIT and VARBIT: the number of bits in 4 bytes, big-endian, and as many bytes as they take,
-/// the first bit on top of the first byte, with 0 for what pads the last one (`bit_send`,
-/// `varbit_send`). More than 2,147,483,647 bits are `Transmit`.
+/// Writes BIT and VARBIT: the number of bits in 4 bytes, big-endian, and as many bytes as they
+/// take, the first bit being the most significant one of the first byte, and the padding bits of
+/// the last byte 0 (`bit_send`, `varbit_send`). More than 2,147,483,647 bits are refused with
+/// `Transmit`.
 impl ToSql for BitVec {
     ghost accepted = { accepted_bits };
 
@@ -49,4 +51,9 @@ impl ToSql for BitVec {
     fn encode_format(&self, _ty: &PgType) -> Format {
         Format::Binary
     }
+}
+
+/// Bits keep the room rule.
+pub(crate) fn keep_room_rule() {
+    keeps_room_rule::<BitVec>();
 }

@@ -1,6 +1,7 @@
 //! Writing a box.
 ghost use Rattle.std.specs.Prelude.{true, codes};
 
+use crate::laws::keeps_room_rule;
 use crate::to_sql::{ToSql, check_type};
 use bytes::BytesMut;
 use pg_base::fault::Fault;
@@ -8,7 +9,8 @@ use pg_base::format::{Format, IsNull};
 use pg_base::types::PgType;
 use std::alloc::Global;
 
-/// As the value inside is written, NULL included. The format is binary, whatever `T` says of it.
+/// Writes the value in the box, which may be NULL. The format is always binary, even if `T` has
+/// another.
 impl<T: ToSql> ToSql for Box<T> {
     ghost accepted = { T.accepted };
 
@@ -20,6 +22,7 @@ impl<T: ToSql> ToSql for Box<T> {
 
     ghost refuses_memory_free = { true };
 
+    #[inline(always)]
     fn to_sql(&self, alloc: Global, ty: &PgType, out: &mut BytesMut) -> Result<IsNull, Fault> {
         (**self).to_sql(alloc, ty, out)
     }
@@ -41,4 +44,9 @@ impl<T: ToSql> ToSql for Box<T> {
     fn encode_format(&self, _ty: &PgType) -> Format {
         Format::Binary
     }
+}
+
+/// A box keeps the room rule where its value does.
+pub(crate) fn keep_room_rule() {
+    keeps_room_rule::<Box<i32>>();
 }

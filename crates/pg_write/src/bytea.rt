@@ -1,10 +1,11 @@
-//! Writing bytes.
+//! Writing byte strings.
 ghost use Rattle.std.specs.Prelude.{◌≡◌, true, codes};
 ghost use Rattle.std.specs.Cow.{cow_slice_items};
 ghost use Rattle.pg_types.specs.declared.types.built_in.BuiltIn.TheVariants.{Bytea};
 ghost use Rattle.pg_base.specs.Bytea.{wire_bytes};
 ghost use Rattle.pg_types.specs.Content.{content, is_row};
 
+use crate::laws::keeps_room_rule;
 use crate::to_sql::{ToSql, check_type};
 use bytes::BytesMut;
 use pg_base::fault::Fault;
@@ -14,7 +15,7 @@ use pg_base::types::PgType;
 use std::alloc::Global;
 use std::borrow::CowSlice;
 
-/// BYTEA: the bytes (`byteasend`). They are never NULL, even where there are none.
+/// Writes BYTEA: the bytes (`byteasend`). They are never NULL, even if there are none.
 impl<'b> ToSql for &'b [u8] {
     ghost accepted = { is_row Bytea };
 
@@ -53,7 +54,7 @@ impl<'b> ToSql for &'b [u8] {
     }
 }
 
-/// BYTEA: the bytes (`byteasend`). They are never NULL, even where there are none.
+/// Writes BYTEA: the bytes (`byteasend`). They are never NULL, even if there are none.
 impl ToSql for Vec<u8> {
     ghost accepted = { is_row Bytea };
 
@@ -90,7 +91,7 @@ impl ToSql for Vec<u8> {
     }
 }
 
-/// BYTEA: the bytes (`byteasend`). They are never NULL, even where there are none.
+/// Writes BYTEA: the bytes (`byteasend`). They are never NULL, even if there are none.
 impl<const N: usize> ToSql for [u8; N] {
     ghost accepted = { is_row Bytea };
 
@@ -127,7 +128,7 @@ impl<const N: usize> ToSql for [u8; N] {
     }
 }
 
-/// BYTEA: the bytes (`byteasend`). They are never NULL, even where there are none.
+/// Writes BYTEA: the bytes (`byteasend`). They are never NULL, even if there are none.
 impl<'b> ToSql for CowSlice<'b, u8> {
     ghost accepted = { is_row Bytea };
 
@@ -164,4 +165,12 @@ impl<'b> ToSql for CowSlice<'b, u8> {
     fn encode_format(&self, _ty: &PgType) -> Format {
         Format::Binary
     }
+}
+
+/// Bytes keep the room rule.
+pub(crate) fn keep_room_rule() {
+    keeps_room_rule::<&[u8]>();
+    keeps_room_rule::<Vec<u8>>();
+    keeps_room_rule::<[u8; 4]>();
+    keeps_room_rule::<CowSlice<u8>>();
 }

@@ -1,4 +1,4 @@
-//! Writing dates, times of day, and timestamps of `jiff`.
+//! Writing dates, times of day and timestamps of `jiff`.
 ghost use Rattle.std.specs.Prelude.{◌≡◌, ◌/◌, ◌-ℤ◌, int_div, pos, true, codes};
 ghost use Rattle.jiff.specs.Words.{civil_nanos, epoch_day, time_nanos};
 ghost use Rattle.pg_base.specs.Civil.{base_day, instant_nanos, wire_date, wire_datetime, wire_instant, wire_time};
@@ -9,6 +9,7 @@ ghost use Rattle.pg_types.specs.declared.types.built_in.BuiltIn.TheVariants.{Tim
 ghost use Rattle.pg_types.specs.declared.types.built_in.BuiltIn.TheVariants.{Timestamp as TimestampRow};
 ghost use Rattle.pg_types.specs.declared.types.built_in.BuiltIn.TheVariants.{Timestamptz};
 
+use crate::laws::keeps_room_rule;
 use crate::to_sql::{ToSql, check_type};
 use bytes::BytesMut;
 use jiff::Timestamp;
@@ -20,22 +21,23 @@ use pg_base::protocol::{date_to_sql, time_to_sql, timestamp_to_sql};
 use pg_base::types::PgType;
 use std::alloc::Global;
 
-/// The days from 2000-01-01 to a date.
+/// Returns the days from 2000-01-01 to a date.
 fn days_of(date: Date) -> i32
     ensures { result ≡ epoch_day date -ℤ base_day }
 {
     date.to_plain().to_unix_epoch_day() - POSTGRES_EPOCH_DAY
 }
 
-/// The microseconds from midnight to a time, truncated.
+/// Returns the microseconds from midnight to a time, truncated.
 fn micros_of_time(time: Time) -> i64
     ensures { result ≡ pos (time_nanos time / 1000) }
 {
     (time.to_plain().to_nanosecond() / 1_000) as i64
 }
 
-/// A thousandth of a number of nanoseconds, truncated toward zero. Within 64 bits, as of the years
-/// from 1708 to 2292, it is divided there: a division in 128 bits takes many times as long.
+/// Returns a thousandth of a number of nanoseconds, truncated toward zero. Nanoseconds that fit in
+/// 64 bits, as in the years from 1708 to 2292, are divided in 64 bits, because a division in 128
+/// bits takes many times as long.
 fn thousandth(nanos: i128) -> i128
     ensures { result ≡ int_div nanos (pos 1000) }
 {
@@ -45,23 +47,22 @@ fn thousandth(nanos: i128) -> i128
     }
 }
 
-/// The microseconds from 2000-01-01 00:00:00 to a civil datetime, truncated toward it.
+/// Returns the microseconds from 2000-01-01 00:00:00 to a civil datetime, truncated toward zero.
 fn micros_of_datetime(datetime: DateTime) -> i64
     ensures { result ≡ whole_micros (civil_nanos datetime) }
 {
     thousandth(datetime.to_plain().to_nanosecond() - POSTGRES_EPOCH_NANOS) as i64
 }
 
-/// The microseconds from 2000-01-01 00:00:00 UTC to an instant, truncated toward it.
+/// Returns the microseconds from 2000-01-01 00:00:00 UTC to an instant, truncated toward zero.
 fn micros_of_instant(instant: Timestamp) -> i64
     ensures { result ≡ whole_micros (instant_nanos instant) }
 {
     thousandth(instant.as_nanosecond() - POSTGRES_EPOCH_NANOS) as i64
 }
 
-/// DATE: 4 bytes, big-endian, in two's complement, the days from 2000-01-01 (`date_send`). No
-/// date is refused, and none is written as one of the two counts that PostgreSQL takes for
-/// infinities.
+/// Writes DATE: the days from 2000-01-01 in 4 bytes, big-endian, in two's complement (`date_send`).
+/// No date is refused, and none is written as a number that PostgreSQL reads as an infinity.
 impl ToSql for Date {
     ghost accepted = { is_row DateRow };
 
@@ -98,8 +99,8 @@ impl ToSql for Date {
     }
 }
 
-/// TIME: 8 bytes, big-endian, in two's complement, the microseconds from midnight, truncated
-/// (`time_send`). No time is refused.
+/// Writes TIME: the microseconds from midnight, truncated, in 8 bytes, big-endian, in two's
+/// complement (`time_send`). No time is refused.
 impl ToSql for Time {
     ghost accepted = { is_row TimeRow };
 
@@ -136,9 +137,9 @@ impl ToSql for Time {
     }
 }
 
-/// TIMESTAMP: 8 bytes, big-endian, in two's complement, the microseconds from 2000-01-01 00:00:00,
-/// truncated toward it on both sides (`timestamp_send`). No timestamp is refused, and none is
-/// written as one of the two counts that PostgreSQL takes for infinities.
+/// Writes TIMESTAMP: the microseconds from 2000-01-01 00:00:00, truncated toward zero, in 8 bytes,
+/// big-endian, in two's complement (`timestamp_send`). No timestamp is refused, and none is written
+/// as a number that PostgreSQL reads as an infinity.
 impl ToSql for DateTime {
     ghost accepted = { is_row TimestampRow };
 
@@ -175,9 +176,9 @@ impl ToSql for DateTime {
     }
 }
 
-/// TIMESTAMPTZ: 8 bytes, big-endian, in two's complement, the microseconds from 2000-01-01 00:00:00
-/// UTC, truncated toward it on both sides (`timestamptz_send`). No instant is refused, and none is
-/// written as one of the two counts that PostgreSQL takes for infinities.
+/// Writes TIMESTAMPTZ: the microseconds from 2000-01-01 00:00:00 UTC, truncated toward zero, in 8
+/// bytes, big-endian, in two's complement (`timestamptz_send`). No instant is refused, and none is
+/// written as a number that PostgreSQL reads as an infinity.
 impl ToSql for Timestamp {
     ghost accepted = { is_row Timestamptz };
 
@@ -212,4 +213,12 @@ impl ToSql for Timestamp {
     fn encode_format(&self, _ty: &PgType) -> Format {
         Format::Binary
     }
+}
+
+/// The types of `jiff` keep the room rule.
+pub(crate) fn keep_room_rule() {
+    keeps_room_rule::<Date>();
+    keeps_room_rule::<Time>();
+    keeps_room_rule::<DateTime>();
+    keeps_room_rule::<Timestamp>();
 }

@@ -4,6 +4,7 @@ ghost use Rattle.pg_types.specs.declared.fault.Fault.TheVariants.{Memory};
 ghost use Rattle.pg_base.specs.Hstore.{in_key_order, borrowed_entry, owned_entry, wire_hstore};
 ghost use Rattle.pg_base.specs.Texts.{is_named};
 
+use crate::laws::refuses_without_memory;
 use crate::to_sql::{ToSql, check_type};
 use bytes::BytesMut;
 use pg_base::acceptance::is_hstore;
@@ -15,10 +16,10 @@ use std::alloc::Global;
 use std::collections::HashMap;
 use std::hash::BuildHasher;
 
-/// Any type that is named hstore (`hstore_send`): the number of entries in 4 bytes, big-endian,
-/// and the frames of each key and its value, in the order of the keys' bytes. Where the number of
-/// entries, a key or a value passes 2,147,483,647 it is `Transmit`. The entries are sorted in
-/// memory of their own, which may be refused.
+/// Writes every type named hstore (`hstore_send`): the number of entries in 4 bytes, big-endian,
+/// and for each entry the frames of its key and its value, in the order of the keys' bytes. It is
+/// refused with `Transmit` if the number of entries, or the length of a key or a value, exceeds
+/// 2,147,483,647. The entries are sorted in a list that is allocated.
 impl<S: BuildHasher + Drop> ToSql for HashMap<String, Option<String>, S> {
     ghost accepted = { is_named (codes "hstore") };
 
@@ -53,7 +54,7 @@ impl<S: BuildHasher + Drop> ToSql for HashMap<String, Option<String>, S> {
     }
 }
 
-/// The map's entries, borrowed, in the order of their keys' bytes.
+/// Returns the entries of the map, borrowed, in the order of their keys' bytes.
 fn sorted_entries<'a, S: BuildHasher + Drop>(
     alloc: Global,
     store: &'a HashMap<String, Option<String>, S>,
@@ -68,4 +69,9 @@ fn sorted_entries<'a, S: BuildHasher + Drop>(
     }
     entries.sort_unstable_by_key(|entry| entry.0);
     Ok(entries)
+}
+
+/// A map is refused without memory, although its writing takes some.
+pub(crate) fn refused_without_memory() {
+    refuses_without_memory::<HashMap<String, Option<String>>>();
 }

@@ -1,9 +1,10 @@
-//! Writing intervals of time.
+//! Writing intervals.
 ghost use Rattle.std.specs.Prelude.{true, codes};
 ghost use Rattle.pg_types.specs.declared.types.built_in.BuiltIn.TheVariants.{Interval as IntervalRow};
 ghost use Rattle.pg_types.specs.Content.{is_row};
 ghost use Rattle.pg_base.specs.Interval.{wire_interval};
 
+use crate::laws::keeps_room_rule;
 use crate::to_sql::{ToSql, check_type};
 use bytes::BytesMut;
 use pg_base::fault::Fault;
@@ -13,8 +14,8 @@ use pg_base::protocol::interval_to_sql;
 use pg_base::types::PgType;
 use std::alloc::Global;
 
-/// INTERVAL: 16 bytes, the microseconds in 8, then the days and the months in 4 each, big-endian,
-/// in two's complement (`interval_send`).
+/// Writes INTERVAL: the microseconds in 8 bytes, then the days and the months in 4 bytes each,
+/// big-endian, in two's complement (`interval_send`).
 impl ToSql for Interval {
     ghost accepted = { is_row IntervalRow };
 
@@ -49,4 +50,9 @@ impl ToSql for Interval {
     fn encode_format(&self, _ty: &PgType) -> Format {
         Format::Binary
     }
+}
+
+/// An interval keeps the room rule.
+pub(crate) fn keep_room_rule() {
+    keeps_room_rule::<Interval>();
 }

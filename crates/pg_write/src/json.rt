@@ -1,10 +1,11 @@
-//! Writing documents.
+//! Writing JSON documents.
 ghost use Rattle.std.specs.Prelude.{true, codes};
 ghost use Rattle.serde_json.specs.View.{view};
 ghost use Rattle.pg_types.specs.declared.types.built_in.BuiltIn.TheVariants.{Jsonb};
 ghost use Rattle.pg_types.specs.Content.{is_row};
 ghost use Rattle.pg_base.specs.Json.{accepted_json, wire_json};
 
+use crate::laws::refuses_without_memory;
 use crate::to_sql::{ToSql, check_type};
 use bytes::BytesMut;
 use pg_base::acceptance::{is_json, is_jsonb};
@@ -15,10 +16,10 @@ use pg_base::types::PgType;
 use serde_json::Value;
 use std::alloc::Global;
 
-/// JSON: the document's compact text, the members of an object in the order of their keys
-/// (`json_send`). JSONB: the version 1 and that text (`jsonb_send`). A document that holds, at any
-/// depth, a number that is kept as neither `i64` nor `u64` is `JsonNumber`. The text is written to
-/// memory of its own, which may be refused.
+/// Writes JSON, which is the document's compact text with the members of an object in the order of
+/// their keys (`json_send`), and JSONB, which is the version 1 in one byte and that text
+/// (`jsonb_send`). A document that contains, at any depth, a number that is neither an `i64` nor a
+/// `u64` is refused with `JsonNumber`. The text is first written to a buffer that is allocated.
 impl ToSql for Value {
     ghost accepted = { accepted_json };
 
@@ -60,4 +61,9 @@ impl ToSql for Value {
     fn encode_format(&self, _ty: &PgType) -> Format {
         Format::Binary
     }
+}
+
+/// A document is refused without memory, although its writing takes some.
+pub(crate) fn refused_without_memory() {
+    refuses_without_memory::<Value>();
 }

@@ -1,6 +1,6 @@
-//! Writing: a type and a value to a cell.
+//! Writing: from a type and a value to a cell.
 //!
-//! [`to_sql`](to_sql::ToSql::to_sql) appends the bytes of a value's cell; a NULL and an error leave
+//! [`to_sql`](to_sql::ToSql::to_sql) appends the bytes of a value's cell. NULL and an error leave
 //! the buffer's bytes as they were.
 #![tactic(auto)]
 

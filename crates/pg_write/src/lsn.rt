@@ -1,10 +1,11 @@
-//! Writing log positions.
+//! Writing log sequence numbers.
 ghost use Rattle.std.specs.Prelude.{true, codes};
 ghost use Rattle.std.specs.Int.{w64};
 ghost use Rattle.pg_types.specs.declared.types.built_in.BuiltIn.TheVariants.{PgLsn as PgLsnRow};
 ghost use Rattle.pg_types.specs.Content.{is_row};
 ghost use Rattle.pg_base.specs.Numbers.{wire_unsigned};
 
+use crate::laws::keeps_room_rule;
 use crate::to_sql::{ToSql, check_type};
 use bytes::BytesMut;
 use pg_base::fault::Fault;
@@ -14,7 +15,7 @@ use pg_base::protocol::lsn_to_sql;
 use pg_base::types::PgType;
 use std::alloc::Global;
 
-/// PG_LSN: 8 bytes, unsigned, big-endian (`pg_lsn_send`).
+/// Writes PG_LSN: 8 bytes, unsigned, big-endian (`pg_lsn_send`).
 impl ToSql for PgLsn {
     ghost accepted = { is_row PgLsnRow };
 
@@ -49,4 +50,9 @@ impl ToSql for PgLsn {
     fn encode_format(&self, _ty: &PgType) -> Format {
         Format::Binary
     }
+}
+
+/// A log sequence number keeps the room rule.
+pub(crate) fn keep_room_rule() {
+    keeps_room_rule::<PgLsn>();
 }

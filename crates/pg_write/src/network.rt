@@ -1,10 +1,11 @@
-//! Writing Internet addresses and MAC addresses.
+//! Writing IP addresses and MAC addresses.
 ghost use Rattle.std.specs.Prelude.{true, codes};
 ghost use Rattle.pg_types.specs.declared.types.built_in.BuiltIn.TheVariants.{Cidr, Inet, Macaddr};
 ghost use Rattle.pg_types.specs.Content.{is_row};
 ghost use Rattle.pg_base.specs.FixedBytes.{wire_fixed_bytes};
 ghost use Rattle.pg_base.specs.Network.{wire_address, wire_cidr, wire_inet};
 
+use crate::laws::keeps_room_rule;
 use crate::to_sql::{ToSql, check_type};
 use bytes::BytesMut;
 use pg_base::fault::Fault;
@@ -15,8 +16,9 @@ use pg_base::types::PgType;
 use std::alloc::Global;
 use std::net::IpAddr;
 
-/// INET (`inet_send`), in one byte each: the family's number, 2 or 3, a netmask of all the
-/// address's bits, 32 or 128, the flag 0, the number of octets, and the octets, 4 or 16.
+/// Writes INET (`inet_send`), in one byte each: the address family (2 for IPv4, 3 for IPv6), the
+/// length 32 or 128 of a netmask that covers all bits, the flag 0, the number of octets, and the 4
+/// or 16 octets.
 impl ToSql for IpAddr {
     ghost accepted = { is_row Inet };
 
@@ -53,7 +55,7 @@ impl ToSql for IpAddr {
     }
 }
 
-/// INET (`inet_send`): as for `IpAddr`, with the netmask of the value.
+/// Writes INET (`inet_send`) as `IpAddr` does, with the netmask of the value.
 impl ToSql for IpInet {
     ghost accepted = { is_row Inet };
 
@@ -90,7 +92,8 @@ impl ToSql for IpInet {
     }
 }
 
-/// CIDR (`cidr_send`): as INET for `IpInet`.
+/// Writes CIDR (`cidr_send`) as `IpInet` writes INET. The flag is 0, where the server sends 1; it
+/// ignores the flag on receipt.
 impl ToSql for IpCidr {
     ghost accepted = { is_row Cidr };
 
@@ -127,7 +130,7 @@ impl ToSql for IpCidr {
     }
 }
 
-/// MACADDR: 6 bytes, in the order of its text (`macaddr_send`).
+/// Writes MACADDR: 6 bytes, in the order of its text (`macaddr_send`).
 impl ToSql for MacAddress {
     ghost accepted = { is_row Macaddr };
 
@@ -162,4 +165,12 @@ impl ToSql for MacAddress {
     fn encode_format(&self, _ty: &PgType) -> Format {
         Format::Binary
     }
+}
+
+/// Addresses, networks and MAC addresses keep the room rule.
+pub(crate) fn keep_room_rule() {
+    keeps_room_rule::<IpAddr>();
+    keeps_room_rule::<IpInet>();
+    keeps_room_rule::<IpCidr>();
+    keeps_room_rule::<MacAddress>();
 }

@@ -5,6 +5,7 @@ ghost use Rattle.pg_types.specs.declared.types.built_in.BuiltIn.TheVariants.{Boo
 ghost use Rattle.pg_types.specs.Content.{is_row};
 ghost use Rattle.pg_base.specs.Numbers.{wire_bool, wire_signed, wire_unsigned};
 
+use crate::laws::keeps_room_rule;
 use crate::to_sql::{ToSql, check_type};
 use bytes::BytesMut;
 use pg_base::fault::Fault;
@@ -15,7 +16,7 @@ use pg_base::protocol::{
 use pg_base::types::PgType;
 use std::alloc::Global;
 
-/// BOOL: 1 byte, 0 or 1 (`boolsend`).
+/// Writes BOOL: 1 byte, 0 for false and 1 for true (`boolsend`).
 impl ToSql for bool {
     ghost accepted = { is_row Bool };
 
@@ -52,7 +53,7 @@ impl ToSql for bool {
     }
 }
 
-/// CHAR: 1 byte, in two's complement (`charsend`).
+/// Writes CHAR, the type `"char"`: 1 byte, in two's complement (`charsend`).
 impl ToSql for i8 {
     ghost accepted = { is_row Char };
 
@@ -89,7 +90,7 @@ impl ToSql for i8 {
     }
 }
 
-/// INT2: 2 bytes, big-endian, in two's complement (`int2send`).
+/// Writes INT2: 2 bytes, big-endian, in two's complement (`int2send`).
 impl ToSql for i16 {
     ghost accepted = { is_row Int2 };
 
@@ -126,7 +127,7 @@ impl ToSql for i16 {
     }
 }
 
-/// INT4: 4 bytes, big-endian, in two's complement (`int4send`).
+/// Writes INT4: 4 bytes, big-endian, in two's complement (`int4send`).
 impl ToSql for i32 {
     ghost accepted = { is_row Int4 };
 
@@ -163,7 +164,7 @@ impl ToSql for i32 {
     }
 }
 
-/// INT8: 8 bytes, big-endian, in two's complement (`int8send`).
+/// Writes INT8: 8 bytes, big-endian, in two's complement (`int8send`).
 impl ToSql for i64 {
     ghost accepted = { is_row Int8 };
 
@@ -200,7 +201,7 @@ impl ToSql for i64 {
     }
 }
 
-/// OID: 4 bytes, unsigned, big-endian (`oidsend`).
+/// Writes OID: 4 bytes, unsigned, big-endian (`oidsend`).
 impl ToSql for u32 {
     ghost accepted = { is_row Oid };
 
@@ -235,4 +236,14 @@ impl ToSql for u32 {
     fn encode_format(&self, _ty: &PgType) -> Format {
         Format::Binary
     }
+}
+
+/// Integers and booleans keep the room rule.
+pub(crate) fn keep_room_rule() {
+    keeps_room_rule::<bool>();
+    keeps_room_rule::<i8>();
+    keeps_room_rule::<i16>();
+    keeps_room_rule::<i32>();
+    keeps_room_rule::<i64>();
+    keeps_room_rule::<u32>();
 }

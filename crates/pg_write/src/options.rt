@@ -3,6 +3,7 @@ ghost use Rattle.std.specs.Prelude.{true, codes};
 ghost use Rattle.pg_base.specs.Options.{NoneOr};
 ghost use Rattle.pg_write.specs.OptionWriting.{wire_option, format_option};
 
+use crate::laws::keeps_room_rule;
 use crate::to_sql::{ToSql, check_type};
 use bytes::BytesMut;
 use pg_base::fault::Fault;
@@ -10,7 +11,7 @@ use pg_base::format::{Format, IsNull};
 use pg_base::types::PgType;
 use std::alloc::Global;
 
-/// `None` is NULL, and `Some` is written as the value inside.
+/// Writes `None` as NULL, and `Some` as the value inside.
 impl<T: ToSql> ToSql for Option<T> {
     ghost accepted = { T.accepted };
 
@@ -24,6 +25,7 @@ impl<T: ToSql> ToSql for Option<T> {
 
     ghost refuses_memory_free = { true };
 
+    #[inline(always)]
     fn to_sql(&self, alloc: Global, ty: &PgType, out: &mut BytesMut) -> Result<IsNull, Fault> {
         match self {
             Some(value) => value.to_sql(alloc, ty, out),
@@ -51,4 +53,9 @@ impl<T: ToSql> ToSql for Option<T> {
             None => Format::Binary,
         }
     }
+}
+
+/// An option keeps the room rule where its value does.
+pub(crate) fn keep_room_rule() {
+    keeps_room_rule::<Option<i32>>();
 }

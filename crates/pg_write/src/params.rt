@@ -1,4 +1,4 @@
-//! Writing parameters of any types: the frames of a Bind message.
+//! Writing parameters of any types, as a Bind message frames them.
 ghost use Rattle.std.specs.Prelude.{◌≡◌, ◌≤◌, ◌+◌, ◌++◌, IfErr, IfOk, IsSome, IsTrue, drop, length, take, zip};
 ghost use Rattle.std.specs.Int.{to_be_bytes, w32};
 ghost use Rattle.std.specs.List.{AllByRecursion};
@@ -17,19 +17,19 @@ use pg_base::protocol::{MAX_LEN, set_number};
 use pg_base::types::PgType;
 use std::alloc::Global;
 
-/// How many bytes the length of a cell takes.
+/// The number of bytes of a length prefix.
 const LEN: usize = 4;
 
-/// Appends the frame of the value, as a field of a binary COPY or a parameter of a Bind message is
-/// laid out: the length of its cell in 4 bytes, big-endian, and the cell's bytes; for NULL the
-/// length -1.
+/// Appends the frame of the value, as it is a field of a binary COPY or a parameter of a Bind
+/// message: the length of its cell in 4 bytes, big-endian, and the bytes of the cell. The frame of
+/// NULL is the length -1.
 ///
-/// A refusal is that of its checked writing, or `Transmit` where its cell passes 2,147,483,647
-/// bytes. It leaves the buffer's bytes as they were, `Memory` too.
+/// It fails with the fault of checked writing, or with `Transmit` if the cell exceeds 2,147,483,647
+/// bytes. An error, `Memory` included, leaves the buffer's bytes as they were.
 ///
-/// The buffer's capacity never shrinks, and `Ok` takes no more of its room than the frame has bytes.
-/// Where the buffer has room for the frame, a value that is written by room (`by_room`) is never
-/// refused with `Memory`.
+/// The buffer's capacity never shrinks, and `Ok` uses no more spare room than the frame has bytes.
+/// If the buffer has room for the frame, and writing the value needs only that room (`by_room`),
+/// the call never fails with `Memory`.
 #[tactic(auto, using(crate::proofs::ParamRoom::follows_takes, crate::proofs::ParamRoom::with_room))]
 pub fn frame_value<T: ToSql>(
     alloc: Global,
@@ -55,7 +55,7 @@ pub fn frame_value<T: ToSql>(
     }
 }
 
-/// Appends the frame of the value. A refusal leaves what was appended so far.
+/// Appends the frame of the value. An error leaves what was appended so far.
 #[inline(always)]
 fn value_to_sql<T: ToSql>(
     alloc: Global,
@@ -70,9 +70,9 @@ fn value_to_sql<T: ToSql>(
     ensures capacity { KeepsCapacity out.old out.new }
 {
     let start = out.len();
-    // The frame of NULL, whose length is put right once a cell stands after it.
+    // The frame of NULL; its length is corrected when a cell follows.
     out.put_i32(-1)?;
-    // A match moves the fault of a refusal alone, where `?` would move each answer.
+    // A match moves only the fault, while `?` would move every result.
     let is_null = match value.to_sql_checked(alloc, ty, out) {
         Ok(is_null) => is_null,
         Err(fault) => return Err(fault),
@@ -83,15 +83,17 @@ fn value_to_sql<T: ToSql>(
     frame_from(start, out)
 }
 
-/// Appends the frames of the parameters in their order, each for the type that stands at its place:
-/// the length of its cell in 4 bytes, big-endian, and the cell's bytes; for NULL the length -1.
+/// Appends the frames of the parameters in their order, each written for the type at its index: the
+/// length of its cell in 4 bytes, big-endian, and the bytes of the cell. The frame of NULL is the
+/// length -1.
 ///
-/// The lists are of one length. A refusal names the place, counted from 0, of the first parameter
-/// that is refused: with the fault of its checked writing, or `Transmit` where its cell passes
-/// 2,147,483,647 bytes. It leaves the buffer's bytes as they were, `Memory` too.
+/// The lists must have the same length. An error has the index, counted from 0, of the first
+/// parameter that is refused, with the fault of its checked writing, or with `Transmit` if its cell
+/// exceeds 2,147,483,647 bytes. An error, `Memory` included, leaves the buffer's bytes as they
+/// were.
 ///
-/// The buffer's capacity never shrinks. Where the buffer has room for all the frames, values that are
-/// written by room (`by_room`) are never refused with `Memory`.
+/// The buffer's capacity never shrinks. If the buffer has room for all frames, and writing each
+/// value needs only that room (`by_room`), the call never fails with `Memory`.
 pub fn params_to_sql(
     alloc: Global,
     params: &[Box<dyn ToSql>],
@@ -118,7 +120,7 @@ pub fn params_to_sql(
     Ok(())
 }
 
-/// Appends the frame of the parameter. A refusal leaves what was appended so far.
+/// Appends the frame of the parameter. An error leaves what was appended so far.
 #[inline(always)]
 fn param_to_sql(
     alloc: Global,
@@ -136,7 +138,7 @@ fn param_to_sql(
     ensures capacity { KeepsCapacity out.old out.new }
 {
     let start = out.len();
-    // The frame of NULL, whose length is put right once a cell stands after it.
+    // The frame of NULL; its length is corrected when a cell follows.
     out.put_i32(-1)?;
     match param.to_sql_checked(alloc, ty, out) {
         Ok(IsNull::Yes) => Ok(()),
@@ -145,9 +147,9 @@ fn param_to_sql(
     }
 }
 
-/// Makes what stands from `start` on a frame: its first 4 bytes become the number of the others.
+/// Makes a frame of the bytes from `start` on: the first 4 become the length of the others.
 #[inline(always)]
-fn frame_from(start: usize, out: &mut BytesMut) -> Result<(), Fault>
+pub(crate) fn frame_from(start: usize, out: &mut BytesMut) -> Result<(), Fault>
     requires { start + LEN ≤ length out.old.items }
     ensures frame { FramesFrom start out.old.items out.new.items result }
     ensures capacity { KeepsCapacity out.old out.new }

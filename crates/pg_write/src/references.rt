@@ -1,6 +1,7 @@
 //! Writing through a reference.
 ghost use Rattle.std.specs.Prelude.{true, codes};
 
+use crate::laws::keeps_room_rule;
 use crate::to_sql::{ToSql, check_type};
 use bytes::BytesMut;
 use pg_base::fault::Fault;
@@ -8,7 +9,7 @@ use pg_base::format::{Format, IsNull};
 use pg_base::types::PgType;
 use std::alloc::Global;
 
-/// As the value is written, NULL included.
+/// Writes the value that is referred to, which may be NULL.
 impl<'b, T: ToSql> ToSql for &'b T {
     ghost accepted = { T.accepted };
 
@@ -22,6 +23,7 @@ impl<'b, T: ToSql> ToSql for &'b T {
 
     ghost refuses_memory_free = { true };
 
+    #[inline(always)]
     fn to_sql(&self, alloc: Global, ty: &PgType, out: &mut BytesMut) -> Result<IsNull, Fault> {
         (**self).to_sql(alloc, ty, out)
     }
@@ -43,4 +45,9 @@ impl<'b, T: ToSql> ToSql for &'b T {
     fn encode_format(&self, ty: &PgType) -> Format {
         (**self).encode_format(ty)
     }
+}
+
+/// A reference keeps the room rule where its value does.
+pub(crate) fn keep_room_rule() {
+    keeps_room_rule::<&i32>();
 }

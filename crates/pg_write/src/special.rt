@@ -1,4 +1,4 @@
-//! Writing dates and timestamps with infinities.
+//! Writing dates and timestamps that may be infinite.
 
-mod date;
-mod timestamp;
+pub(crate) mod date;
+pub(crate) mod timestamp;

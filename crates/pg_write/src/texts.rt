@@ -7,6 +7,7 @@ ghost use Rattle.pg_types.specs.Content.{content};
 ghost use Rattle.pg_base.specs.Cells.{versioned_cell};
 ghost use Rattle.pg_base.specs.Texts.{accepted_text, has_version, wire_text};
 
+use crate::laws::keeps_room_rule;
 use crate::to_sql::{ToSql, check_type};
 use bytes::BytesMut;
 use pg_base::acceptance::{has_version, is_text};
@@ -18,7 +19,7 @@ use std::alloc::Global;
 use std::borrow::CowStr;
 use std::boxed::BoxedStr;
 
-/// Appends the cell of a text for that type.
+/// Appends the cell of a text for this type.
 #[inline(always)]
 fn append_text(alloc: Global, ty: &PgType, text: &str, out: &mut BytesMut) -> Result<(), Fault>
     ensures { Appends (Some (versioned_cell (has_version (content ty.now)) text.now)) out.old out.new result }
@@ -30,9 +31,10 @@ fn append_text(alloc: Global, ty: &PgType, text: &str, out: &mut BytesMut) -> Re
     }
 }
 
-/// VARCHAR, TEXT, BPCHAR, NAME, UNKNOWN, and any type named citext, ltree, lquery or ltxtquery: the
-/// text's bytes (`textsend`), after the version 1 where the type is named ltree, lquery or
-/// ltxtquery (`ltree_send`). No text is NULL, the empty one included.
+/// Writes VARCHAR, TEXT, BPCHAR, NAME, UNKNOWN, and every type named citext, ltree, lquery or
+/// ltxtquery: the text's bytes (`textsend`), after the version 1 for a type named ltree, lquery or
+/// ltxtquery (`ltree_send`, `lquery_send`, `ltxtq_send`). A text is never NULL, even if it is
+/// empty.
 impl<'b> ToSql for &'b str {
     ghost accepted = { accepted_text };
 
@@ -73,9 +75,10 @@ impl<'b> ToSql for &'b str {
     }
 }
 
-/// VARCHAR, TEXT, BPCHAR, NAME, UNKNOWN, and any type named citext, ltree, lquery or ltxtquery: the
-/// text's bytes (`textsend`), after the version 1 where the type is named ltree, lquery or
-/// ltxtquery (`ltree_send`). No text is NULL, the empty one included.
+/// Writes VARCHAR, TEXT, BPCHAR, NAME, UNKNOWN, and every type named citext, ltree, lquery or
+/// ltxtquery: the text's bytes (`textsend`), after the version 1 for a type named ltree, lquery or
+/// ltxtquery (`ltree_send`, `lquery_send`, `ltxtq_send`). A text is never NULL, even if it is
+/// empty.
 impl ToSql for String {
     ghost accepted = { accepted_text };
 
@@ -114,9 +117,10 @@ impl ToSql for String {
     }
 }
 
-/// VARCHAR, TEXT, BPCHAR, NAME, UNKNOWN, and any type named citext, ltree, lquery or ltxtquery: the
-/// text's bytes (`textsend`), after the version 1 where the type is named ltree, lquery or
-/// ltxtquery (`ltree_send`). No text is NULL, the empty one included.
+/// Writes VARCHAR, TEXT, BPCHAR, NAME, UNKNOWN, and every type named citext, ltree, lquery or
+/// ltxtquery: the text's bytes (`textsend`), after the version 1 for a type named ltree, lquery or
+/// ltxtquery (`ltree_send`, `lquery_send`, `ltxtq_send`). A text is never NULL, even if it is
+/// empty.
 impl ToSql for BoxedStr {
     ghost accepted = { accepted_text };
 
@@ -155,9 +159,10 @@ impl ToSql for BoxedStr {
     }
 }
 
-/// VARCHAR, TEXT, BPCHAR, NAME, UNKNOWN, and any type named citext, ltree, lquery or ltxtquery: the
-/// text's bytes (`textsend`), after the version 1 where the type is named ltree, lquery or
-/// ltxtquery (`ltree_send`). No text is NULL, the empty one included.
+/// Writes VARCHAR, TEXT, BPCHAR, NAME, UNKNOWN, and every type named citext, ltree, lquery or
+/// ltxtquery: the text's bytes (`textsend`), after the version 1 for a type named ltree, lquery or
+/// ltxtquery (`ltree_send`, `lquery_send`, `ltxtq_send`). A text is never NULL, even if it is
+/// empty.
 impl<'b> ToSql for CowStr<'b> {
     ghost accepted = { accepted_text };
 
@@ -196,4 +201,12 @@ impl<'b> ToSql for CowStr<'b> {
     fn encode_format(&self, _ty: &PgType) -> Format {
         Format::Binary
     }
+}
+
+/// Texts keep the room rule.
+pub(crate) fn keep_room_rule() {
+    keeps_room_rule::<&str>();
+    keeps_room_rule::<String>();
+    keeps_room_rule::<BoxedStr>();
+    keeps_room_rule::<CowStr>();
 }

@@ -1,4 +1,4 @@
-//! The trait of writing.
+//! The trait of types that are written as cells.
 ghost use Rattle.std.specs.Prelude.{◌≡◌, ◌≤◌, ℕ, List, Bool, IfErr, IfOk, IsTrue, IsSome, false, length, true};
 ghost use Rattle.pg_types.specs.declared.format.Format.{Format};
 ghost use Rattle.pg_types.specs.declared.format.Format.TheVariants.{Binary};
@@ -16,8 +16,9 @@ use std::fmt;
 
 /// A type that is written as a cell in PostgreSQL's binary format.
 ///
-/// An implementation says by its ghost members what it writes, and proves that its functions write
-/// so. A refused write, `Memory` included, and a NULL leave the buffer's bytes as they were.
+/// The ghost members of an implementation say what it writes, and the implementation proves that
+/// its functions write just that. An error, `Memory` included, and NULL leave the buffer's bytes as
+/// they were.
 pub trait ToSql: fmt::Debug + Drop {
     /// The Postgres type is accepted.
     ghost accepted: { Content → Bool };
@@ -25,23 +26,24 @@ pub trait ToSql: fmt::Debug + Drop {
     /// The name of the Rust type in a `WrongType`.
     ghost name: { List ℕ };
 
-    /// What the value is written as for that type: NULL, bytes, or a fault.
+    /// What the value is written as for the type: NULL, bytes, or a fault.
     ghost wire: { Content → Self → Wire };
 
-    /// The format of the value for that type: binary, where an implementation says nothing.
+    /// The format of the value for the type. By default it is binary.
     ghost format: { Content → Self → Format } = { λ _ _. Binary };
 
-    /// Where the buffer has room for the cell, writing the value takes no memory. An implementation
-    /// that says nothing claims it of no value.
+    /// Writing the value does not allocate if the buffer has room for its cell. By default this
+    /// holds of no value.
     ghost by_room: { Self → Type 0 } = { λ _. ⊥ };
 
-    /// Checked writing refuses a built-in type that is not accepted without memory. An
-    /// implementation that says nothing does not claim it.
+    /// If a built-in type is not accepted, checked writing refuses it without allocating. By
+    /// default this is not claimed.
     ghost refuses_memory_free: { Bool } = { false };
 
-    /// Appends the bytes of the value's cell, without its length, and answers [`IsNull::No`]; where
-    /// the value is NULL it appends nothing and answers [`IsNull::Yes`]. The type must be accepted.
-    /// An error leaves the buffer's bytes as they were, and the buffer's capacity never shrinks.
+    /// Appends the bytes of the value's cell, without a length prefix, and returns [`IsNull::No`].
+    /// If the value is NULL it appends nothing and returns [`IsNull::Yes`]. The type must be
+    /// accepted. An error leaves the buffer's bytes as they were, and the buffer's capacity never
+    /// shrinks.
     fn to_sql(&self, alloc: Global, ty: &PgType, out: &mut BytesMut) -> Result<IsNull, Fault>
     where
         Self: Sized,
@@ -51,13 +53,14 @@ pub trait ToSql: fmt::Debug + Drop {
             → KeepsRoomRule (wire (content ty.now) self.now) out.old.spare result }
         ensures capacity { KeepsCapacity out.old out.new };
 
-    /// Whether values are written for that type.
+    /// Whether values are written for this type.
     fn accepts(ty: &PgType) -> bool
     where
         Self: Sized,
         ensures { result ≡ accepted (content ty.now) };
 
-    /// Does what `to_sql` does where the type is accepted, and answers `WrongType` where it is not.
+    /// Writes the value as `to_sql` does if the type is accepted, and fails with `WrongType` if it
+    /// is not.
     fn to_sql_checked(
         &self,
         alloc: Global,
@@ -72,14 +75,15 @@ pub trait ToSql: fmt::Debug + Drop {
         ensures never_memory { IsTrue refuses_memory_free → accepted (content ty.now) ≡ false
             → IsBuiltIn (content ty.now) → NeverMemory result };
 
-    /// The format of the value's cell, as a Bind message states it: [`Format::Binary`] for every
-    /// type of this library but a reference or a `Some` around a user's own.
+    /// Returns the format of the value's cell, as a Bind message states it. It is
+    /// [`Format::Binary`] for every type of this library, unless it is a reference, an `Option` or
+    /// a newtype around a user's type with another format.
     fn encode_format(&self, ty: &PgType) -> Format
         ensures { result ≡ format (content ty.now) self.now };
 }
 
-/// Does what `to_sql` does where the type is accepted, and answers [`WrongType`] with the name
-/// `rust`, of at most [`REASON_LEN`] bytes, where it is not.
+/// Writes the value as `to_sql` does if the type is accepted, and fails with [`WrongType`] if it is
+/// not. `rust` is the name of the Rust type in the fault, of at most [`REASON_LEN`] bytes.
 pub fn to_sql_checked_as<T: ToSql>(
     alloc: Global,
     v: &T,
@@ -99,8 +103,8 @@ pub fn to_sql_checked_as<T: ToSql>(
     v.to_sql(alloc, ty, out)
 }
 
-/// Answers Ok where the type is accepted, and [`WrongType`] with the name `rust`, of at most
-/// [`REASON_LEN`] bytes, where it is not: the first line of a `to_sql_checked`.
+/// Returns `Ok` if `accepted` is true, and otherwise [`WrongType`] with the name `rust`, of at most
+/// [`REASON_LEN`] bytes. It is the first line of a `to_sql_checked`.
 pub fn check_type(accepted: bool, ty: &PgType, rust: &'static str) -> Result<(), Fault>
     requires { length rust.now ≤ REASON_LEN }
     ensures accepted { IfOk result (λ _. accepted ≡ true) }
@@ -114,8 +118,8 @@ pub fn check_type(accepted: bool, ty: &PgType, rust: &'static str) -> Result<(),
     }
 }
 
-/// The fault of a type that is not accepted; `Memory` where a user-defined type's owners can't be
-/// counted.
+/// Returns [`WrongType`] for a type that is not accepted, with the name `rust`, of at most
+/// [`REASON_LEN`] bytes. It returns `Memory` if a user-defined type cannot be cloned.
 pub fn wrong_type(ty: &PgType, rust: &'static str) -> Fault
     requires { length rust.now ≤ REASON_LEN }
     ensures refuses { IsWrongType (content ty.now) rust.now result }

@@ -2,6 +2,7 @@
 ghost use Rattle.std.specs.Prelude.{true, codes};
 ghost use Rattle.pg_base.specs.Timestamps.{accepts_timestamps, nanos_of, wire_timestamp};
 
+use crate::laws::keeps_room_rule;
 use crate::to_sql::{ToSql, check_type};
 use bytes::BytesMut;
 use pg_base::acceptance::is_timestamp;
@@ -12,9 +13,9 @@ use pg_base::types::PgType;
 use pg_base::unix_time::UnixTime;
 use std::alloc::Global;
 
-/// TIMESTAMP, TIMESTAMPTZ: 8 bytes, big-endian, in two's complement, the microseconds from
-/// 2000-01-01 00:00:00 UTC, truncated toward it (`timestamp_send`, `timestamptz_send`). Where they
-/// leave 8 bytes the timestamp is `Transmit`.
+/// Writes TIMESTAMP and TIMESTAMPTZ: the microseconds from 2000-01-01 00:00:00 UTC, truncated
+/// toward zero, in 8 bytes, big-endian, in two's complement (`timestamp_send`, `timestamptz_send`).
+/// A timestamp whose microseconds do not fit in 8 bytes is refused with `Transmit`.
 impl ToSql for UnixTime {
     ghost accepted = { accepts_timestamps };
 
@@ -50,4 +51,9 @@ impl ToSql for UnixTime {
     fn encode_format(&self, _ty: &PgType) -> Format {
         Format::Binary
     }
+}
+
+/// A `UnixTime` keeps the room rule.
+pub(crate) fn keep_room_rule() {
+    keeps_room_rule::<UnixTime>();
 }

@@ -1,4 +1,4 @@
--- The fields of a composite type in a row, one before others, by their types.
+-- The fields of a composite type, one after another, by their types.
 use Rattle.std.specs.Prelude.{◌≡◌, ◌&&◌, ℕ, List, [], Ok, Bool, true, false, IsTrue, refl, suc}
 use Rattle.std.proofs.Common.{ap}
 use Rattle.pg_types.specs.Content.{Content, FieldsContent, NoFields, FieldAnd, oid_of}
@@ -40,23 +40,23 @@ BackEnd fs v = Through nothing_in IsDone
 
 -- ---- a field before others
 
--- the value of a field before those of others
+-- the value of a field, followed by those of others
 abbrev pub and : {A B : Type 0} → A → B → And A B
 and a b = record { 0 = a; 1 = b }
 
--- the values of four fields before those of others
+-- the values of four fields, followed by those of others
 abbrev pub and4 : {A B C D E : Type 0} → A → B → C → D → E → And4 A B C D E
 and4 a b c d e = record { 0 = a; 1 = b; 2 = c; 3 = d; 4 = e }
 
--- these, one field after another
+-- the same, one field after another
 abbrev pub in_turn4 : {A B C D E : Type 0} → And4 A B C D E → And A (And B (And C (And D E)))
 in_turn4 v = and v.0 (and v.1 (and v.2 (and v.3 v.4)))
 
--- the values of eight fields before those of others
+-- the values of eight fields, followed by those of others
 abbrev pub and8 : {A B C D E F G H I : Type 0} → A → B → C → D → E → F → G → H → I → And8 A B C D E F G H I
 and8 a b c d e f g h i = record { 0 = a; 1 = b; 2 = c; 3 = d; 4 = e; 5 = f; 6 = g; 7 = h; 8 = i }
 
--- these, one field after another
+-- the same, one field after another
 abbrev pub in_turn8 : {A B C D E F G H I : Type 0} → And8 A B C D E F G H I
     → And A (And B (And C (And D (And E (And F (And G (And H I)))))))
 in_turn8 v = and v.0 (and v.1 (and v.2 (and v.3 (and v.4 (and v.5 (and v.6 (and v.7 v.8)))))))
@@ -67,7 +67,7 @@ pair_in v = (v.0, v.1)
 abbrev pub SameAnd : {A B : Type 0} → (A → A → Type 0) → (B → B → Type 0) → And A B → And A B → Type 0
 SameAnd same alike v w = SamePair same alike (pair_in v) (pair_in w)
 
--- the first field's type is accepted, and so are the others'
+-- the type of the first field is accepted, and so are those of the others
 abbrev pub accepts_and : (Content → Bool) → (FieldsContent → Bool) → FieldsContent → Bool
 accepts_and first others NoFields = false
 accepts_and first others (FieldAnd name ty fs) = first ty && others fs
@@ -97,7 +97,7 @@ BackAnd first others (FieldAnd name ty fs) v outcome =
 
 -- ---- laws
 
--- fields that show others inside are lawful where those are
+-- fields that contain others are lawful if those are
 pub through_are_lawful : {A B : Type 0} (inside : B → A) (same : A → A → Type 0) (reads : List ℕ → Outcome A → Type 0)
     (bytes : A → Bytes) (back : A → Outcome A → Type 0) → AreLawful same reads bytes back
     → AreLawful (λ v w. same (inside v) (inside w)) (λ s. Through inside (reads s)) (λ v. bytes (inside v))
@@ -129,7 +129,7 @@ and_equivalence same alike e f = record {
   transitive = λ u v w h k. (e.transitive u.0 v.0 w.0 h.0 k.0, f.transitive u.1 v.1 w.1 h.1 k.1);
 }
 
--- fields' types are accepted in both directions where each type is
+-- the types of fields are accepted in both directions if each type is
 pub and_types : (read written : Content → Bool) (reads writes : FieldsContent → Bool)
     → ((ty : Content) → read ty ≡ written ty) → ((fs : FieldsContent) → reads fs ≡ writes fs)
     → (fs : FieldsContent) → accepts_and read reads fs ≡ accepts_and written writes fs
@@ -140,7 +140,7 @@ pub both_true : (t u : Bool) → IsTrue (t && u) → IsTrue t × IsTrue u
 both_true true u h = (refl, h)
 both_true false u h = let no : ⊥ = cc in absurd no
 
--- fields that are accepted are as many as are written
+-- the number of fields that are accepted is the number that is written
 pub no_fields_width : (fs : FieldsContent) → IsTrue (no_fields fs) → count_of fs ≡ 0
 no_fields_width NoFields ok = refl
 no_fields_width (FieldAnd name ty fs) ok = let no : ⊥ = cc in absurd no

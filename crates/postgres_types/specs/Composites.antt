@@ -1,4 +1,4 @@
--- Composite types of a name and of fields, which structs are read from and written to.
+-- Composite types with a name and fields, which structs are read from and written to.
 use Rattle.std.specs.Prelude.{◌≡◌, ◌==◌, ◌&&◌, IsTrue, ℕ, List, [], ◌∷◌, Bool, true, false}
 use Rattle.std.proofs.Common.{ap}
 use Rattle.std.specs.Cmp.Lexicographic.{pointwise}
@@ -13,7 +13,7 @@ use Rattle.postgres_types.specs.ReadingBack.{IsLawful}
 use Rattle.postgres_types.specs.Laws.Record.{AreLawful, record_lawful, record_single}
 use Rattle.postgres_types.specs.Records.{Bytes, ReadsRecord, count_of, fields_of_kind, wire_record}
 
--- a composite type's kind
+-- the kind of a composite type
 abbrev pub is_composite : KindContent → Bool
 is_composite (CompositeKind fs) = true
 is_composite _ = false
@@ -29,16 +29,16 @@ abbrev pub is_record : List ℕ → List (List ℕ) → Content → Bool
 is_record name names ty =
     is_named name ty && (is_composite (kind_of ty) && are_named names (fields_of_kind (kind_of ty)))
 
--- and these types
+-- and whose fields have these types
 abbrev pub accepts_record : List ℕ → List (List ℕ) → (FieldsContent → Bool) → Content → Bool
 accepts_record name names accepts ty = is_record name names ty && accepts (fields_of_kind (kind_of ty))
 
--- what a cell of the type reads as, by its fields; NULL is WasNull
+-- what a cell of the type reads as, by its fields; NULL gives WasNull
 abbrev pub reads_record : {A : Type 0} → (FieldsContent → List ℕ → Outcome A → Type 0) → Content → Cell → Outcome A
     → Type 0
 reads_record reads ty = ReadsRecord (count_of (fields_of_kind (kind_of ty))) (reads (fields_of_kind (kind_of ty)))
 
--- and what is written for it
+-- what is written for the type
 abbrev pub record_cell : {A : Type 0} → (FieldsContent → A → Bytes) → Content → A → Wire
 record_cell bytes ty v =
     wire_record (count_of (fields_of_kind (kind_of ty))) (bytes (fields_of_kind (kind_of ty)) v)
@@ -51,14 +51,14 @@ module _ (name : List ℕ) (names : List (List ℕ)) (accepts : FieldsContent �
       → IsTrue (accepts (fields_of_kind (kind_of ty)))
   fields_accepted ty ok = (both_true (is_record name names ty) (accepts (fields_of_kind (kind_of ty))) ok).1
 
-  -- both directions accept the same types where they accept the same fields
+  -- both directions accept the same types if they accept the same fields
   pub composite_types : (written : FieldsContent → Bool) → ((fs : FieldsContent) → accepts fs ≡ written fs)
       → (ty : Content) → accepts_record name names accepts ty ≡ accepts_record name names written ty
   composite_types written same ty =
       ap (λ t. is_record name names ty && t) (same (fields_of_kind (kind_of ty)))
 
   module _ {A : Type 0} (same : A → A → Type 0) (reads : FieldsContent → List ℕ → Outcome A → Type 0) where
-    -- a cell has one outcome where the fields' bytes have
+    -- a cell has one outcome if the bytes of the fields have
     pub composite_single : ((fs : FieldsContent) → IsTrue (accepts fs) → (s : List ℕ)
         → GivesSingle same (reads fs s)) → (ty : Content) → IsTrue (accepts_record name names accepts ty)
         → ReadsSingle same (reads_record reads ty)
@@ -66,7 +66,7 @@ module _ (name : List ℕ) (names : List (List ℕ)) (accepts : FieldsContent �
         record_single (count_of (fields_of_kind (kind_of ty))) same (reads (fields_of_kind (kind_of ty)))
         (single (fields_of_kind (kind_of ty)) (fields_accepted ty ok))
 
-    -- and records are lawful where their fields are
+    -- records are lawful if their fields are
     pub composite_lawful : (bytes : FieldsContent → A → Bytes) (back : FieldsContent → A → Outcome A → Type 0)
         → ((fs : FieldsContent) → IsTrue (accepts fs) → AreLawful same (reads fs) (bytes fs) (back fs))
         → (ty : Content) → IsTrue (accepts_record name names accepts ty)

@@ -1,11 +1,11 @@
--- What a conversion of one's own cites, in one import; operators come from the Prelude of std.
+-- What a conversion of a user's own cites, in one import; operators come from the Prelude of std.
 use Rattle.std.specs.Prelude.{◌≡◌, ℤ}
 use Rattle.std.specs.Int.{w16, w32, w64}
 use Rattle.pg_base.proofs.FormatLaws.{int2_grammar, int4_grammar, int8_grammar}
 use Rattle.pg_base.specs.Numbers.{FormSigned, ReadsSigned, first_fault_number, wire_signed}
 use Rattle.pg_read.specs.Reading.{ReadsSingle}
 use Rattle.pg_read.specs.Laws.Reading.{plain_single}
-use Rattle.postgres_types.specs.Laws.FormatBack.{signed_lawful}
+use Rattle.postgres_types.specs.Laws.NumberBack.{signed_lawful}
 use Rattle.postgres_types.specs.ReadingBack.{BackKept, IsLawful}
 pub use Rattle.std.specs.Prelude.{ℤ, Option, Some, None, Bool, codes, int_le, int_lt, negsuc, pos, refl}
 pub use Rattle.std.proofs.Common.{ap}
@@ -18,7 +18,8 @@ pub use Rattle.pg_base.proofs.SamenessLaws.{option_equivalence}
 pub use Rattle.pg_base.specs.Appending.{Wire}
 pub use Rattle.pg_base.specs.Cells.{Cell}
 pub use Rattle.pg_base.specs.Formats.{ReadsPlain}
-pub use Rattle.pg_base.specs.Numbers.{FormSigned, ReadsSigned, first_fault_number, wire_signed}
+pub use Rattle.pg_base.specs.Numbers.{FormSigned, FormUnsigned, ReadsSigned, ReadsUnsigned, first_fault_number}
+pub use Rattle.pg_base.specs.Numbers.{wire_signed, wire_unsigned}
 pub use Rattle.pg_base.specs.Sameness.{SameOption}
 pub use Rattle.pg_read.specs.OptionReading.{ReadsOption}
 pub use Rattle.pg_read.specs.Reading.{EveryCell, NullAlone, ReadsSingle}
@@ -26,7 +27,7 @@ pub use Rattle.pg_read.specs.Laws.Reading.{constrained_single, option_single, pl
 pub use Rattle.pg_read.specs.Views.{Constrained, ReadsConstrained, ReadsThrough, Through}
 pub use Rattle.pg_write.specs.OptionWriting.{wire_option}
 pub use Rattle.pg_write.specs.Writing.{wire_constrained}
-pub use Rattle.postgres_types.specs.Laws.FormatBack.{signed_finite, signed_lawful, signed_written}
+pub use Rattle.postgres_types.specs.Laws.NumberBack.{signed_finite, signed_lawful, signed_written, unsigned_lawful}
 pub use Rattle.postgres_types.specs.Laws.OptionBack.{option_lawful}
 pub use Rattle.postgres_types.specs.Laws.Plain.{plain_lawful, under_checks}
 pub use Rattle.postgres_types.specs.ReadingBack.{BackKept, BackOption, IsLawful}
@@ -48,7 +49,7 @@ int4_single = plain_single Equal (FormSigned w32) (first_fault_number 4) int4_gr
 pub int8_single : ReadsSingle Equal (ReadsSigned w64)
 int8_single = plain_single Equal (FormSigned w64) (first_fault_number 8) int8_grammar
 
--- and a number is read back as itself
+-- a number is read back as itself
 pub int2_lawful : IsLawful Equal (ReadsSigned w16) (wire_signed w16) (BackKept Equal)
 int2_lawful = signed_lawful w16 int2_grammar
 

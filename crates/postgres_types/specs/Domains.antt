@@ -8,7 +8,7 @@ abbrev pub is_domain_kind : KindContent → Bool
 is_domain_kind (DomainKind _) = true
 is_domain_kind _ = false
 
--- the underlying type of a domain of that kind; any other type stands for itself
+-- the underlying type of a domain of this kind; for any other type, the type itself
 abbrev pub underlying_of : Content → KindContent → Content
 underlying_of ty (DomainKind inner) = inner
 underlying_of ty _ = ty
@@ -21,6 +21,6 @@ underlying ty = underlying_of ty (kind_of ty)
 abbrev pub is_domain : List ℕ → Content → Bool
 is_domain name ty = is_named name ty && is_domain_kind (kind_of ty)
 
--- and its underlying type is accepted
+-- the type is such a domain, and its underlying type is accepted
 abbrev pub accepts_domain : List ℕ → (Content → Bool) → Content → Bool
 accepts_domain name accepted ty = is_domain name ty && accepted (underlying ty)

@@ -19,7 +19,7 @@ has_label labels searched = list_any (λ label. pointwise ◌==◌ label searche
 abbrev pub has_labels : List (List ℕ) → List (List ℕ) → Bool
 has_labels labels others = list_all (has_label labels) others
 
--- these can be the labels of an enumerated type: each has at most 63 bytes, and none comes twice
+-- these can be the labels of an enumerated type: each has at most 63 bytes, and none occurs twice
 abbrev pub are_labels : List (List ℕ) → Bool
 are_labels [] = true
 are_labels (label ∷ others) = nat_le (length label) 63 && (not (has_label others label) && are_labels others)
@@ -33,28 +33,28 @@ is_enum_kind labels _ = false
 abbrev pub is_enum : List ℕ → List (List ℕ) → Content → Bool
 is_enum name labels ty = is_named name ty && is_enum_kind labels (kind_of ty)
 
--- the bytes are the label at that place
+-- the bytes are the label at that index
 abbrev pub FormLabel : List (List ℕ) → List ℕ → ℕ → Type 0
 FormLabel labels b place = slice_get labels place ≡ Some b
 
--- what is no label is refused with this fault
+-- the fault of a text that is not a label
 abbrev pub no_label : Refusal
 no_label = user (codes "invalid variant")
 
--- what is no UTF-8 is Utf8, and a text that is no label is that fault
+-- bytes that are not UTF-8 are Utf8, and a text that is not a label is that fault
 abbrev pub first_fault_label : List (List ℕ) → List ℕ → Option Refusal
 first_fault_label labels b =
     first_fault_of ((has_label labels b || is_utf8 b, utf8) ∷ (has_label labels b, no_label) ∷ [])
 
--- what a cell reads as: the place of its label
+-- what a cell reads as: the index of its label
 abbrev pub ReadsLabel : List (List ℕ) → Cell → Outcome ℕ → Type 0
 ReadsLabel labels = ReadsPlain (FormLabel labels) (first_fault_label labels)
 
--- a place that has no label is refused
+-- an index without a label is refused
 abbrev pub wire_at : Option (List ℕ) → Wire
 wire_at None = Err no_label
 wire_at (Some label) = Ok (Some label)
 
--- what the value at a place is written as: its label
+-- what the value at an index is written as: its label
 abbrev pub wire_label : List (List ℕ) → ℕ → Wire
 wire_label labels place = wire_at (slice_get labels place)

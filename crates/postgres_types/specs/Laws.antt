@@ -1,16 +1,21 @@
--- Lemmas that the sources cite; what they say is proved, so that none need be trusted.
+-- Lemmas that the sources cite. Their statements are proved, so none of them has to be trusted.
 pub mod ArrayBack
 pub mod Back
+pub mod BitBack
 pub mod BoxBack
 pub mod Domain
 pub mod Enum
-pub mod FormatBack
+pub mod FixedBytesBack
 pub mod HstoreBack
+pub mod IntervalBack
+pub mod NetworkBack
+pub mod NumberBack
 pub mod OptionBack
 pub mod Plain
 pub mod Record
 pub mod RelatedList
 pub mod SpecialBack
+pub mod TextBack
 pub mod TimestampBack
 pub mod ViewBack
 pub mod WrittenArray

@@ -1,4 +1,4 @@
--- The words of reading and writing together, and those of the layers below.
+-- Definitions of reading and writing together, and those of the layers below.
 pub mod CompositeFields
 pub mod Composites
 pub mod Conversion

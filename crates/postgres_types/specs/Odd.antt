@@ -11,7 +11,7 @@ use Rattle.postgres_types.specs.Laws.Plain.{under_checks}
 use Rattle.postgres_types.specs.declared.odd.Gap.{Gap}
 use Rattle.postgres_types.specs.declared.odd.Gap.TheVariants.{Hole, Full}
 
--- Short: any other length than 4 is the fault of the text "width"
+-- Short: any other length than 4 is User with the text "width"
 abbrev pub first_fault_short : List ℕ → Option Refusal
 first_fault_short b = first_fault_of ((length b == 4, user (codes "width")) ∷ [])
 

@@ -1,4 +1,4 @@
--- Reading back: what a type's reading and its writing have to do with each other.
+-- Reading back: how the reading and the writing of a type agree.
 use Rattle.std.specs.Prelude.{◌≡◌, ◌++◌, ℕ, List, Option, Some, None, Result, Ok, Err}
 use Rattle.std.specs.Int.{Width}
 use Rattle.pg_types.specs.declared.fault.Fault.{Fault}
@@ -26,9 +26,10 @@ WrittenAsBytes reads v (Ok None) = ⊥
 WrittenAsBytes reads v (Ok (Some b)) = reads (Some b) (Ok v)
 WrittenAsBytes reads v (Err r) = Unit {0}
 
--- Reading, writing and what a written value is read back as belong together: the same values are written as the same
--- and read back as the same; what bytes give is written as bytes that read as it, and what NULL gives as a cell that
--- reads as it, or either is refused; and the cell that a value is written as reads as what the value is read back as.
+-- Reading, writing and what a written value is read back as agree: values with the same content are written and read
+-- back the same; a value that bytes give is written as bytes that read as it, and a value that NULL gives as a cell
+-- that reads as it, unless either is refused; and the cell that a value is written as reads as what the value is read
+-- back as.
 pub record IsLawful {A : Type 0} (same : A → A → Type 0) (reads : Cell → Outcome A → Type 0) (wire : A → Wire)
     (back : A → Outcome A → Type 0) : Type 0 where
   pub same_wire : (v w : A) → same v w → wire v ≡ wire w
@@ -44,20 +45,20 @@ WrittenFinite w (Ok None) = ⊥
 WrittenFinite w (Ok (Some b)) = IsFiniteCell w b
 WrittenFinite w (Err r) = Unit {0}
 
--- what finite bytes of that width give is written as such bytes, or refused
+-- a value that finite bytes of that width give is written as such bytes, or refused
 abbrev pub KeepsFinite : {A : Type 0} → Width → (Cell → Outcome A → Type 0) → (A → Wire) → Type 0
 KeepsFinite {A} w reads wire = (b : List ℕ) (v : A) → IsFiniteCell w b → reads (Some b) (Ok v)
     → WrittenFinite w (wire v)
 
 -- ---- what a written value is read back as, by the shape of the value
 
--- a plain value: one that holds what is kept of the written value, which is all of it but for timestamps, which are
+-- a plain value: one that has what is kept of the written value, which is all of it, except for timestamps, which are
 -- truncated
 abbrev pub BackKept : {A : Type 0} → (A → A → Type 0) → A → Outcome A → Type 0
 BackKept kept v (Ok w) = kept v w
 BackKept kept v (Err r) = ⊥
 
--- P where the value is written as NULL, and otherwise Q
+-- P if the value is written as NULL, and otherwise Q
 abbrev pub IfNull : Wire → Type 0 → Type 0 → Type 0
 IfNull (Ok None) P Q = P
 IfNull (Ok (Some b)) P Q = Q
@@ -69,17 +70,17 @@ InSome back (Ok None) = ⊥
 InSome back (Ok (Some v)) = back (Ok v)
 InSome back (Err r) = back (Err r)
 
--- None as None; Some as None where the value inside is written as NULL, and otherwise as Some of what that is read
+-- None as None; Some as None if the value inside is written as NULL, and otherwise as Some of what that value is read
 -- back as
 abbrev pub BackOption : {A : Type 0} → (A → Wire) → (A → Outcome A → Type 0) → Option A → Outcome (Option A) → Type 0
 BackOption wire back None outcome = IsNoneOutcome outcome
 BackOption wire back (Some v) outcome = IfNull (wire v) (IsNoneOutcome outcome) (InSome (back v) outcome)
 
--- WasNull where the value is written as NULL, and otherwise what it is read back as
+-- WasNull if the value is written as NULL, and otherwise what it is read back as
 abbrev pub BackNotNull : {A : Type 0} → (A → Wire) → (A → Outcome A → Type 0) → A → Outcome A → Type 0
 BackNotNull wire back v outcome = IfNull (wire v) (IsWasNull outcome) (back v outcome)
 
--- a box of that of the value inside
+-- a box of what the value inside is read back as
 abbrev pub BackBox : {A B : Type 0} → (B → A) → (A → Wire) → (A → Outcome A → Type 0) → B → Outcome B → Type 0
 BackBox inside wire back v = Through inside (BackNotNull wire back (inside v))
 
@@ -99,9 +100,9 @@ abbrev pub InValue : {A B : Type 0} → (B → Special A) → (Outcome A → Typ
 InValue view back (Ok s) = OfValue (λ v. back (Ok v)) (view s)
 InValue view back (Err r) = back (Err r)
 
--- what a value is read back as: as its cell is read, where what the value inside is read back as stands for its
--- reading. So it is WasNull where the cell is NULL, Size where it has another width, the infinity where it is one's,
--- and otherwise Value of what the value inside is read back as, or its fault
+-- what a value is read back as: its cell is read, and the value inside is what that one is read back as. So the outcome
+-- is WasNull if the cell is NULL, Size if it has another width, the infinity if it is the cell of one, and otherwise
+-- Value of what the value inside is read back as, or its fault
 abbrev pub BackValue : {A B : Type 0} → Width → (B → Special A) → Wire → (Outcome A → Type 0) → Outcome B → Type 0
 BackValue w view (Ok c) back outcome = ReadsSpecial w view (λ _. back) c outcome
 BackValue w view (Err r) back outcome = InValue view back outcome
@@ -113,7 +114,7 @@ BackSpecial w view wire back pos_infinity outcome = IsInfinityOutcome view pos_i
 BackSpecial w view wire back neg_infinity outcome = IsInfinityOutcome view neg_infinity outcome
 BackSpecial w view wire back (value v) outcome = BackValue w view (wire v) (back v) outcome
 
--- the list of what its elements are read back as, or the first refusal among them
+-- the list of what its elements are read back as, or the first fault among them
 abbrev pub BackList : {A X : Type 0} → (X → List A) → (A → Outcome A → Type 0) → X → Outcome X → Type 0
 BackList items back x (Ok y) = ReadsAll back (items x) (Ok (items y))
 BackList items back x (Err r) = ReadsAll back (items x) (Err r)

@@ -1,4 +1,4 @@
--- What rewriting a cell answers.
+-- The result of rewriting a cell.
 use Rattle.std.specs.Prelude.{◌≡◌, ℕ, List, Result, Ok, Err, IfSome, ◌⊎◌}
 use Rattle.pg_types.specs.declared.fault.Fault.{Fault}
 use Rattle.pg_types.specs.declared.format.IsNull.{IsNull}
@@ -19,7 +19,7 @@ Rewrites {A} reads wire c old new (Err f) =
 abbrev pub IsCellOf : {A : Type 0} → (Cell → Outcome A → Type 0) → (A → Wire) → A → Cell → Type 0
 IsCellOf reads wire v c = (wire v ≡ Ok c) × reads c (Ok v)
 
--- where the cell is rewritten it is given again, or memory runs out
+-- rewriting the cell gives it again, or memory runs out
 abbrev pub IsRewrittenAsItself : {A : Type 0} → (Cell → Outcome A → Type 0) → (A → Wire) → Cell → Type 0
 IsRewrittenAsItself reads wire c =
     (old new : List ℕ) (result : Result IsNull Fault) → Rewrites reads wire c old new result

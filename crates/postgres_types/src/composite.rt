@@ -1,12 +1,13 @@
 //! Composite types, whose cells are records.
 //!
-//! A record's cell, as `record_recv` and `record_send` lay it out, is the number of the fields in 4
-//! bytes and then, of each field in its order, the OID of its type in 4 bytes and the frame of its
-//! cell: a length in 4 bytes, -1 for NULL, and that many bytes. The numbers are big-endian.
+//! The cell of a record, as `record_recv` and `record_send` lay it out, has the number of the
+//! fields in 4 bytes and then, for each field in order, the OID of its type in 4 bytes and the
+//! frame of its cell: a length in 4 bytes, -1 for NULL, and as many bytes. The numbers are
+//! big-endian.
 //!
-//! A struct whose fields are those of a composite type implements [`Record`], and [`Composite`]
-//! around it is read and written, with nothing to prove. The calls that this is made of, such as
-//! [`read_field`], serve a conversion that is written by hand.
+//! A struct whose fields are those of a composite type implements [`Record`]; then [`Composite`]
+//! around it is read and written, and nothing has to be proved. A conversion that is written by
+//! hand can call the functions that this is made of, such as [`read_field`].
 
 mod and4;
 mod and8;
@@ -23,9 +24,9 @@ pub use reading::{fields_of, read_end, read_field, read_field_count};
 pub use record::{Composite, Record, is_record};
 pub use writing::{field_count_to_sql, field_to_sql};
 
-/// Fields in a row, by their names: `row!(name, price)` is `And(name, And(price, End))`, and
-/// `row!(self => name, price)` is `And(&self.name, And(&self.price, End))`. Each eight fields are an
-/// `And8`, then four an `And4`, and those that are left an `And` each.
+/// The fields of a row, by their names: `row!(name, price)` is `And(name, And(price, End))`, and
+/// `row!(self => name, price)` is `And(&self.name, And(&self.price, End))`. Of more fields, each
+/// eight are an `And8`, then four an `And4`, and each of the rest an `And`.
 #[macro_export]
 macro_rules! row {
     () => { $crate::composite::End };
@@ -55,7 +56,7 @@ macro_rules! row {
     };
 }
 
-/// The struct of the fields of a row: `from_row!(row => Item { name, price })` is
+/// Builds a struct from a row of its fields: `from_row!(row => Item { name, price })` is
 /// `let And(name, And(price, End)) = row; Item { name, price }`.
 #[macro_export]
 macro_rules! from_row {

@@ -26,11 +26,11 @@ use std::fmt;
 
 pub mod laws;
 
-/// An enumeration whose members are the labels of an enumerated type.
+/// An enumeration whose variants are the labels of an enumerated type.
 ///
-/// [`Enum`] around it is read and written. The enumeration says what the type and its labels are
-/// called, and which of its members is at which place among them; that it is read, written and
-/// read back as it should be follows from that.
+/// [`Enum`] around the enumeration is read and written. An implementation gives the name of the
+/// type, its labels, and which variant belongs to which label. That the enumeration is read,
+/// written and read back correctly follows from that.
 pub trait EnumType: Copy + fmt::Debug {
     /// The name of the enumerated type, without its schema.
     ghost type_name: { List ℕ };
@@ -38,26 +38,26 @@ pub trait EnumType: Copy + fmt::Debug {
     /// The labels.
     ghost labels: { List (List ℕ) };
 
-    /// The members, in the order of their labels.
+    /// The variants, in the order of their labels.
     ghost members: { List Self };
 
-    /// The place of a member's label among the labels.
+    /// The index of the label of a variant.
     ghost place: { Self → ℕ };
 
-    /// The name of the enumerated type, without its schema, byte for byte: at most 64 bytes. SQL makes a
-    /// name that is not quoted one of lower case.
+    /// Returns the name of the enumerated type, without its schema, byte for byte, at most 64 bytes
+    /// long. SQL folds a name that is not quoted to lower case.
     fn name() -> &'static str
         ensures { result.now ≡ type_name };
 
-    /// The labels, in the order of the places.
+    /// Returns the labels, in the order of their indices.
     fn labels() -> &'static [&'static str]
         ensures { map (λ label. label.now) result.now ≡ labels };
 
-    /// The place of the member's label among the labels, from 0.
+    /// Returns the index of the label of the variant, counted from 0.
     fn place(self) -> usize
         ensures { (result ≡ place self) × (result < length labels) };
 
-    /// The member whose label is at that place.
+    /// Returns the variant whose label is at that index.
     fn at(index: usize) -> Self
         requires { index < length labels }
         ensures { place result ≡ index };
@@ -65,21 +65,22 @@ pub trait EnumType: Copy + fmt::Debug {
     /// Law: the name is short enough for a `WrongType`.
     ghost short: { IsTrue (nat_le (length type_name) 64) };
 
-    /// Law: each label has at most 63 bytes, and none comes twice.
+    /// Law: each label has at most 63 bytes, and no label occurs twice.
     ghost proper: { IsTrue (are_labels labels) };
 
-    /// Law: each member stands among the members at its place.
+    /// Law: `members` has each variant at the index of its label.
     ghost placed: { (v : Self) → slice_get members (place v) ≡ Some v };
 }
 
-/// The value of an enumerated type that is a member of an enumeration.
+/// A value of an enumerated type, as a variant of an enumeration.
 ///
-/// It accepts an enumerated type of the enumeration's name, whatever its schema, whose labels are
-/// the enumeration's in any order. Its cell is the label's text, as `enum_recv` and `enum_send` lay
-/// it out. Reading takes no memory. NULL is `WasNull`; in a `WrongType` its name is the type's.
+/// It accepts an enumerated type that has the name of the enumeration, whatever its schema, and the
+/// same labels, in any order. Its cell is the text of the label (`enum_recv`, `enum_send`). Reading
+/// does not allocate. NULL is refused with `WasNull`. A `WrongType` has the name of the enumerated
+/// type.
 ///
-/// In reading, bytes that are not UTF-8 are `Utf8`, and a text that is no label is the fault `User`
-/// with the text `invalid variant`.
+/// In reading, bytes that are not UTF-8 are refused with `Utf8`, and a text that is not a label
+/// with `User` and the text `invalid variant`.
 #[derive(Debug, Clone, Copy, PartialEq, Eq)]
 pub struct Enum<T>(pub T);
 
@@ -90,7 +91,7 @@ fn has_label(labels: &[String], label: &str) -> bool
     labels.iter().any(|other| other.as_str() == label)
 }
 
-/// Whether all of the others are among the labels.
+/// Whether all the others are among the labels.
 fn has_labels(labels: &[String], others: &[&str]) -> bool
     ensures { result ≡ has_labels (map string_bytes labels.now) (map (λ label. label.now) others.now) }
 {
@@ -107,7 +108,7 @@ fn is_enum_kind(labels: &[&str], kind: &KindRef<'_>) -> bool
     }
 }
 
-/// Whether the type has that name, whatever its schema, and is an enumerated type with these
+/// Whether the type has this name, whatever its schema, and is an enumerated type with these
 /// labels, in any order.
 pub fn is_enum(name: &str, labels: &[&str], ty: &PgType) -> bool
     ensures { result ≡ is_enum name.now (map (λ label. label.now) labels.now) (content ty.now) }
@@ -115,7 +116,7 @@ pub fn is_enum(name: &str, labels: &[&str], ty: &PgType) -> bool
     ty.name() == name && is_enum_kind(labels, &ty.kind())
 }
 
-/// The place of the label that the bytes are, or `None` where they are none.
+/// Returns the index of the label that the bytes are, or `None` if they are not a label.
 fn place_of(labels: &[&str], bytes: &[u8]) -> Option<usize>
     ensures found { IfSome result (λ place. (place < length labels.now)
         × (slice_get (map (λ label. label.now) labels.now) place ≡ Some bytes.now)) }
@@ -195,7 +196,7 @@ impl<T: EnumType> ToSql for Enum<T> {
     }
 }
 
-/// Members are read back as themselves.
+/// Variants are read back as themselves.
 impl<'a, T: EnumType> Paired<'a> for Enum<T> {
     ghost use Rattle.std.specs.Prelude.{refl};
 

@@ -1,8 +1,8 @@
 //! Typed values and PostgreSQL binary cells.
 //!
-//! A type and a cell go in and a value comes out ([`FromSql`]); a type and a value go in and a cell
-//! is appended to a buffer ([`ToSql`]). A cell is NULL or a list of bytes, in the binary formats of
-//! PostgreSQL's send and receive functions.
+//! [`FromSql`] reads a value from a Postgres type and a cell; [`ToSql`] appends the cell of a value
+//! to a buffer. A cell is NULL or a list of bytes, in the binary format of PostgreSQL's send and
+//! receive functions.
 #![tactic(auto)]
 
 pub mod composite;

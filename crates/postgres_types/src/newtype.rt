@@ -1,7 +1,8 @@
 //! Newtypes: structs around a value of another type.
 //!
-//! A struct implements [`Newtype`], and [`FromNewtype`] where it is read; then [`Domain`] around it is the value of a
-//! domain of its name, and [`Transparent`] around it is a value of the type inside, under a name of its own.
+//! A struct implements [`Newtype`], and [`FromNewtype`] if it is read. Then [`Domain`] around it is
+//! a value of the domain of its name, and [`Transparent`] around it is read and written as the
+//! value inside.
 ghost use Rattle.std.specs.Prelude.{◌≡◌, ℕ, Bool, IfErr, IfOk, IsTrue, List, Some, codes, false, length, nat_le, true};
 ghost use Rattle.pg_types.specs.Faults.{Refusal, refusal_of, user};
 
@@ -19,9 +20,9 @@ pub use transparent::Transparent;
 
 /// A struct around a value of another type.
 ///
-/// It says what it is called, which value is inside, and which values its constraint admits. That
-/// [`Domain`] and [`Transparent`] around it are read, written and read back as they should be follows
-/// from the type of the value inside.
+/// An implementation gives the name, the value inside, and the values that its constraint admits.
+/// That [`Domain`] and [`Transparent`] around the struct are read, written and read back correctly
+/// follows from the type of the value inside.
 pub trait Newtype: Sized + fmt::Debug + Drop {
     /// The type of the value inside.
     type Inner: ToSql;
@@ -29,30 +30,31 @@ pub trait Newtype: Sized + fmt::Debug + Drop {
     /// The name of the domain, without its schema.
     ghost type_name: { List ℕ };
 
-    /// The value inside.
+    /// Returns the value inside.
     ghost inside: { Self → Self.Inner };
 
-    /// The value meets the constraint. A struct that says nothing admits every value.
+    /// The value meets the constraint. By default every value does.
     ghost meets: { Self.Inner → Bool } = { λ _. true };
 
-    /// The fault of a value that does not.
+    /// The fault of a value that does not meet the constraint.
     ghost unmet: { Refusal } = { user (codes "constraint") };
 
-    /// The name of the domain, without its schema, byte for byte, and that of the Rust type in a
-    /// `WrongType`: at most 64 bytes. SQL makes a name that is not quoted one of lower case.
+    /// Returns the name of the domain, without its schema, which is also the name of the Rust type
+    /// in a `WrongType`: byte for byte, at most 64 bytes long. SQL folds a name that is not quoted
+    /// to lower case.
     fn name() -> &'static str
         ensures { result.now ≡ type_name };
 
-    /// The struct with that value inside.
+    /// Creates the struct from the value inside.
     fn new(inner: Self::Inner) -> Self
         ensures { inside result ≡ inner };
 
-    /// The value inside.
+    /// Returns the value inside.
     fn inner(&self) -> &Self::Inner
         ensures { result.now ≡ inside self.now };
 
-    /// Ok where the value meets the constraint, and else a fault, as `User` with a text. A struct whose
-    /// constraint is the server's to check answers Ok.
+    /// Returns `Ok` if the value meets the constraint, and otherwise a fault, such as `User` with a
+    /// text. A struct that leaves its constraint to the server returns `Ok`.
     fn check(inner: &Self::Inner) -> Result<(), Fault>
         ensures met { IfOk result (λ _. meets inner.now ≡ true) }
         ensures unmet { IfErr result (λ f. (meets inner.now ≡ false) × (refusal_of f ≡ Some unmet)) };
@@ -64,13 +66,13 @@ pub trait Newtype: Sized + fmt::Debug + Drop {
     ghost injective: { (v w : Self) → inside v ≡ inside w → v ≡ w };
 }
 
-/// A struct around a value of another type, which is read.
+/// A newtype that is read.
 ///
-/// It has no function of its own.
+/// It has no functions.
 pub trait FromNewtype<'a>: Newtype
 where
     Self::Inner: FromSql<'a>,
 {
-    /// Law: values with the same content meet the constraint alike.
+    /// Law: of two values with the same content, both meet the constraint, or neither does.
     ghost respects: { (v w : Self.Inner) → Self.Inner.same v w → Self.meets v ≡ Self.meets w };
 }

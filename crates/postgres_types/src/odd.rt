@@ -1,5 +1,5 @@
-//! Conversions with rules of their own, as a user may write them: a width of its own, a value for NULL, a timestamp
-//! as a number, and a refusal in writing.
+//! Conversions with unusual rules, as a user may write them: another length, a value for NULL, a
+//! timestamp as a number, and a refusal in writing.
 ghost use Rattle.std.specs.Prelude.{◌≡◌};
 ghost use Rattle.postgres_types.specs.Conversion.{BackKept, BackOption, Equal, EveryCell, FormSigned, Int4};
 ghost use Rattle.postgres_types.specs.Conversion.{ReadsOption, ReadsPlain, ReadsSigned, ReadsThrough, SameOption};
@@ -24,8 +24,8 @@ use pg_read::from_sql::FromSql;
 use pg_write::to_sql::{ToSql, check_type};
 use std::alloc::Global;
 
-/// A TIMESTAMP of 4 bytes, which no server sends: an integer, big-endian, in two's complement. Any other length is
-/// the fault `User` with the text `width`, and NULL is `WasNull`.
+/// A TIMESTAMP of 4 bytes, which no server sends: an integer, big-endian, in two's complement. Any
+/// other length is refused with `User` and the text `width`, and NULL with `WasNull`.
 #[derive(Debug, Clone, Copy, PartialEq, Eq)]
 pub struct Short(pub i32);
 
@@ -59,7 +59,7 @@ impl<'a> FromSql<'a> for Short {
     }
 }
 
-/// Appends the 4 bytes.
+/// Writes the number in 4 bytes, big-endian.
 impl ToSql for Short {
     ghost accepted = { is_row Timestamp };
 
@@ -93,7 +93,7 @@ impl ToSql for Short {
     }
 }
 
-/// Read back as itself.
+/// A value is read back as itself.
 impl<'a> Paired<'a> for Short {
     ghost back = { λ _ v. Through (λ w. w.0) (BackKept Equal v.0) };
 
@@ -105,7 +105,7 @@ impl<'a> Paired<'a> for Short {
         (signed_written w32)) };
 }
 
-/// What is read from a finite cell is written as that cell.
+/// A value that is read from a cell that is not an infinity is written as that cell.
 impl<'a> Finite<'a> for Short {
     ghost dates = { λ _ _ _ b v. signed_finite w32 w32 b v.0 };
 
@@ -121,7 +121,8 @@ pub enum Gap {
     Full(i32),
 }
 
-/// NULL is `Hole`, and 4 bytes are `Full` of the number. Any other length is `Size`, that of an empty cell too.
+/// Reads NULL as `Hole`, and 4 bytes as `Full` of their number. Any other length is refused with
+/// `Size`, also that of an empty cell.
 impl<'a> FromSql<'a> for Gap {
     ghost same = { λ v w. SameOption Equal (gap_view v) (gap_view w) };
 
@@ -149,7 +150,7 @@ impl<'a> FromSql<'a> for Gap {
     }
 }
 
-/// `Hole` is written as NULL, and `Full` as the 4 bytes of its number.
+/// Writes `Hole` as NULL, and `Full` as the 4 bytes of its number.
 impl ToSql for Gap {
     ghost accepted = { is_row Int4 };
 
@@ -188,7 +189,7 @@ impl ToSql for Gap {
     }
 }
 
-/// Read back as itself.
+/// A value is read back as itself.
 impl<'a> Paired<'a> for Gap {
     ghost back = { λ _ v. Through gap_view (BackOption (wire_signed w32) (BackKept Equal) (gap_view v)) };
 
@@ -199,8 +200,9 @@ impl<'a> Paired<'a> for Gap {
         (option_lawful Equal (ReadsSigned w32) (wire_signed w32) (BackKept Equal) int4_lawful) };
 }
 
-/// A TIMESTAMP as its number of microseconds since 2000-01-01, the infinities' numbers among them: 8 bytes,
-/// big-endian, in two's complement. Any other length is `Size`, and NULL is `WasNull`.
+/// A TIMESTAMP as its number of microseconds from 2000-01-01 00:00:00, also if it is an infinity: 8
+/// bytes, big-endian, in two's complement. Any other length is refused with `Size`, and NULL with
+/// `WasNull`.
 #[derive(Debug, Clone, Copy, PartialEq, Eq)]
 pub struct Moment(pub i64);
 
@@ -230,7 +232,7 @@ impl<'a> FromSql<'a> for Moment {
     }
 }
 
-/// Appends the 8 bytes.
+/// Writes the number in 8 bytes, big-endian.
 impl ToSql for Moment {
     ghost accepted = { is_row Timestamp };
 
@@ -264,7 +266,7 @@ impl ToSql for Moment {
     }
 }
 
-/// Read back as itself.
+/// A value is read back as itself.
 impl<'a> Paired<'a> for Moment {
     ghost back = { λ _ v. Through (λ w. w.0) (BackKept Equal v.0) };
 
@@ -274,7 +276,7 @@ impl<'a> Paired<'a> for Moment {
         (BackKept Equal) int8_lawful };
 }
 
-/// What is read from a finite cell is written as that cell.
+/// A value that is read from a cell that is not an infinity is written as that cell.
 impl<'a> Finite<'a> for Moment {
     ghost dates = { λ _ _ _. through_finite (λ v. v.0) (ReadsSigned w64) w32 (wire_signed w64)
         (signed_finite w32 w64) };
@@ -283,11 +285,11 @@ impl<'a> Finite<'a> for Moment {
         (signed_finite w64 w64) };
 }
 
-/// An INT4, of which even numbers are written and any is read.
+/// An INT4. Every number is read, and only even numbers are written.
 #[derive(Debug, Clone, Copy, PartialEq, Eq)]
 pub struct Picky(pub i32);
 
-/// Read as `i32` is.
+/// Reads INT4 as `i32` does.
 impl<'a> FromSql<'a> for Picky {
     ghost same = { λ v w. v.0 ≡ w.0 };
 
@@ -314,7 +316,7 @@ impl<'a> FromSql<'a> for Picky {
     }
 }
 
-/// An even number is written as its 4 bytes, and an odd one is the fault `User` with the text `odd`.
+/// Writes an even number as its 4 bytes; an odd one is refused with `User` and the text `odd`.
 impl ToSql for Picky {
     ghost accepted = { is_row Int4 };
 
@@ -351,7 +353,7 @@ impl ToSql for Picky {
     }
 }
 
-/// What is written is read back as itself.
+/// A value that is written is read back as itself.
 impl<'a> Paired<'a> for Picky {
     ghost back = { λ _ v. Through (λ w. w.0) (BackKept Equal v.0) };
 

@@ -1,4 +1,4 @@
-//! Types that are read back as they are written.
+//! Types whose values are read back as they were written.
 ghost use Rattle.std.specs.Prelude.{◌≡◌, IsTrue};
 ghost use Rattle.std.specs.Int.{w32, w64};
 ghost use Rattle.pg_types.specs.declared.types.built_in.BuiltIn.TheVariants.{Date as DateRow};
@@ -26,10 +26,11 @@ mod uuids;
 use pg_read::from_sql::FromSql;
 use pg_write::to_sql::ToSql;
 
-/// A type whose values are read back as they were written: as themselves, or as what its law says.
+/// A type whose values are read back as they were written: as themselves, or as its ghost member
+/// `back` says.
 ///
-/// It has no function of its own. An implementation says by its ghost member `back` what a written
-/// value is read back as, and proves the laws.
+/// It has no functions. An implementation says by `back` what a written value is read back as, and
+/// proves the laws.
 pub trait Paired<'a>: FromSql<'a> + ToSql {
     /// What the cell of a written value is read back as.
     ghost back: { Content → Self → Outcome Self → Type 0 };
@@ -37,25 +38,26 @@ pub trait Paired<'a>: FromSql<'a> + ToSql {
     /// Law: both directions accept the same types.
     ghost types: { (ty : Content) → Self.FromSql.accepted ty ≡ Self.ToSql.accepted ty };
 
-    /// Law: same values are written and read back the same; what bytes give is written as bytes
-    /// that read as it, and what NULL gives as a cell that reads as it, or is refused; and the cell
-    /// of a written value reads as what the value is read back as, and as nothing else.
+    /// Law: values with the same content are written and read back the same. A value that bytes
+    /// give is written as bytes that read as it, and a value that NULL gives as a cell that reads
+    /// as it, unless writing refuses it. The cell of a written value reads as what the value is
+    /// read back as, and as nothing else.
     ghost lawful: { (ty : Content) → IsTrue (Self.FromSql.accepted ty)
         → IsLawful Self.same (Self.reads ty) (Self.wire ty) (back ty) };
 }
 
-/// A type whose values, where they come from a date or a timestamp, are never written as an
+/// A type whose values, if they are read from a finite date or timestamp, are never written as an
 /// infinity.
 ///
-/// It has no function of its own. `Date<T>` and `Timestamp<T>` are [`Paired`] over such a `T`.
+/// It has no functions. `Date<T>` and `Timestamp<T>` are [`Paired`] for such a `T`.
 pub trait Finite<'a>: Paired<'a> {
-    /// Law: what is read from a DATE of 4 bytes that is no infinity is written as such a cell, or
-    /// refused.
+    /// Law: a value that is read from a DATE of 4 bytes that is not an infinity is written as such
+    /// a cell, or refused.
     ghost dates: { (ty : Content) → IsTrue (is_row DateRow ty) → IsTrue (Self.FromSql.accepted ty)
         → KeepsFinite w32 (Self.reads ty) (Self.wire ty) };
 
-    /// Law: what is read from a TIMESTAMP or a TIMESTAMPTZ of 8 bytes that is no infinity is
-    /// written as such a cell, or refused.
+    /// Law: a value that is read from a TIMESTAMP or a TIMESTAMPTZ of 8 bytes that is not an
+    /// infinity is written as such a cell, or refused.
     ghost timestamps: { (ty : Content) → IsTrue (accepts_timestamps ty) → IsTrue (Self.FromSql.accepted ty)
         → KeepsFinite w64 (Self.reads ty) (Self.wire ty) };
 }

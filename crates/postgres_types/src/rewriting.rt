@@ -17,11 +17,11 @@ use pg_read::from_sql::{FromSql, from_sql_nullable};
 use pg_write::to_sql::{ToSql, wrong_type};
 use std::alloc::Global;
 
-/// Reads the cell, of which `None` is NULL, as a `T`, and appends the value's cell.
+/// Reads the cell (`None` is NULL) as a `T`, and appends the cell of the value.
 ///
-/// It answers `WrongType` with the name `rewrite` where `T` does not accept the type, then the
-/// reading's fault, then the writing's. Every refusal leaves the buffer as it was. The cell that it
-/// makes is read as the value that was read, and is rewritten as itself.
+/// It fails with `WrongType` and the name `rewrite` if `T` does not accept the type, and then with
+/// the fault of reading or of writing. An error leaves the buffer's bytes as they were. The cell
+/// that it appends is read as the same value, and rewriting it gives the same cell.
 pub fn rewrite<'a, T: Paired<'a>>(
     alloc: Global,
     ty: &PgType,

@@ -1,3 +1,3 @@
--- The words of lines and their answers.
+-- Definitions of lines and their answers.
 pub mod Answers
 pub mod Lines

@@ -6,7 +6,7 @@ use Rattle.std.specs.List.{AllByRecursion}
 abbrev pub Lacks : ℕ → List ℕ → Type 0
 Lacks separator = AllByRecursion (λ byte. (byte == separator) ≡ false)
 
--- a byte before the first line
+-- a byte put before the first line
 abbrev pub onto : ℕ → List (List ℕ) → List (List ℕ)
 onto x [] = (x ∷ []) ∷ []
 onto x (line ∷ lines) = (x ∷ line) ∷ lines

@@ -1,4 +1,4 @@
-//! Streams: their blocks, and their lines, each of which is answered.
+//! Streams of lines: reading them in blocks, and writing an answer to each line.
 #![tactic(auto)]
 
 pub mod blocks;

@@ -1,7 +1,7 @@
-//! Answers the lines of a reader, and writes the answers to a writer.
+//! Answers each line of a reader, and writes the answers to a writer.
 //!
-//! The input is read in blocks. What the lines that end in a block are answered is written before
-//! the next block is read, so that no more is held than the longest line and one block's answers.
+//! The input is read in blocks. The answers to the lines that end in a block are written before the
+//! next block is read, so memory holds no more than the longest line and the answers of one block.
 
 ghost use Rattle.std.specs.Prelude.{alloc_error, ◌≡◌, ◌≢◌, ℕ, List, [], ◌∷◌, ◌++◌, ◌⊎◌, OnOk, OnErr, IfErr};
 ghost use Rattle.streams.specs.Answers.{Answering, Saying, Within, GainsAnswers, WritesAnswers, EndsBy};
@@ -15,19 +15,20 @@ use bytes::BytesMut;
 use std::alloc::{AllocError, Global};
 use std::io::{Read, Write};
 
-/// What answers lines.
+/// A type that answers lines.
 pub trait AnswerLine {
-    /// Why a line is refused. Refused memory is such a fault too.
+    /// Why a line is refused; running out of memory is such a fault too.
     type Fault: From<AllocError> + Drop;
 
-    /// The text answers the line.
+    /// The text is an answer to the line.
     ghost answers: { Self → Answering };
 
-    /// The line is refused by the fault.
+    /// The line is refused with the fault.
     ghost refuses: { Self → Saying Self.Fault };
 
-    /// Appends the answer to a line, with all that stands after it. Where the line is refused, what
-    /// is pending stays as it was. What answers a line and what refuses it is the same after it.
+    /// Appends the answer to a line, with its line end, to `pending`. If the line is refused,
+    /// `pending` keeps its bytes. Afterwards, every line has the same answers and the same refusals
+    /// as before.
     fn answer(
         &mut self,
         alloc: Global,
@@ -42,22 +43,22 @@ pub trait AnswerLine {
         ensures same_refusals { Within (refuses self.new) (refuses self.old) };
 }
 
-/// Why a run stopped before each line was answered.
+/// Why a run stopped before every line was answered.
 #[derive(Debug, Drop)]
 pub enum RunFault<F> {
     /// The reader failed.
     Read,
-    /// The writer failed, or took nothing.
+    /// The writer failed, or wrote no byte.
     Write,
-    /// A line was refused, or memory for it.
+    /// A line was refused, or memory ran out.
     Refused(F),
 }
 
 /// Answers each line of the input.
 ///
-/// A read or a write that was interrupted is tried again. After any fault but that of a write,
-/// whole answers to some first lines are written, after a refusal those to the lines before the
-/// refused one; after that of a write, a beginning of them. The writer is not flushed.
+/// A read or a write that was interrupted is retried. After a failed read, the complete answers to
+/// some first lines are written; after a refusal, those to the lines before the refused one. After
+/// a failed write, a prefix of the answers is written. The writer is not flushed.
 pub fn answer_lines<A: AnswerLine, R: Read, W: Write>(
     alloc: Global,
     answerer: &mut A,
@@ -87,7 +88,7 @@ pub fn answer_lines<A: AnswerLine, R: Read, W: Write>(
             return finish(alloc, answerer, line.as_slice(), &mut pending, output);
         }
         let taken = take_block(alloc, answerer, &block[..n], &mut line, &mut pending);
-        // The lines before the one that is refused are still answered.
+        // The lines before the refused one are still answered.
         if write_whole(output, pending.as_slice()).is_err() {
             return Err(RunFault::Write);
         }
@@ -127,7 +128,7 @@ fn take_block<A: AnswerLine>(
     Ok(line.extend_from_slice(rest)?)
 }
 
-/// Answers the line whose last bytes these are, and forgets what was there of it.
+/// Answers the line that ends in these bytes, and clears the part of it that was kept.
 fn end_line<A: AnswerLine>(
     alloc: Global,
     answerer: &mut A,
@@ -144,7 +145,7 @@ fn end_line<A: AnswerLine>(
     ensures same_answers { Within (A.answers answerer.new) (A.answers answerer.old) }
     ensures same_refusals { Within (A.refuses answerer.new) (A.refuses answerer.old) }
 {
-    // A line that lies whole in a block is answered where it lies.
+    // A line that is complete in a block is answered without copying it.
     if line.is_empty() {
         return answerer.answer(alloc, last, pending);
     }
@@ -154,7 +155,7 @@ fn end_line<A: AnswerLine>(
     Ok(())
 }
 
-/// Answers the last line, which no byte 10 ends.
+/// Answers the last line, if no byte 10 ends it.
 fn finish<A: AnswerLine, W: Write>(
     alloc: Global,
     answerer: &mut A,

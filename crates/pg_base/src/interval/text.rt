@@ -9,7 +9,7 @@ use super::Interval;
 use pg_calendar::{Clock, write_clock};
 use std::fmt;
 
-/// What stands before a part of an interval.
+/// What precedes a part of an interval: no part, a positive one, or a negative one.
 #[derive(Debug, Clone, Copy, PartialEq, Eq)]
 enum Before {
     Nothing,
@@ -18,7 +18,7 @@ enum Before {
 }
 
 impl Before {
-    /// What stands before the part after this number.
+    /// Returns what precedes the part after `number`.
     fn after(self, number: i32) -> Before
         ensures { result ≡ after_part self number }
     {
@@ -31,7 +31,7 @@ impl Before {
         }
     }
 
-    /// The space after another part.
+    /// Returns the space that separates a part from the one before it.
     fn space(self) -> &'static str
         ensures { result.now ≡ space_after self }
     {
@@ -41,7 +41,7 @@ impl Before {
         }
     }
 
-    /// The plus sign of a part.
+    /// Returns the plus sign of a part, which is written after a negative part only.
     fn plus(self) -> &'static str
         ensures { result.now ≡ plus_after self }
     {
@@ -52,9 +52,9 @@ impl Before {
     }
 }
 
-/// `1 year 2 mons -3 days +04:05:06.5` (`interval_out`, with IntervalStyle postgres): the parts that
-/// are not 0, with a sign of their own, and `+` where the part before is negative; `00:00:00` where
-/// all are.
+/// Writes the interval like `1 year 2 mons -3 days +04:05:06.5` (`interval_out`, with IntervalStyle
+/// `postgres`). Parts that are 0 are left out; an interval without parts is `00:00:00`. Each part
+/// has its own sign, and a positive part after a negative one has a `+`.
 impl fmt::Display for Interval {
     ghost output = { λ i. Some (interval_text i) };
 
@@ -63,7 +63,7 @@ impl fmt::Display for Interval {
     }
 }
 
-/// Writes the years, months, days and the time.
+/// Writes the years, the months, the days and the time.
 fn write_parts<W: fmt::Write>(
     all_months: i32,
     days: i32,
@@ -82,21 +82,21 @@ fn write_parts<W: fmt::Write>(
     write_last(after_months.after(days), micros, f)
 }
 
-/// The whole years of months.
+/// Returns the whole years in a number of months.
 fn whole_years(months: i32) -> i32
     ensures { result ≡ int_div months (pos 12) }
 {
     months / 12
 }
 
-/// The months beside the whole years.
+/// Returns the months that remain after the whole years.
 fn months_of_year(months: i32) -> i32
     ensures { result ≡ int_rem months (pos 12) }
 {
     months % 12
 }
 
-/// Writes the number and its unit, where it is not 0.
+/// Writes the number and its unit, unless the number is 0.
 fn write_part<W: fmt::Write>(
     before: Before,
     number: i32,
@@ -114,7 +114,7 @@ fn write_part<W: fmt::Write>(
     write!(f, "{count} {unit}{plural}")
 }
 
-/// Writes a space after another part, and the sign.
+/// Writes the space after the part before, and the sign.
 fn write_sign<W: fmt::Write>(
     before: Before,
     is_negative: bool,
@@ -126,7 +126,7 @@ fn write_sign<W: fmt::Write>(
     f.write_str(if is_negative { "-" } else { before.plus() })
 }
 
-/// Writes the time, where it is not 0 or stands alone.
+/// Writes the time, unless it is 0 and follows another part.
 fn write_last<W: fmt::Write>(before: Before, micros: i64, f: &mut fmt::Formatter<W>) -> fmt::Result
     ensures { WritesOnOk W.write_str_gives f.old result (last_text before micros) f.new }
 {
@@ -136,7 +136,7 @@ fn write_last<W: fmt::Write>(before: Before, micros: i64, f: &mut fmt::Formatter
     write_time(before, micros, f)
 }
 
-/// Writes the time and its sign.
+/// Writes the sign and the time.
 fn write_time<W: fmt::Write>(before: Before, micros: i64, f: &mut fmt::Formatter<W>) -> fmt::Result
     ensures { WritesOnOk W.write_str_gives f.old result (time_text before micros) f.new }
 {

@@ -1,13 +1,14 @@
-//! The texts of addresses with their netmasks, and of MAC addresses.
-ghost use Rattle.std.specs.Prelude.{◌≡◌, ◌∷◌, [], ℕ, List, IfOk, IfSome, MatchOption, Ok, Some, false, true};
+//! The texts of IP addresses with their netmasks, and of MAC addresses.
+ghost use Rattle.std.specs.Prelude.{◌≡◌, ◌<◌, ◌∷◌, [], ℕ, List, IfOk, IfSome, MatchOption, Ok, Some, false, true};
 ghost use Rattle.std.specs.Fmt.{WritesOnOk};
 ghost use Rattle.std.specs.Net.Addr.{ipv4_octets, ipv6_segments, low_octets};
 ghost use Rattle.std.specs.Net.Grammar.{IsIpText};
 ghost use Rattle.hex.specs.Hex.{decode_of};
-ghost use Rattle.pg_base.specs.Network.{with_netmask};
-ghost use Rattle.pg_base.specs.NetworkTexts.{SaysMacaddr, SaysNetwork, TakesPair, address_text, cidr_text, inet_text};
-ghost use Rattle.pg_base.specs.NetworkTexts.{is_ipv4_compatible, macaddr_text, pair_text};
+ghost use Rattle.pg_base.specs.Network.{NetmaskFits, Network, NoHostBits, with_netmask};
+ghost use Rattle.pg_base.specs.NetworkTexts.{ParsesNetwork, SaysMacaddr, SaysNetwork, TakesPair, address_text};
+ghost use Rattle.pg_base.specs.NetworkTexts.{cidr_text, inet_text, is_ipv4_compatible, macaddr_text, pair_text};
 ghost use Rattle.pg_base.specs.NumberTexts.{SaysUnsigned};
+ghost use Rattle.std.specs.declared.net.ip_addr.IpAddr.{IpAddr};
 ghost use Rattle.std.specs.declared.net.ip_addr.IpAddr.TheVariants.{V6};
 
 use super::{IpCidr, IpInet, MacAddress, address_bits};
@@ -16,8 +17,8 @@ use std::net::{IpAddr, Ipv4Addr, Ipv6Addr};
 use std::str::FromStr;
 use std::{fmt, str};
 
-/// The address, and `/` and the length of its netmask where the netmask leaves a bit free
-/// (`inet_out`).
+/// Writes the address, and `/` and the length of the netmask unless the netmask covers all bits of
+/// the address (`inet_out`).
 impl fmt::Display for IpInet {
     ghost output = { λ n. Some (inet_text n) };
 
@@ -33,7 +34,7 @@ impl fmt::Display for IpInet {
     }
 }
 
-/// The first address, `/` and the length of the netmask (`cidr_out`).
+/// Writes the first address, `/` and the length of the netmask (`cidr_out`).
 impl fmt::Display for IpCidr {
     ghost output = { λ n. Some (cidr_text n) };
 
@@ -55,8 +56,9 @@ fn write_address<W: fmt::Write>(address: IpAddr, f: &mut fmt::Formatter<W>) -> f
     }
 }
 
-/// Writes the address as PostgreSQL does (`inet_net_ntop_ipv6`), which is as the standard library
-/// does but where the first six words alone are zero: there the rest is an IPv4 address.
+/// Writes the address as PostgreSQL does (`inet_net_ntop_ipv6`). It is the text of the standard
+/// library, except if the first six words of the address are 0 and the seventh is not: then the
+/// last two words are written as an IPv4 address.
 fn write_v6<W: fmt::Write>(address: Ipv6Addr, f: &mut fmt::Formatter<W>) -> fmt::Result
     ensures { WritesOnOk W.write_str_gives f.old result (address_text (V6 address)) f.new }
 {
@@ -66,7 +68,8 @@ fn write_v6<W: fmt::Write>(address: Ipv6Addr, f: &mut fmt::Formatter<W>) -> fmt:
     }
 }
 
-/// The IPv4 address in which an address ends whose first six words alone are zero.
+/// Returns the IPv4 address in the last two words, if the first six words are 0 and the seventh is
+/// not.
 fn compatible_ipv4(address: Ipv6Addr) -> Option<Ipv4Addr>
     ensures { MatchOption result (is_ipv4_compatible (ipv6_segments address) ≡ false)
         (λ ipv4. (is_ipv4_compatible (ipv6_segments address) ≡ true) × (ipv4_octets ipv4 ≡ low_octets address)) }
@@ -78,13 +81,13 @@ fn compatible_ipv4(address: Ipv6Addr) -> Option<Ipv4Addr>
     }
 }
 
-/// An address, and `/` and the length of its netmask, which is that of all its bits where none
-/// stands there. A netmask that is too long is refused with `Netmask`, and a text that is no address
-/// with `User`.
+/// Parses an address, possibly followed by `/` and the length of its netmask; without it the
+/// netmask covers all bits of the address. A netmask that is too long is refused with `Netmask`,
+/// and any other wrong text with `User`.
 impl FromStr for IpInet {
     type Err = Fault;
 
-    ghost from_str_gives = { λ text parsed. IfOk parsed (SaysNetwork text) };
+    ghost from_str_gives = { ParsesNetwork NetmaskFits };
 
     fn from_str(text: &str) -> Result<IpInet, Fault> {
         let (address, len) = address_and_netmask(text).ok_or(Fault::user("no network address"))?;
@@ -92,11 +95,12 @@ impl FromStr for IpInet {
     }
 }
 
-/// The same of a network, which is refused with `HostBits` where a bit after the netmask is 1.
+/// Parses a network, in the form of an [`IpInet`]. It is refused with `HostBits` if a bit of the
+/// address after the netmask is 1.
 impl FromStr for IpCidr {
     type Err = Fault;
 
-    ghost from_str_gives = { λ text parsed. IfOk parsed (SaysNetwork text) };
+    ghost from_str_gives = { ParsesNetwork (λ n. NetmaskFits n × NoHostBits n) };
 
     fn from_str(text: &str) -> Result<IpCidr, Fault> {
         let (address, len) = address_and_netmask(text).ok_or(Fault::user("no network address"))?;
@@ -104,9 +108,11 @@ impl FromStr for IpCidr {
     }
 }
 
-/// The address, and the length of its netmask, which is all of it where none stands there.
+/// Returns the address and the length of the netmask, which covers all bits of the address if the
+/// text has no `/`.
 fn address_and_netmask(text: &str) -> Option<(IpAddr, u8)>
-    ensures { IfSome result (λ r. SaysNetwork text.now (with_netmask r.0 r.1)) }
+    ensures { MatchOption result ((n : Network) → SaysNetwork text.now n → NetmaskFits n → ⊥)
+        (λ r. SaysNetwork text.now (with_netmask r.0 r.1)) }
 {
     let Some((host, len)) = text.split_once('/') else {
         let address = parse_address(text)?;
@@ -117,21 +123,22 @@ fn address_and_netmask(text: &str) -> Option<(IpAddr, u8)>
     Some((address, bits))
 }
 
-/// The address of a text.
+/// Parses an address.
 fn parse_address(text: &str) -> Option<IpAddr>
-    ensures { IfSome result (λ address. IsIpText text.now address) }
+    ensures { MatchOption result ((address : IpAddr) → IsIpText text.now address → ⊥) (IsIpText text.now) }
 {
     text.parse().ok()
 }
 
-/// The length of a netmask of a text.
+/// Parses the length of a netmask.
 fn parse_netmask(text: &str) -> Option<u8>
-    ensures { IfSome result (λ len. SaysUnsigned text.now len) }
+    ensures { MatchOption result ((len : ℕ) → SaysUnsigned text.now len → len < 256 → ⊥) (SaysUnsigned text.now) }
 {
     text.parse().ok()
 }
 
-/// Two hexadecimal digits for each byte, with `:` between (`macaddr_out`).
+/// Writes the bytes as two lower-case hexadecimal digits each, with `:` between them
+/// (`macaddr_out`).
 impl fmt::Display for MacAddress {
     ghost output = { λ bytes. Some (macaddr_text bytes) };
 
@@ -164,8 +171,8 @@ impl fmt::Display for Pair {
     }
 }
 
-/// Six pairs of hexadecimal digits of either case, with `:` between. Another text is refused with
-/// `User`.
+/// Parses six pairs of hexadecimal digits of either case, with `:` between them. Any other text is
+/// refused with `User`. (`macaddr_in` takes more forms.)
 impl FromStr for MacAddress {
     type Err = Fault;
 
@@ -176,7 +183,7 @@ impl FromStr for MacAddress {
     }
 }
 
-/// The MAC address of a text.
+/// Parses a MAC address.
 fn parse_macaddr(text: &str) -> Option<MacAddress>
     ensures { IfSome result (SaysMacaddr text.now) }
 {
@@ -193,7 +200,7 @@ fn parse_macaddr(text: &str) -> Option<MacAddress>
     }
 }
 
-/// The byte of the two digits at the front of the text, and what comes after them.
+/// Takes the byte of two digits from the front of the text. Returns it and the rest.
 fn take_pair(text: &[u8]) -> Option<(u8, &[u8])>
     ensures { IfSome result (λ r. TakesPair text.now r.0 r.1.now) }
 {
@@ -206,7 +213,7 @@ fn take_pair(text: &[u8]) -> Option<(u8, &[u8])>
     }
 }
 
-/// The same after a colon.
+/// Takes a colon and the byte of two digits from the front of the text.
 fn take_next_pair(text: &[u8]) -> Option<(u8, &[u8])>
     ensures { IfSome result (λ r. (after : List ℕ) × (text.now ≡ 58 ∷ after) × TakesPair after r.0 r.1.now) }
 {
@@ -220,7 +227,7 @@ fn take_next_pair(text: &[u8]) -> Option<(u8, &[u8])>
     }
 }
 
-/// The byte of two hexadecimal digits of either case.
+/// Returns the byte of two hexadecimal digits of either case.
 fn hex_byte(high: u8, low: u8) -> Option<u8>
     ensures { IfSome result (λ byte. decode_of (high ∷ low ∷ []) ≡ Ok (byte ∷ [])) }
 {

@@ -17,7 +17,7 @@ use bytes::BytesMut;
 use std::alloc::Global;
 use std::marker::Model;
 
-/// The cells of an array that are to be read; see [`array_from_sql`].
+/// The cells of an array that are still to be read; see [`array_from_sql`].
 #[derive(Debug, Drop)]
 pub struct ArrayCells<'a> {
     items: Items<'a>,
@@ -29,14 +29,14 @@ impl<'a> Model for ArrayCells<'a> {
     ghost view = { λ c. c.items };
 }
 
-/// Reads the head of an array (`array_recv`): in 4 bytes each, big-endian, the number of
-/// dimensions, the flags, the OID of the elements' type, and for each dimension its length and its
-/// lower bound; the elements' frames come after it. Without a dimension there are no elements.
+/// Reads the header of an array (`array_recv`). It has, in 4 bytes each and big-endian, the number
+/// of dimensions, the flags, the OID of the element type and, for each dimension, its length and
+/// its lower bound. The frames of the elements follow. An array without dimensions has no elements.
 ///
-/// The checks are made in this order: a truncated number of dimensions is `Size`, a negative one
-/// `Count`, truncated flags or a truncated OID `Size`, more than 1 dimension `Dimensions`, a
-/// truncated dimension `Size`, and a negative length `Count`. The flags, the OID and the lower
-/// bound are not looked at. It takes no memory.
+/// The checks are made in this order: a truncated number of dimensions is refused with `Size`, a
+/// negative one with `Count`, truncated flags or a truncated OID with `Size`, more than 1 dimension
+/// with `Dimensions`, a truncated dimension with `Size`, and a negative length with `Count`. The
+/// flags, the OID and the lower bound are not checked. It does not allocate.
 pub fn array_from_sql(_alloc: Global, raw: &[u8]) -> Result<ArrayCells<'_>, Fault>
     ensures outcome { Answers (Decodes SpellsHead (λ b. first_fault_of (head_checks b)) raw.now) result }
     ensures never_memory { NeverMemory result }
@@ -57,7 +57,7 @@ pub fn array_from_sql(_alloc: Global, raw: &[u8]) -> Result<ArrayCells<'_>, Faul
     split_dimension(bytes)
 }
 
-/// The cells of an array of one dimension, and what that dimension says.
+/// Reads the length and the lower bound of the only dimension.
 fn split_dimension(bytes: &[u8]) -> Result<ArrayCells<'_>, Fault>
     ensures outcome { Answers (Decodes (SpellsDimensions (suc zero))
         (λ s. first_fault_of (dimension_checks (suc zero) s)) bytes.now) result }
@@ -73,7 +73,7 @@ fn split_dimension(bytes: &[u8]) -> Result<ArrayCells<'_>, Fault>
     })
 }
 
-/// A cell at the front of bytes.
+/// A cell at the front of the bytes.
 impl<'a> Item<'a> for Option<&'a [u8]> {
     ghost spells = { λ s cell. Spells s (cell_of cell) };
 
@@ -86,17 +86,17 @@ impl<'a> Item<'a> for Option<&'a [u8]> {
 }
 
 impl<'a> ArrayCells<'a> {
-    /// How many cells are still to come, as the head states it. It takes no memory.
+    /// Returns how many cells are left, according to the header. It does not allocate.
     pub fn len(&self) -> usize
         ensures { result ≡ self.now.left }
     {
         self.items.len()
     }
 
-    /// The next cell: its length in 4 bytes, big-endian, every negative one NULL, and that many
-    /// bytes. Where the length or a part of the bytes is truncated it answers `Size`, and so it
-    /// does where bytes are left after the last cell. After a fault, and after the last cell, it
-    /// answers `None`, for good. It takes no memory.
+    /// Returns the next cell: its length in 4 bytes, big-endian, and as many bytes; every negative
+    /// length is NULL. A truncated length or cell is refused with `Size`, and so are trailing bytes
+    /// after the last cell. After a fault, and after the last cell, it returns `None` forever. It
+    /// does not allocate.
     #[inline(always)]
     pub fn next(&mut self) -> Option<Result<Option<&'a [u8]>, Fault>>
         ensures { TakesElement self.old result self.new }
@@ -105,23 +105,23 @@ impl<'a> ArrayCells<'a> {
     }
 }
 
-/// The length of the head that is written.
+/// The length of the header that is written.
 const HEAD_LEN: usize = 20;
 
-/// Where in the head the flags stand.
+/// The offset of the flags in the header.
 const FLAGS_AT: usize = 4;
 
 /// The length of a length prefix.
 const PREFIX_LEN: usize = 4;
 
-/// Appends an array of one dimension (`array_send`): in 4 bytes each, big-endian, the number 1
-/// of dimensions, the flags, which are 1 where a cell is NULL and else 0, the OID of the elements'
-/// type, the number of cells, and the lower bound; and then the frames of the cells.
+/// Appends an array of one dimension (`array_send`). In 4 bytes each, big-endian, it has the number
+/// 1 of dimensions, the flags (1 if a cell is NULL, and 0 otherwise), the OID of the element type,
+/// the number of cells, and the lower bound. The frames of the cells follow.
 ///
-/// The bytes of the cells stand one after another in `scratch`. Their lengths are `lens`, of which
-/// `None` is NULL; they add up to the length of `scratch`. Where the number of cells or the length
-/// of a cell passes 2,147,483,647 it answers `Transmit`. A refusal, `Memory` too, leaves the
-/// buffer's bytes as they were.
+/// `scratch` has the bytes of the cells, one after another, and `lens` their lengths (`None` is
+/// NULL), which add up to the length of `scratch`. It fails with `Transmit` if the number of cells
+/// or the length of a cell exceeds 2,147,483,647. An error, `Memory` included, leaves the buffer's
+/// bytes as they were.
 pub fn array_to_sql(
     _alloc: Global,
     lower_bound: i32,
@@ -139,13 +139,13 @@ pub fn array_to_sql(
     out.reserve(HEAD_LEN + PREFIX_LEN * lens.len() + scratch.len())?;
     let start = out.len();
     extend_by_head(lower_bound, oid, lens.len(), out);
-    // The flags are put right after the frames, so that one pass over the lengths does for both.
+    // The flags are set after the frames are appended, so that one pass over the lengths is enough.
     let has_null = extend_by_frames(scratch, lens, out);
     set_number(start + FLAGS_AT, u32::from(has_null), out);
     Ok(())
 }
 
-/// Whether one of the lengths, which add up to `total`, is more than a length prefix can say.
+/// Whether one of the lengths, whose sum is `total`, does not fit in a length prefix.
 fn has_long(total: usize, lens: &[Option<usize>]) -> bool
     requires { total_len lens.now ≡ total }
     ensures { result ≡ has_long lens.now }
@@ -161,7 +161,8 @@ fn has_long(total: usize, lens: &[Option<usize>]) -> bool
     false
 }
 
-/// Appends the head of so many cells, of which none is NULL. There is room for it.
+/// Appends the header of `count` cells, with the flags of cells that are not NULL. There is room
+/// for it.
 fn extend_by_head(lower_bound: i32, oid: Oid, count: usize, out: &mut BytesMut)
     requires few { count ≤ max_length }
     requires room { 20 ≤ out.now.spare }
@@ -174,8 +175,8 @@ fn extend_by_head(lower_bound: i32, oid: Oid, count: usize, out: &mut BytesMut)
     out.extend_reserved(&lower_bound.to_be_bytes());
 }
 
-/// Appends the frames of the cells, and says whether one of them is NULL. Each has a frame, and there is
-/// room for them.
+/// Appends the frames of the cells. Returns whether one of them is NULL. Each cell has a frame, and
+/// there is room for them.
 fn extend_by_frames(scratch: &[u8], lens: &[Option<usize>], out: &mut BytesMut) -> bool
     requires whole { total_len lens.now ≡ length scratch.now }
     requires room { HasRoomFor (frames (cells_of scratch.now lens.now)) out.now.spare }

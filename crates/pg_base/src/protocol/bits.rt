@@ -1,4 +1,4 @@
-//! Lists of bits. They lie packed, the first on top of the first byte.
+//! Bit strings. The first bit is the most significant one of the first byte.
 ghost use Rattle.std.specs.Prelude.{◌≡◌, ◌≤◌, ◌+◌, ◌++◌, IfOk, length};
 ghost use Rattle.pg_base.specs.Bits.{FormBits, bits_cell, bytes_for, first_bits, first_fault_bits, packed};
 ghost use Rattle.pg_base.specs.Bits.{pad_of, without_low};
@@ -13,7 +13,7 @@ use crate::fault::Fault;
 use bytes::BytesMut;
 use std::alloc::Global;
 
-/// The bits of a cell, in place.
+/// The bits of a cell, borrowed from it.
 #[derive(Debug, Clone, Copy)]
 pub struct Varbit<'a> {
     len: usize,
@@ -22,15 +22,15 @@ pub struct Varbit<'a> {
 }
 
 impl<'a> Varbit<'a> {
-    /// The number of bits.
+    /// Returns the number of bits.
     pub fn len(&self) -> usize
         ensures { result ≡ self.now.len }
     {
         self.len
     }
 
-    /// As many bytes as the bits take. The bits are their first ones, the top one of each byte
-    /// first; what pads the last byte is as the cell has it.
+    /// Returns the bytes of the bits, as many as the bits take. The most significant bit of each
+    /// byte comes first. The padding bits of the last byte are as in the cell.
     pub fn bytes(&self) -> &'a [u8]
         ensures bytes { result.now ≡ self.now.bytes.now }
         ensures whole { length result.now ≡ bytes_for self.now.len }
@@ -40,9 +40,9 @@ impl<'a> Varbit<'a> {
 }
 
 /// Reads BIT and VARBIT: the number of bits in 4 bytes, big-endian, and as many bytes as they take,
-/// the first bit on top of the first byte (`bit_recv`, `varbit_recv`). A number that is truncated
-/// is `Size`, a negative one `Count`, and any other number of bytes `Size`. What pads the last byte
-/// is ignored.
+/// the first bit being the most significant one of the first byte (`bit_recv`, `varbit_recv`). A
+/// truncated number is refused with `Size`, a negative one with `Count`, and any other number of
+/// bytes with `Size`. The padding bits of the last byte are ignored.
 pub fn varbit_from_sql(raw: &[u8]) -> Result<Varbit<'_>, Fault>
     ensures outcome { Answers (Decodes (FormBits (λ v. first_bits v.len v.bytes.now)) first_fault_bits raw.now) result }
     ensures in_place { IfOk result (λ v. v.bytes.now ≡ after_number raw.now) }
@@ -55,9 +55,9 @@ pub fn varbit_from_sql(raw: &[u8]) -> Result<Varbit<'_>, Fault>
     Ok(Varbit { len, bytes })
 }
 
-/// Appends BIT and VARBIT: the number of bits in 4 bytes, big-endian, and the bytes, of which
-/// there must be as many as the bits take (`bit_send`, `varbit_send`). What pads the last byte is
-/// written 0. More than 2,147,483,647 bits are `Transmit`.
+/// Appends BIT and VARBIT: the number of bits in 4 bytes, big-endian, and the bytes, of which there
+/// must be as many as the bits take (`bit_send`, `varbit_send`). The padding bits of the last byte
+/// are written as 0. More than 2,147,483,647 bits are refused with `Transmit`.
 #[inline(always)]
 pub fn varbit_to_sql(
     _alloc: Global,
@@ -77,7 +77,8 @@ pub fn varbit_to_sql(
     Ok(())
 }
 
-/// Appends the bytes of the bits, with 0 for what pads the last one. There must be room for them.
+/// Appends the bytes of the bits, with 0 for the padding bits of the last one. There must be room
+/// for them.
 #[inline(always)]
 fn extend_by_bits(len: usize, bytes: &[u8], out: &mut BytesMut)
     requires whole { length bytes.now ≡ bytes_for len }
@@ -92,8 +93,8 @@ fn extend_by_bits(len: usize, bytes: &[u8], out: &mut BytesMut)
     out.extend_reserved(&[without_pad(*last, len)]);
 }
 
-/// The last byte of `len` bits, with 0 for what pads it.
-pub(crate) fn without_pad(byte: u8, len: usize) -> u8
+/// Returns the last byte of `len` bits, with 0 for its padding bits.
+pub fn without_pad(byte: u8, len: usize) -> u8
     ensures { result ≡ without_low (pad_of len) byte }
 {
     let pad = (8 - len % 8) % 8;

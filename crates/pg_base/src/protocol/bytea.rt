@@ -1,4 +1,4 @@
-//! Bytes.
+//! Byte strings.
 ghost use Rattle.std.specs.Prelude.{◌≡◌, Some};
 ghost use Rattle.pg_base.specs.Appending.{Appends};
 
@@ -6,7 +6,7 @@ use crate::fault::Fault;
 use bytes::BytesMut;
 use std::alloc::Global;
 
-/// Reads BYTEA: the bytes themselves (`bytearecv`). It never refuses.
+/// Reads BYTEA: the bytes themselves (`bytearecv`). It never fails.
 pub fn bytea_from_sql(raw: &[u8]) -> &[u8]
     ensures { result.now ≡ raw.now }
 {

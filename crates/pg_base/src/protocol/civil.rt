@@ -12,9 +12,9 @@ use crate::fault::Fault;
 use bytes::BytesMut;
 use std::alloc::Global;
 
-/// Reads DATE: the days from 2000-01-01, in 4 bytes, big-endian, in two's complement
-/// (`date_recv`). Any other length is `Size`; every count is a value, the two that PostgreSQL takes
-/// for infinities included.
+/// Reads DATE: the days from 2000-01-01, in 4 bytes, big-endian, in two's complement (`date_recv`).
+/// Any other length is refused with `Size`; every number is returned, also the two that PostgreSQL
+/// reads as infinities.
 pub fn date_from_sql(raw: &[u8]) -> Result<i32, Fault>
     ensures outcome { Answers (Decodes (FormSigned w32) (first_fault_number 4) raw.now) result }
     ensures never_memory { NeverMemory result }
@@ -32,7 +32,8 @@ pub fn date_to_sql(alloc: Global, v: i32, out: &mut BytesMut) -> Result<(), Faul
 }
 
 /// Reads TIME: the microseconds from midnight, in 8 bytes, big-endian, in two's complement
-/// (`time_recv`). Any other length is `Size`; every count is a value, whether a day has it or not.
+/// (`time_recv`). Any other length is refused with `Size`; every number is returned, also one that
+/// no time of day has.
 pub fn time_from_sql(raw: &[u8]) -> Result<i64, Fault>
     ensures outcome { Answers (Decodes (FormSigned w64) (first_fault_number 8) raw.now) result }
     ensures never_memory { NeverMemory result }

@@ -1,4 +1,4 @@
-//! Count and length prefixes, of 4 bytes, the cells after lengths, and the items after counts.
+//! Count and length prefixes of 4 bytes, the cells after lengths, and the items after counts.
 ghost use Rattle.std.specs.Prelude.{◌≡◌, ◌∷◌, [], List, ℕ};
 ghost use Rattle.std.specs.Int.{w32};
 ghost use Rattle.pg_base.specs.Cells.{IsBe, Spells, cell_of};
@@ -11,9 +11,10 @@ use super::numbers::int4_from_sql;
 use crate::fault::Fault;
 use std::marker::Model;
 
-/// The prefix, and the bytes after it.
+/// Returns the number in the first 4 bytes, big-endian, as of a count or a length prefix, and the
+/// bytes after it. Fewer than 4 bytes are refused with `Size`.
 #[inline(always)]
-pub(super) fn split_number(bytes: &[u8]) -> Result<(i32, &[u8]), Fault>
+pub fn split_number(bytes: &[u8]) -> Result<(i32, &[u8]), Fault>
     ensures outcome { Answers (Decodes (StartsWith (IsBe w32))
         (λ s. first_fault_of ((has_number s, size) ∷ [])) bytes.now) result }
     ensures never_memory { NeverMemory result }
@@ -25,7 +26,8 @@ pub(super) fn split_number(bytes: &[u8]) -> Result<(i32, &[u8]), Fault>
     Ok((int4_from_sql(head)?, bytes))
 }
 
-/// The count prefix, which is refused with `Count` where it is negative, and the bytes after it.
+/// Returns the count prefix and the bytes after it. A truncated count is refused with `Size`, and a
+/// negative one with `Count`.
 #[inline(always)]
 pub(super) fn split_count(bytes: &[u8]) -> Result<(usize, &[u8]), Fault>
     ensures outcome { Answers (Decodes (StartsWith IsCount) (λ s. first_fault_of (count_checks s)) bytes.now) result }
@@ -38,9 +40,10 @@ pub(super) fn split_count(bytes: &[u8]) -> Result<(usize, &[u8]), Fault>
     Ok((count as usize, bytes))
 }
 
-/// The first cell, of which every negative length is NULL, and the bytes after its frame.
+/// Returns the cell of the first frame, and the bytes after it. Each negative length is NULL. Fewer
+/// than 4 bytes, or fewer than the length prefix states, are refused with `Size`.
 #[inline(always)]
-pub(super) fn split_cell(bytes: &[u8]) -> Result<(Option<&[u8]>, &[u8]), Fault>
+pub fn split_cell(bytes: &[u8]) -> Result<(Option<&[u8]>, &[u8]), Fault>
     ensures outcome { Answers (Decodes (StartsWith (λ s cell. Spells s (cell_of cell)))
         (λ s. first_fault_of (cell_checks s)) bytes.now) result }
     ensures never_memory { NeverMemory result }
@@ -57,21 +60,21 @@ pub(super) fn split_cell(bytes: &[u8]) -> Result<(Option<&[u8]>, &[u8]), Fault>
     Ok((Some(cell), bytes))
 }
 
-/// What follows a count as many times as it says.
+/// An item that follows a count, as many times as the count says.
 pub(super) trait Item<'a>: Sized + Drop {
     /// The bytes spell the item.
     ghost spells: { List ℕ → Self → Type 0 };
 
-    /// The checks of the first item.
+    /// The checks of the item at the front of the bytes.
     ghost checks: { List ℕ → Checks };
 
-    /// The first item, and the bytes after it.
+    /// Returns the first item and the bytes after it.
     fn split(bytes: &'a [u8]) -> Result<(Self, &'a [u8]), Fault>
         ensures outcome { Answers (Decodes (StartsWith spells) (λ s. first_fault_of (checks s)) bytes.now) result }
         ensures never_memory { NeverMemory result };
 }
 
-/// The items that are to be read.
+/// The items that are still to be read.
 #[derive(Debug, Drop)]
 pub(super) struct Items<'a> {
     left: usize,
@@ -85,23 +88,23 @@ impl<'a> Model for Items<'a> {
 }
 
 impl<'a> Items<'a> {
-    /// So many items, at the front of the bytes.
+    /// Creates the reader of `left` items at the front of the bytes.
     pub(super) fn new(left: usize, bytes: &'a [u8]) -> Items<'a>
         ensures { result ≡ record { left = left; bytes = bytes.now } }
     {
         Items { left, bytes }
     }
 
-    /// How many items are still to come.
+    /// Returns how many items are left.
     pub(super) fn len(&self) -> usize
         ensures { result ≡ self.now.left }
     {
         self.left
     }
 
-    /// The next item, or the fault of the first check that it fails. Where bytes are left after the
-    /// last item it answers `Size`. After a fault, and after the last item, it answers `None`, for
-    /// good.
+    /// Returns the next item, or the fault of the first check that fails. Trailing bytes after the
+    /// last item are refused with `Size`. After a fault, and after the last item, it returns `None`
+    /// forever.
     #[inline(always)]
     pub(super) fn next<T: Item<'a>>(&mut self) -> Option<Result<T, Fault>>
         ensures { TakesNext T.spells T.checks self.old result self.new }

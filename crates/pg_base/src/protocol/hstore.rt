@@ -17,10 +17,10 @@ use bytes::BytesMut;
 use std::alloc::Global;
 use std::marker::Model;
 
-/// An hstore's key and its value, of which `None` is NULL.
+/// The key of an hstore entry, and its value (`None` is NULL).
 type Entry<'a> = (&'a str, Option<&'a str>);
 
-/// The entries of an hstore's cell that are to be read; see [`hstore_from_sql`].
+/// The entries of an hstore that are still to be read; see [`hstore_from_sql`].
 #[derive(Debug, Drop)]
 pub struct HstoreEntries<'a> {
     items: Items<'a>,
@@ -32,9 +32,9 @@ impl<'a> Model for HstoreEntries<'a> {
     ghost view = { λ e. e.items };
 }
 
-/// Reads the count of an hstore (`hstore_recv`): 4 bytes, big-endian, and the entries come
-/// after it. Where it is truncated it answers `Size`, and where it is negative `Count`. It takes no
-/// memory.
+/// Reads the header of an hstore (`hstore_recv`): the number of entries in 4 bytes, big-endian. The
+/// entries follow. A truncated number is refused with `Size`, and a negative one with `Count`. It
+/// does not allocate.
 pub fn hstore_from_sql(_alloc: Global, raw: &[u8]) -> Result<HstoreEntries<'_>, Fault>
     ensures outcome { Answers (Decodes SpellsCount (λ b. first_fault_of (count_checks b)) raw.now) result }
     ensures never_memory { NeverMemory result }
@@ -45,7 +45,7 @@ pub fn hstore_from_sql(_alloc: Global, raw: &[u8]) -> Result<HstoreEntries<'_>, 
     })
 }
 
-/// An entry at the front of bytes.
+/// An entry at the front of the bytes.
 impl<'a> Item<'a> for (&'a str, Option<&'a str>) {
     ghost spells = { λ s e. SpellsEntry s (borrowed_entry e) };
 
@@ -57,12 +57,11 @@ impl<'a> Item<'a> for (&'a str, Option<&'a str>) {
 }
 
 impl<'a> HstoreEntries<'a> {
-    /// The next entry: the length of its key in 4 bytes, big-endian, and the key, and likewise its
-    /// value, of which every negative length is NULL. Where the next entry is damaged it answers a
-    /// fault: `Size` where a part is truncated, `KeyLength` where the key's length is negative,
-    /// `Utf8` where a text is not UTF-8. Where bytes are left after the last entry it answers
-    /// `Size`. After a fault, and after the last entry, it answers `None`, for good. It takes no
-    /// memory.
+    /// Returns the next entry: the length of its key in 4 bytes, big-endian, and the key, and
+    /// likewise its value, for which every negative length is NULL. A truncated part is refused
+    /// with `Size`, a negative length of the key with `KeyLength`, and a text that is not UTF-8
+    /// with `Utf8`. Trailing bytes after the last entry are refused with `Size`. After a fault, and
+    /// after the last entry, it returns `None` forever. It does not allocate.
     pub fn next(&mut self) -> Option<Result<Entry<'a>, Fault>>
         ensures { TakesEntry self.old result self.new }
     {
@@ -70,7 +69,7 @@ impl<'a> HstoreEntries<'a> {
     }
 }
 
-/// The first entry, and the bytes after it.
+/// Returns the first entry and the bytes after it.
 fn split_entry(bytes: &[u8]) -> Result<(Entry<'_>, &[u8]), Fault>
     ensures outcome { Answers (Decodes (StartsWith (λ s e. SpellsEntry s (borrowed_entry e)))
         (λ s. first_fault_of (entry_checks s)) bytes.now) result }
@@ -84,7 +83,7 @@ fn split_entry(bytes: &[u8]) -> Result<(Entry<'_>, &[u8]), Fault>
     Ok(((key, value), bytes))
 }
 
-/// The first text, of which every negative length is NULL, and the bytes after it.
+/// Returns the first text and the bytes after it. Every negative length is NULL.
 fn split_text(bytes: &[u8]) -> Result<(Option<&str>, &[u8]), Fault>
     ensures outcome { Answers (Decodes (StartsWith (λ s text. SpellsText s (cell_of text)))
         (λ s. first_fault_of (value_checks s)) bytes.now) result }
@@ -98,9 +97,9 @@ fn split_text(bytes: &[u8]) -> Result<(Option<&str>, &[u8]), Fault>
 }
 
 /// Appends an hstore (`hstore_send`): the number of its entries in 4 bytes, big-endian, and for
-/// each entry, in the order of the list, the frame of its key and the frame of its value, which for
-/// NULL is the length -1. Where the number of entries, a key or a value passes 2,147,483,647 it
-/// answers `Transmit`.
+/// each entry, in the order of the slice, the frame of its key and the frame of its value. The
+/// frame of NULL is the length -1. It fails with `Transmit` if the number of entries, or the length
+/// of a key or a value, exceeds 2,147,483,647.
 pub fn hstore_to_sql(
     alloc: Global,
     entries: &[(&str, Option<&str>)],
@@ -117,7 +116,7 @@ pub fn hstore_to_sql(
     Ok(())
 }
 
-/// Appends the frame of a text, of which `None` is NULL.
+/// Appends the frame of a text (`None` is NULL).
 #[inline(always)]
 fn text_frame_to_sql(alloc: Global, text: Option<&str>, out: &mut BytesMut) -> Result<(), Fault>
     ensures { Appends (frame (cell_of text.entry)) out.old out.new result }
@@ -125,7 +124,7 @@ fn text_frame_to_sql(alloc: Global, text: Option<&str>, out: &mut BytesMut) -> R
     frame_to_sql(alloc, text.map(|text| text.as_bytes()), out)
 }
 
-/// How many bytes the entries take.
+/// Returns the length of the hstore in bytes.
 fn hstore_len(entries: &[(&str, Option<&str>)]) -> Result<usize, Fault>
     ensures { Measures (hstore_bytes (map borrowed_entry entries.now)) result }
 {
@@ -140,7 +139,7 @@ fn hstore_len(entries: &[(&str, Option<&str>)]) -> Result<usize, Fault>
     Ok(len)
 }
 
-/// How many bytes the frame of the text takes.
+/// Returns the length of the frame of the text.
 #[inline(always)]
 fn text_frame_len(text: Option<&str>) -> Result<usize, Fault>
     ensures len { Measures (frame (cell_of text.entry)) result }

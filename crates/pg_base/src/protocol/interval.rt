@@ -1,4 +1,4 @@
-//! Intervals of time, in three parts: microseconds, days and months.
+//! Intervals, in three parts: microseconds, days and months.
 ghost use Rattle.std.specs.Prelude.{Some};
 ghost use Rattle.pg_base.specs.Appending.{Appends};
 ghost use Rattle.pg_types.specs.Faults.{Answers, NeverMemory};
@@ -11,9 +11,9 @@ use crate::fault::Fault;
 use bytes::BytesMut;
 use std::alloc::Global;
 
-/// Reads INTERVAL: the microseconds in 8 bytes, then the days and the months in 4 each, big-endian,
-/// in two's complement (`interval_recv`). Any other length than 16 bytes is `Size`; all bytes of
-/// that length are a value, the two that PostgreSQL takes for infinities included.
+/// Reads INTERVAL: the microseconds in 8 bytes, then the days and the months in 4 bytes each,
+/// big-endian, in two's complement (`interval_recv`). Any other length than 16 bytes is refused
+/// with `Size`; all 16 bytes are a value, also the two that PostgreSQL reads as infinities.
 #[tactic(auto, using(crate::proofs::IntervalLaws::spelt_by_parts))]
 pub fn interval_from_sql(raw: &[u8]) -> Result<(i64, i32, i32), Fault>
     ensures outcome { Answers
@@ -32,7 +32,7 @@ pub fn interval_from_sql(raw: &[u8]) -> Result<(i64, i32, i32), Fault>
     ))
 }
 
-/// Appends INTERVAL: the microseconds in 8 bytes, then the days and the months in 4 each,
+/// Appends INTERVAL: the microseconds in 8 bytes, then the days and the months in 4 bytes each,
 /// big-endian, in two's complement (`interval_send`).
 #[inline(always)]
 pub fn interval_to_sql(
@@ -44,7 +44,7 @@ pub fn interval_to_sql(
 ) -> Result<(), Fault>
     ensures { Appends (Some (interval_bytes microseconds days months)) out.old out.new result }
 {
-    // All room at once, so that a refused growth leaves the buffer as it was.
+    // The room is reserved at once, so that a failed allocation leaves the buffer as it was.
     out.reserve(16)?;
     out.extend_reserved(&microseconds.to_be_bytes());
     out.extend_reserved(&days.to_be_bytes());

@@ -1,21 +1,19 @@
-//! That each format is a grammar whose checks are complete, each as a call whose contract says it.
+//! That each format is a grammar whose checks are complete, each as a function whose contract
+//! states it.
 //!
 //! `grammar`: bytes that spell a value pass every check, and spell no other value. `complete`: bytes
 //! that pass every check spell a value. Values stand here for their contents: a text for its bytes,
-//! bits for their list, a timestamp for its nanoseconds, a document for what its text reads as, and
-//! a map for what it has at each key.
+//! a timestamp for its nanoseconds, a document for what its text reads as, and a map for what it has
+//! at each key. The formats of the library's own types are in the `laws` of these types.
 ghost use Rattle.std.specs.Prelude.{◌≡◌, Bool, List, Option, ℕ};
 ghost use Rattle.std.specs.Int.{w8, w16, w32, w64};
 ghost use Rattle.pg_base.specs.Arrays.{SpellsHead, head_checks};
-ghost use Rattle.pg_base.specs.Bits.{FormBits, first_fault_bits};
 ghost use Rattle.pg_base.specs.Bytea.{FormBytes, first_fault_bytes};
 ghost use Rattle.pg_base.specs.Cells.{Cell};
 ghost use Rattle.pg_base.specs.FixedBytes.{FormFixedBytes};
 ghost use Rattle.pg_base.specs.Formats.{IsComplete, IsGrammar, first_fault_of};
 ghost use Rattle.pg_base.specs.Hstore.{FormHstore, first_fault_hstore};
-ghost use Rattle.pg_base.specs.Interval.{FormInterval, interval_width};
 ghost use Rattle.pg_base.specs.Json.{FormJson, first_fault_json};
-ghost use Rattle.pg_base.specs.Network.{FormAddress, FormCidr, FormInet, first_fault_cidr, first_fault_inet};
 ghost use Rattle.pg_base.specs.Numbers.{FormBool, FormSigned, FormUnsigned, first_fault_number};
 ghost use Rattle.pg_base.specs.Texts.{FormText, first_fault_text};
 ghost use Rattle.pg_base.specs.Timestamps.{FormTimestamp};
@@ -62,13 +60,6 @@ pub fn oid_format()
     ensures complete { IsComplete (FormUnsigned w32) (first_fault_number 4) }
 {}
 
-/// PG_LSN.
-#[tactic(auto, using(crate::proofs::LsnLaws::lsn_grammar, crate::proofs::Completeness::lsn_complete))]
-pub fn lsn_format()
-    ensures grammar { IsGrammar (λ v w. v ≡ w) (FormUnsigned w64) (first_fault_number 8) }
-    ensures complete { IsComplete (FormUnsigned w64) (first_fault_number 8) }
-{}
-
 /// The text types, without a version, and ltree, lquery and ltxtquery, with one.
 #[tactic(auto, using(crate::proofs::Completeness::text_complete))]
 pub fn text_format()
@@ -84,39 +75,11 @@ pub fn bytea_format()
     ensures complete { IsComplete (FormBytes (λ s. s)) first_fault_bytes }
 {}
 
-/// Bytes of a fixed number: MACADDR, of six, and UUID, of sixteen.
+/// A fixed number of bytes: MACADDR has 6, and UUID has 16.
 #[tactic(auto, using(crate::proofs::Completeness::fixed_bytes_complete))]
 pub fn fixed_bytes_format()
     ensures grammar { (width : ℕ) → IsGrammar (λ v w. v ≡ w) (FormFixedBytes width) (first_fault_number width) }
     ensures complete { (width : ℕ) → IsComplete (FormFixedBytes width) (first_fault_number width) }
-{}
-
-/// BIT and VARBIT.
-#[tactic(auto, using(crate::proofs::BitsLaws::bits_grammar, crate::proofs::CompletenessBits::bits_complete))]
-pub fn bits_format()
-    ensures grammar { IsGrammar (λ v w. v ≡ w) (FormBits (λ v. v)) first_fault_bits }
-    ensures complete { IsComplete (FormBits (λ v. v)) first_fault_bits }
-{}
-
-/// INET.
-#[tactic(auto, using(crate::proofs::NetworkLaws::inet_grammar, crate::proofs::CompletenessNetwork::inet_complete))]
-pub fn inet_format()
-    ensures grammar { IsGrammar (λ n m. n ≡ m) FormInet first_fault_inet }
-    ensures complete { IsComplete FormInet first_fault_inet }
-{}
-
-/// CIDR.
-#[tactic(auto, using(crate::proofs::NetworkLaws::cidr_grammar, crate::proofs::CompletenessNetwork::cidr_complete))]
-pub fn cidr_format()
-    ensures grammar { IsGrammar (λ n m. n ≡ m) FormCidr first_fault_cidr }
-    ensures complete { IsComplete FormCidr first_fault_cidr }
-{}
-
-/// INET, of which the netmask is left out.
-#[tactic(auto, using(crate::proofs::CompletenessNetwork::address_complete))]
-pub fn address_format()
-    ensures grammar { IsGrammar (λ a b. a ≡ b) FormAddress first_fault_inet }
-    ensures complete { IsComplete FormAddress first_fault_inet }
 {}
 
 /// TIMESTAMP and TIMESTAMPTZ.
@@ -124,13 +87,6 @@ pub fn address_format()
 pub fn timestamp_format()
     ensures grammar { IsGrammar (λ v w. v ≡ w) (FormTimestamp (λ nanos. nanos)) (first_fault_number 8) }
     ensures complete { IsComplete (FormTimestamp (λ nanos. nanos)) (first_fault_number 8) }
-{}
-
-/// INTERVAL.
-#[tactic(auto, using(crate::proofs::IntervalLaws::interval_grammar, crate::proofs::IntervalLaws::interval_complete))]
-pub fn interval_format()
-    ensures grammar { IsGrammar (λ v w. v ≡ w) FormInterval (first_fault_number interval_width) }
-    ensures complete { IsComplete FormInterval (first_fault_number interval_width) }
 {}
 
 /// JSON, without a version, and JSONB, with one.
@@ -149,7 +105,7 @@ pub fn hstore_format()
     ensures complete { IsComplete (FormHstore (λ (m : List ℕ → Option Cell). m)) first_fault_hstore }
 {}
 
-/// The head of an array.
+/// The header of an array.
 #[tactic(auto, using(crate::proofs::CompletenessHeads::head_grammar, crate::proofs::CompletenessHeads::head_complete))]
 pub fn array_head_format()
     ensures grammar { IsGrammar (λ r q. r ≡ q) SpellsHead (λ b. first_fault_of (head_checks b)) }

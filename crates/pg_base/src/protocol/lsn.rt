@@ -1,4 +1,4 @@
-//! Log positions.
+//! Log sequence numbers.
 ghost use Rattle.std.specs.Prelude.{Some};
 ghost use Rattle.std.specs.Int.{w64, to_be_bytes};
 ghost use Rattle.pg_base.specs.Appending.{Appends};
@@ -10,7 +10,8 @@ use crate::fault::Fault;
 use bytes::{BufMut, BytesMut};
 use std::alloc::Global;
 
-/// Reads PG_LSN: 8 bytes, unsigned, big-endian (`pg_lsn_recv`). Any other length is `Size`.
+/// Reads PG_LSN: 8 bytes, unsigned, big-endian (`pg_lsn_recv`). Any other length is refused with
+/// `Size`.
 pub fn lsn_from_sql(raw: &[u8]) -> Result<u64, Fault>
     ensures outcome { Answers (Decodes (FormUnsigned w64) (first_fault_number 8) raw.now) result }
     ensures never_memory { NeverMemory result }

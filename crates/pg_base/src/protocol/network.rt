@@ -1,4 +1,4 @@
-//! Internet addresses with their netmasks, and MAC addresses.
+//! IP addresses with their netmasks, and MAC addresses.
 ghost use Rattle.std.specs.Prelude.{◌≡◌, ◌≢◌, ◌<◌, ◌⊎◌, ◌∷◌, Some, IfOk, IfErr, length};
 ghost use Rattle.pg_base.specs.Appending.{Appends};
 ghost use Rattle.pg_types.specs.Faults.{Answers, NeverMemory};
@@ -15,13 +15,14 @@ use std::alloc::Global;
 use std::marker::Model;
 use std::net::{IpAddr, Ipv4Addr, Ipv6Addr};
 
-/// The number of the family of IPv4 addresses.
+/// The address family of IPv4 in a cell (`PGSQL_AF_INET`).
 const IPV4: u8 = 2;
 
-/// The number of the family of IPv6 addresses.
+/// The address family of IPv6 in a cell (`PGSQL_AF_INET6`).
 const IPV6: u8 = 3;
 
-/// An address and the length of its netmask, how many of the address's first bits name the network.
+/// An address and the length of its netmask: the number of leading bits of the address that name
+/// the network.
 #[derive(Debug, Clone, Copy)]
 pub struct Inet {
     addr: IpAddr,
@@ -39,14 +40,14 @@ impl Model for Inet {
 }
 
 impl Inet {
-    /// The address.
+    /// Returns the address.
     pub fn addr(&self) -> IpAddr
         ensures { result ≡ self.now.address }
     {
         self.addr
     }
 
-    /// The length of the netmask.
+    /// Returns the length of the netmask in bits.
     pub fn netmask(&self) -> u8
         ensures length { result ≡ self.now.masklen }
         ensures fits { NetmaskFits self.now }
@@ -55,11 +56,12 @@ impl Inet {
     }
 }
 
-/// Reads INET or CIDR: the family's number, 2 for IPv4 and 3 for IPv6, the length of the netmask, a
-/// flag of any value, the number of octets, and the octets, 4 or 16 (`inet_recv`, `cidr_recv`).
-/// Fewer than 4 bytes are `Size`; then another family is `Family`, a netmask of more than 32 or 128
-/// bits `Netmask`, another number of octets than the family's `AddressLength`, and octets of
-/// another length than that `Size`. Bits after the netmask are not looked at.
+/// Reads INET or CIDR, in one byte each: the address family (2 for IPv4, 3 for IPv6), the length of
+/// the netmask in bits, a flag of any value, the number of octets, and the 4 or 16 octets
+/// (`inet_recv`, `cidr_recv`). Fewer than 4 bytes are refused with `Size`; then another family with
+/// `Family`, a netmask of more than 32 or 128 bits with `Netmask`, another number of octets than
+/// the family has with `AddressLength`, and any other number of bytes after it with `Size`. Bits
+/// after the netmask are not checked.
 #[inline(always)]
 pub fn inet_from_sql(raw: &[u8]) -> Result<Inet, Fault>
     ensures outcome { Answers (Decodes FormInet first_fault_inet raw.now) result }
@@ -85,8 +87,8 @@ pub fn inet_from_sql(raw: &[u8]) -> Result<Inet, Fault>
     })
 }
 
-/// The address of that family with these octets. Another number of octets than the family's is
-/// `Size`.
+/// Returns the address of this family with these octets. Any other number of octets than the family
+/// has is refused with `Size`.
 #[inline(always)]
 #[tactic(auto, using(crate::proofs::Octets::octets_back))]
 fn address_from_octets(family: u8, octets: &[u8]) -> Result<IpAddr, Fault>
@@ -108,9 +110,10 @@ fn address_from_octets(family: u8, octets: &[u8]) -> Result<IpAddr, Fault>
     }
 }
 
-/// Appends INET or CIDR: the family's number, 2 for IPv4 and 3 for IPv6, the length of the netmask,
-/// the flag 0, the number of octets, and the octets, 4 or 16 (`inet_send`, `cidr_send`). The
-/// netmask must be no longer than the address: 32 or 128 bits.
+/// Appends INET or CIDR, in one byte each: the address family (2 for IPv4, 3 for IPv6), the length
+/// of the netmask in bits, the flag 0, the number of octets, and the 4 or 16 octets (`inet_send`,
+/// `cidr_send`). The netmask must not be longer than the address: 32 or 128 bits. The server itself
+/// sends the flag 1 for CIDR, and ignores it on receipt.
 #[inline(always)]
 pub fn inet_to_sql(
     _alloc: Global,
@@ -120,7 +123,8 @@ pub fn inet_to_sql(
 ) -> Result<(), Fault>
     requires { NetmaskFits (with_netmask addr netmask) }
     ensures appends { Appends (Some (network_bytes 0 (with_netmask addr netmask))) out.old out.new result }
-    // For writers: a written form asks that the address has as many octets as its family.
+    // Writers need this: the written form requires that the address has as many octets as its
+    // family.
     ensures octets { length (address_octets addr) ≡ address_len addr }
 {
     match addr {
@@ -129,8 +133,8 @@ pub fn inet_to_sql(
     }
 }
 
-/// Appends the family's number, the length of the netmask, the flag 0, the number of octets, and
-/// the octets.
+/// Appends the address family, the length of the netmask, the flag 0, the number of octets, and the
+/// octets.
 #[inline(always)]
 fn octets_to_sql(family: u8, netmask: u8, octets: &[u8], out: &mut BytesMut) -> Result<(), Fault>
     requires { length octets.now < 256 }
@@ -142,7 +146,7 @@ fn octets_to_sql(family: u8, netmask: u8, octets: &[u8], out: &mut BytesMut) -> 
     Ok(())
 }
 
-/// Reads MACADDR: 6 bytes (`macaddr_recv`). Any other length is `Size`.
+/// Reads MACADDR: 6 bytes (`macaddr_recv`). Any other length is refused with `Size`.
 pub fn macaddr_from_sql(raw: &[u8]) -> Result<[u8; 6], Fault>
     ensures outcome { Answers (Decodes (FormFixedBytes 6) (first_fault_number 6) raw.now) result }
     ensures never_memory { NeverMemory result }

@@ -1,4 +1,4 @@
-//! Integers and booleans. Numbers lie big-endian, signed ones in two's complement.
+//! Integers and booleans. Integers are big-endian, and signed ones are in two's complement.
 ghost use Rattle.std.specs.Prelude.{Some, ◌∷◌, [], if◌then◌else◌};
 ghost use Rattle.std.specs.Int.{w8, w16, w32, w64, to_be_bytes};
 ghost use Rattle.pg_base.specs.Cells.{be};
@@ -11,8 +11,8 @@ use crate::fault::Fault;
 use bytes::{BufMut, BytesMut};
 use std::alloc::Global;
 
-/// Reads BOOL: 1 byte, of which 0 is false and any other true (`boolrecv`). Any other length is
-/// `Size`.
+/// Reads BOOL: 1 byte, 0 for false and any other for true (`boolrecv`). Any other length is refused
+/// with `Size`.
 pub fn bool_from_sql(raw: &[u8]) -> Result<bool, Fault>
     ensures outcome { Answers (Decodes FormBool (first_fault_number 1) raw.now) result }
     ensures never_memory { NeverMemory result }
@@ -23,7 +23,7 @@ pub fn bool_from_sql(raw: &[u8]) -> Result<bool, Fault>
     }
 }
 
-/// Appends BOOL: 1 byte, 0 or 1 (`boolsend`).
+/// Appends BOOL: 1 byte, 0 for false and 1 for true (`boolsend`).
 #[inline(always)]
 pub fn bool_to_sql(_alloc: Global, v: bool, out: &mut BytesMut) -> Result<(), Fault>
     ensures { Appends (Some ((if v then 1 else 0) ∷ [])) out.old out.new result }
@@ -32,7 +32,8 @@ pub fn bool_to_sql(_alloc: Global, v: bool, out: &mut BytesMut) -> Result<(), Fa
     Ok(())
 }
 
-/// Reads CHAR: 1 byte, in two's complement (`charrecv`). Any other length is `Size`.
+/// Reads CHAR, the type `"char"`: 1 byte, in two's complement (`charrecv`). Any other length is
+/// refused with `Size`.
 pub fn char_from_sql(raw: &[u8]) -> Result<i8, Fault>
     ensures outcome { Answers (Decodes (FormSigned w8) (first_fault_number 1) raw.now) result }
     ensures never_memory { NeverMemory result }
@@ -43,7 +44,7 @@ pub fn char_from_sql(raw: &[u8]) -> Result<i8, Fault>
     }
 }
 
-/// Appends CHAR: 1 byte, in two's complement (`charsend`).
+/// Appends CHAR, the type `"char"`: 1 byte, in two's complement (`charsend`).
 #[inline(always)]
 pub fn char_to_sql(_alloc: Global, v: i8, out: &mut BytesMut) -> Result<(), Fault>
     ensures { Appends (Some (be w8 v)) out.old out.new result }
@@ -52,8 +53,8 @@ pub fn char_to_sql(_alloc: Global, v: i8, out: &mut BytesMut) -> Result<(), Faul
     Ok(())
 }
 
-/// Reads INT2: 2 bytes, big-endian, in two's complement (`int2recv`). Any other length is
-/// `Size`.
+/// Reads INT2: 2 bytes, big-endian, in two's complement (`int2recv`). Any other length is refused
+/// with `Size`.
 pub fn int2_from_sql(raw: &[u8]) -> Result<i16, Fault>
     ensures outcome { Answers (Decodes (FormSigned w16) (first_fault_number 2) raw.now) result }
     ensures never_memory { NeverMemory result }
@@ -73,8 +74,8 @@ pub fn int2_to_sql(_alloc: Global, v: i16, out: &mut BytesMut) -> Result<(), Fau
     Ok(())
 }
 
-/// Reads INT4: 4 bytes, big-endian, in two's complement (`int4recv`). Any other length is
-/// `Size`.
+/// Reads INT4: 4 bytes, big-endian, in two's complement (`int4recv`). Any other length is refused
+/// with `Size`.
 pub fn int4_from_sql(raw: &[u8]) -> Result<i32, Fault>
     ensures outcome { Answers (Decodes (FormSigned w32) (first_fault_number 4) raw.now) result }
     ensures never_memory { NeverMemory result }
@@ -94,8 +95,8 @@ pub fn int4_to_sql(_alloc: Global, v: i32, out: &mut BytesMut) -> Result<(), Fau
     Ok(())
 }
 
-/// Reads INT8: 8 bytes, big-endian, in two's complement (`int8recv`). Any other length is
-/// `Size`.
+/// Reads INT8: 8 bytes, big-endian, in two's complement (`int8recv`). Any other length is refused
+/// with `Size`.
 pub fn int8_from_sql(raw: &[u8]) -> Result<i64, Fault>
     ensures outcome { Answers (Decodes (FormSigned w64) (first_fault_number 8) raw.now) result }
     ensures never_memory { NeverMemory result }
@@ -115,7 +116,7 @@ pub fn int8_to_sql(_alloc: Global, v: i64, out: &mut BytesMut) -> Result<(), Fau
     Ok(())
 }
 
-/// Reads OID: 4 bytes, unsigned, big-endian (`oidrecv`). Any other length is `Size`.
+/// Reads OID: 4 bytes, unsigned, big-endian (`oidrecv`). Any other length is refused with `Size`.
 pub fn oid_from_sql(raw: &[u8]) -> Result<u32, Fault>
     ensures outcome { Answers (Decodes (FormUnsigned w32) (first_fault_number 4) raw.now) result }
     ensures never_memory { NeverMemory result }

@@ -9,7 +9,7 @@ use crate::fault::Fault;
 use bytes::BytesMut;
 use std::alloc::Global;
 
-/// Reads a text: its bytes (`textrecv`). Bytes that are not UTF-8 are `Utf8`.
+/// Reads a text: its bytes, in UTF-8 (`textrecv`). Other bytes are refused with `Utf8`.
 #[tactic(auto, using(crate::proofs::TextLemmas::text_refused))]
 pub fn text_from_sql(raw: &[u8]) -> Result<&str, Fault>
     ensures outcome { Answers (Decodes (FormText (λ text. text.now) false) (first_fault_text false) raw.now) result }
@@ -21,7 +21,7 @@ pub fn text_from_sql(raw: &[u8]) -> Result<&str, Fault>
     }
 }
 
-/// Appends a text: its bytes (`textsend`).
+/// Appends a text: its bytes, in UTF-8 (`textsend`).
 #[inline(always)]
 pub fn text_to_sql(_alloc: Global, v: &str, out: &mut BytesMut) -> Result<(), Fault>
     ensures { Appends (Some v.now) out.old out.new result }
@@ -30,11 +30,11 @@ pub fn text_to_sql(_alloc: Global, v: &str, out: &mut BytesMut) -> Result<(), Fa
     Ok(())
 }
 
-/// The first byte of the cells that have a version.
+/// The version, which is the first byte of the cells that have one.
 const VERSION: u8 = 1;
 
-/// Reads a text after the version 1. Another first byte, or none, is `TextVersion`; what is not
-/// UTF-8 after it is `Utf8`.
+/// Reads the version 1 and a text. Another first byte, or none, is refused with `TextVersion`, and
+/// then a text that is not UTF-8 with `Utf8`.
 fn versioned_from_sql(raw: &[u8]) -> Result<&str, Fault>
     ensures outcome { Answers (Decodes (FormText (λ text. text.now) true) (first_fault_text true) raw.now) result }
     ensures never_memory { NeverMemory result }
@@ -56,8 +56,8 @@ fn versioned_to_sql(v: &str, out: &mut BytesMut) -> Result<(), Fault>
     Ok(())
 }
 
-/// Reads ltree: the version 1 and the text (`ltree_recv`). Another first byte, or none, is
-/// `TextVersion`; what is not UTF-8 after it is `Utf8`.
+/// Reads ltree: the version 1 in one byte, and the text (`ltree_recv`). Another first byte, or
+/// none, is refused with `TextVersion`, and then a text that is not UTF-8 with `Utf8`.
 pub fn ltree_from_sql(raw: &[u8]) -> Result<&str, Fault>
     ensures outcome { Answers (Decodes (FormText (λ text. text.now) true) (first_fault_text true) raw.now) result }
     ensures never_memory { NeverMemory result }
@@ -65,7 +65,7 @@ pub fn ltree_from_sql(raw: &[u8]) -> Result<&str, Fault>
     versioned_from_sql(raw)
 }
 
-/// Appends ltree: the version 1 and the text (`ltree_send`).
+/// Appends ltree: the version 1 in one byte, and the text (`ltree_send`).
 #[inline(always)]
 pub fn ltree_to_sql(_alloc: Global, v: &str, out: &mut BytesMut) -> Result<(), Fault>
     ensures { Appends (Some (1 ∷ v.now)) out.old out.new result }
@@ -73,8 +73,8 @@ pub fn ltree_to_sql(_alloc: Global, v: &str, out: &mut BytesMut) -> Result<(), F
     versioned_to_sql(v, out)
 }
 
-/// Reads lquery: the version 1 and the text (`lquery_recv`). Another first byte, or none, is
-/// `TextVersion`; what is not UTF-8 after it is `Utf8`.
+/// Reads lquery: the version 1 in one byte, and the text (`lquery_recv`). Another first byte, or
+/// none, is refused with `TextVersion`, and then a text that is not UTF-8 with `Utf8`.
 pub fn lquery_from_sql(raw: &[u8]) -> Result<&str, Fault>
     ensures outcome { Answers (Decodes (FormText (λ text. text.now) true) (first_fault_text true) raw.now) result }
     ensures never_memory { NeverMemory result }
@@ -82,15 +82,15 @@ pub fn lquery_from_sql(raw: &[u8]) -> Result<&str, Fault>
     versioned_from_sql(raw)
 }
 
-/// Appends lquery: the version 1 and the text (`lquery_send`).
+/// Appends lquery: the version 1 in one byte, and the text (`lquery_send`).
 pub fn lquery_to_sql(_alloc: Global, v: &str, out: &mut BytesMut) -> Result<(), Fault>
     ensures { Appends (Some (1 ∷ v.now)) out.old out.new result }
 {
     versioned_to_sql(v, out)
 }
 
-/// Reads ltxtquery: the version 1 and the text (`ltxtq_recv`). Another first byte, or none, is
-/// `TextVersion`; what is not UTF-8 after it is `Utf8`.
+/// Reads ltxtquery: the version 1 in one byte, and the text (`ltxtq_recv`). Another first byte, or
+/// none, is refused with `TextVersion`, and then a text that is not UTF-8 with `Utf8`.
 pub fn ltxtquery_from_sql(raw: &[u8]) -> Result<&str, Fault>
     ensures outcome { Answers (Decodes (FormText (λ text. text.now) true) (first_fault_text true) raw.now) result }
     ensures never_memory { NeverMemory result }
@@ -98,7 +98,7 @@ pub fn ltxtquery_from_sql(raw: &[u8]) -> Result<&str, Fault>
     versioned_from_sql(raw)
 }
 
-/// Appends ltxtquery: the version 1 and the text (`ltxtq_send`).
+/// Appends ltxtquery: the version 1 in one byte, and the text (`ltxtq_send`).
 pub fn ltxtquery_to_sql(_alloc: Global, v: &str, out: &mut BytesMut) -> Result<(), Fault>
     ensures { Appends (Some (1 ∷ v.now)) out.old out.new result }
 {

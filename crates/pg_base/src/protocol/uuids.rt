@@ -10,7 +10,7 @@ use crate::fault::Fault;
 use bytes::BytesMut;
 use std::alloc::Global;
 
-/// Reads UUID: 16 bytes (`uuid_recv`). Any other length is `Size`.
+/// Reads UUID: 16 bytes (`uuid_recv`). Any other length is refused with `Size`.
 pub fn uuid_from_sql(raw: &[u8]) -> Result<[u8; 16], Fault>
     ensures outcome { Answers (Decodes (FormFixedBytes 16) (first_fault_number 16) raw.now) result }
     ensures never_memory { NeverMemory result }

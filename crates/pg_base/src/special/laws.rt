@@ -1,5 +1,5 @@
-//! What equality of dates and of timestamps with infinities means, each as a call whose contract
-//! says it.
+//! What equality of dates and timestamps that may be infinite means, each as a function whose
+//! contract states it.
 ghost use Rattle.std.specs.Prelude.{◌↔◌, IsTrue};
 ghost use Rattle.pg_base.specs.Special.{SameSpecial, date_view, timestamp_view};
 

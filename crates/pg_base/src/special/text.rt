@@ -12,7 +12,7 @@ use jiff::civil;
 use pg_calendar::{DateTime, write_date, write_timestamp};
 use std::fmt;
 
-/// `2000-01-31`, `infinity` or `-infinity` (`date_out`).
+/// Writes `2000-01-31`, `infinity` or `-infinity` (`date_out`).
 impl fmt::Display for Date<civil::Date> {
     ghost output = { λ v. Some (special_text civil_date_text (date_view v)) };
 
@@ -25,8 +25,8 @@ impl fmt::Display for Date<civil::Date> {
     }
 }
 
-/// `2000-01-31 23:59:59.5`, `infinity` or `-infinity` (`timestamp_out`). What is below a microsecond
-/// is left out.
+/// Writes `2000-01-31 23:59:59.5`, `infinity` or `-infinity` (`timestamp_out`). The time is
+/// truncated to microseconds.
 impl fmt::Display for Timestamp<civil::DateTime> {
     ghost output = { λ v. Some (special_text civil_datetime_text (timestamp_view v)) };
 
@@ -43,8 +43,8 @@ impl fmt::Display for Timestamp<civil::DateTime> {
     }
 }
 
-/// `2000-01-31 23:59:59.5+00`, `infinity` or `-infinity` (`timestamptz_out`, in UTC). What is below a
-/// microsecond is left out.
+/// Writes `2000-01-31 23:59:59.5+00`, `infinity` or `-infinity` (`timestamptz_out`, with TimeZone
+/// UTC). The timestamp is truncated to microseconds toward 1970-01-01 00:00:00 UTC.
 impl fmt::Display for Timestamp<jiff::Timestamp> {
     ghost output = { λ v. Some (special_text instant_text (timestamp_view v)) };
 
@@ -57,7 +57,7 @@ impl fmt::Display for Timestamp<jiff::Timestamp> {
     }
 }
 
-/// Writes the timestamp with the zone.
+/// Writes the timestamp and its zone.
 fn write_instant<W: fmt::Write>(
     timestamp: jiff::Timestamp,
     f: &mut fmt::Formatter<W>,
@@ -67,7 +67,8 @@ fn write_instant<W: fmt::Write>(
     write_timestamp(datetime_of(timestamp), "+00", f)
 }
 
-/// `2000-01-31 23:59:59.5`, `infinity` or `-infinity` (`timestamp_out`).
+/// Writes `2000-01-31 23:59:59.5`, `infinity` or `-infinity` (`timestamp_out`). It is rounded down
+/// to microseconds.
 impl fmt::Display for Timestamp<UnixTime> {
     ghost output = { λ v. Some (special_text unix_time_text (timestamp_view v)) };
 

@@ -1,4 +1,4 @@
-//! What equality and order of timestamps mean, each as a call whose contract says it.
+//! What equality and order of timestamps mean, each as a function whose contract states it.
 ghost use Rattle.std.specs.Prelude.{◌≡◌, ◌↔◌, IsTrue};
 ghost use Rattle.std.specs.Ordering.{int_cmp};
 ghost use Rattle.pg_base.specs.Timestamps.{nanos_of};

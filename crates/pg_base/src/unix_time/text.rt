@@ -1,4 +1,4 @@
-//! The text of a timestamp in seconds.
+//! The text of a `UnixTime`.
 ghost use Rattle.std.specs.Prelude.{Some};
 ghost use Rattle.pg_base.specs.DateTexts.{unix_time_text};
 
@@ -6,8 +6,8 @@ use super::UnixTime;
 use pg_calendar::{DateTime, write_timestamp};
 use std::fmt;
 
-/// `2000-01-31 23:59:59.5`, of UTC, without a zone (`timestamp_out`). What is below a microsecond is
-/// left out.
+/// Writes the timestamp in UTC without a zone, like `2000-01-31 23:59:59.5` (`timestamp_out`). It
+/// is rounded down to microseconds.
 impl fmt::Display for UnixTime {
     ghost output = { λ v. Some (unix_time_text v) };
 

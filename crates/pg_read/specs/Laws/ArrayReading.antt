@@ -1,4 +1,4 @@
--- Laws of reading lists: the cell of a list has at most one outcome, where those of its elements have one.
+-- Laws of reading lists: the cell of a list has at most one outcome, if the cells of its elements have.
 use Rattle.std.specs.Prelude.{◌≡◌, ℕ, List, [], ◌∷◌, take, Option, Some, None, Ok, Err, Bool, IsTrue}
 use Rattle.std.proofs.Common.{sym, ◌∙◌, subst, inl, inr, true≢false}
 use Rattle.pg_base.proofs.ArrayLaws.{body_single, head_passes}
@@ -42,7 +42,7 @@ module _ {A : Type 0} (same : A → A → Type 0) (reads : Cell → Outcome A �
     ]
   ]
 
-  -- and so they do with checks after them
+  -- and also with checks after them
   pub checked_single : (checks : Checks) (cs : List Cell) (r s : Outcome (List A)) → ReadsChecked reads checks cs r
       → ReadsChecked reads checks cs s → SameOutcome (SameList same) r s
   checked_single checks cs (Ok vs) (Ok ws) h k = all_single cs (Ok vs) (Ok ws) h.0 k.0
@@ -71,14 +71,14 @@ module _ {A : Type 0} (same : A → A → Type 0) (reads : Cell → Outcome A �
     ]
   ]
 
--- elements of such a count have one outcome
+-- elements in this number have one outcome
 abbrev pub ElementsSingle : {A : Type 0} → (A → A → Type 0) → (ℕ → List Cell → List ℕ → Outcome (List A) → Type 0)
     → Type 0
 ElementsSingle {A} same elements =
     (n : ℕ) (cs : List Cell) (rest : List ℕ) (r s : Outcome (List A)) → elements n cs rest r → elements n cs rest s
     → SameOutcome (SameList same) r s
 
--- where elements have one outcome, so has the cell of their array
+-- if elements have one outcome, so has the cell of their array
 module _ {A X : Type 0} (items : X → List A) (same : A → A → Type 0)
     (elements : ℕ → List Cell → List ℕ → Outcome (List A) → Type 0) (single : ElementsSingle same elements) where
   body_outcome : (b : List ℕ) (r s : Outcome (List A)) → ElementsGive elements b r → ElementsGive elements b s
@@ -120,7 +120,7 @@ module _ {A X : Type 0} (items : X → List A) (same : A → A → Type 0)
   pub array_single : ReadsSingle (λ x y. SameList same (items x) (items y)) (ReadsArray items elements)
   array_single = not_null_single (λ x y. SameList same (items x) (items y)) (DecodesArray items elements) one_decoded
 
--- lists of each accepted type of elements have one outcome, and so have those of an accepted array
+-- if the lists for each accepted element type have one outcome, so has an accepted array
 module _ {X : Type 0} (same : X → X → Type 0) (inside : Content → Bool) (lists : Content → Cell → Outcome X → Type 0)
     (single : (element : Content) → IsTrue (inside element) → ReadsSingle same (lists element)) where
   by_element_single : (element : Option Content) → IsTrue (accepted_element inside element)
@@ -132,14 +132,14 @@ module _ {X : Type 0} (same : X → X → Type 0) (inside : Content → Bool) (l
       → ReadsSingle same (ReadsByElement lists (element_of ty))
   by_elements_single ty h = by_element_single (element_of ty) h
 
--- a list's elements, read by what has one outcome, have one outcome
+-- the elements of a list, read by what has one outcome, have one outcome
 pub list_single : {A X : Type 0} (items : X → List A) (same : A → A → Type 0) (reads : Cell → Outcome A → Type 0)
     → ReadsSingle same reads → ReadsSingle (λ x y. SameList same (items x) (items y)) (ReadsList items reads)
 list_single items same reads single =
     array_single items same (ReadsElements reads)
     (λ n cs rest. checked_single same reads single (end_checks n cs rest) cs)
 
--- and so have those of so many values
+-- and so have the elements if a number of values is expected
 pub fixed_single : {A X : Type 0} (items : X → List A) (expected : ℕ) (same : A → A → Type 0)
     (reads : Cell → Outcome A → Type 0) → ReadsSingle same reads
     → ReadsSingle (λ x y. SameList same (items x) (items y)) (ReadsArray items (ReadsFixed expected reads))

@@ -1,4 +1,4 @@
--- Laws of reading: a cell has at most one outcome, in plain formats, and in what holds a value that is read.
+-- Laws of reading: a cell has at most one outcome, in plain formats, and for types that contain a value that is read.
 use Rattle.std.specs.Prelude.{◌≡◌, ℕ, List, length, Bool, true, false, Option, Some, None, Ok, Err}
 use Rattle.std.proofs.Common.{sym, ◌∙◌, ap, inl, inr, true≢false}
 use Rattle.std.specs.Int.{Width}
@@ -20,7 +20,7 @@ use Rattle.pg_read.specs.Views.{Constrained, ReadsConstrained, ReadsThrough, Thr
 pub no_fault : {A : Type 0} (o : Option A) (a : A) → o ≡ None → o ≡ Some a → ⊥
 no_fault o a e f = let bad : None ≡ Some a = sym e ∙ f in cc
 
--- where bytes have one outcome, and NULL is WasNull, a cell has one
+-- if bytes have one outcome, and NULL gives WasNull, a cell has one
 pub not_null_single : {A : Type 0} (same : A → A → Type 0) (reads : List ℕ → Outcome A → Type 0)
     → ((b : List ℕ) → GivesSingle same (reads b)) → ReadsSingle same (NotNull reads)
 not_null_single same reads single None (Ok v) s h k = absurd h
@@ -58,7 +58,7 @@ through_gives_single inside same gives single (Ok v) (Err s) h k = single (Ok (i
 through_gives_single inside same gives single (Err r) (Ok w) h k = single (Err r) (Ok (inside w)) h k
 through_gives_single inside same gives single (Err r) (Err s) h k = single (Err r) (Err s) h k
 
--- one outcome inside gives one of the values that show it
+-- if the value inside has one outcome, so have the values that contain it
 pub through_single : {A B : Type 0} (inside : B → A) (same : A → A → Type 0) (reads : Cell → Outcome A → Type 0)
     → ReadsSingle same reads → ReadsSingle (λ v w. same (inside v) (inside w)) (ReadsThrough inside reads)
 through_single inside same reads single c = through_gives_single inside same (reads c) (single c)
@@ -66,7 +66,7 @@ through_single inside same reads single c = through_gives_single inside same (re
 module _ {A : Type 0} (same : A → A → Type 0) (meets : A → Bool) (fault : Refusal)
     (respects : (v w : A) → same v w → meets v ≡ meets w) (gives : Outcome A → Type 0)
     (single : GivesSingle same gives) where
-  -- no value meets the constraint and is the same as one that does not
+  -- no value that meets the constraint is the same as one that does not
   met_and_unmet : (v w : A) → gives (Ok v) → meets v ≡ true → gives (Ok w) → meets w ≡ false → ⊥
   met_and_unmet v w h m k u = true≢false (sym m ∙ respects v w (single (Ok v) (Ok w) h k) ∙ u)
 
@@ -85,7 +85,7 @@ module _ {A : Type 0} (same : A → A → Type 0) (meets : A → Bool) (fault : 
     | inr y ↦ elim k [ inl z ↦ absurd (single (Ok y.value) (Err s) y.given z) | inr z ↦ y.is ∙ sym z.is ]
   ]
 
--- one outcome gives one under a constraint that does not tell values apart that are the same
+-- if there is one outcome, there is one under a constraint that treats values with the same content alike
 pub constrained_single : {A : Type 0} (same : A → A → Type 0) (meets : A → Bool) (fault : Refusal)
     → ((v w : A) → same v w → meets v ≡ meets w) → (reads : Cell → Outcome A → Type 0) → ReadsSingle same reads
     → ReadsSingle same (ReadsConstrained meets fault reads)
@@ -94,13 +94,13 @@ constrained_single same meets fault respects reads single c =
 
 -- ---- boxes and options
 
--- one outcome inside gives one of the box
+-- if the value inside has one outcome, so has the box
 pub box_single : {A B : Type 0} (inside : B → A) (same : A → A → Type 0) (reads : Cell → Outcome A → Type 0)
     → ReadsSingle same reads → ReadsSingle (λ v w. same (inside v) (inside w)) (ReadsBox inside reads)
 box_single inside same reads single = through_single inside same (NotNull (λ b. reads (Some b)))
     (not_null_single same (λ b. reads (Some b)) (λ b. single (Some b)))
 
--- one outcome inside gives one of the option
+-- if the value inside has one outcome, so has the option
 pub option_single : {A : Type 0} (same : A → A → Type 0) (reads : Cell → Outcome A → Type 0) → ReadsSingle same reads
     → ReadsSingle (SameOption same) (ReadsOption reads)
 option_single same reads single None (Ok None) (Ok None) h k = tt
@@ -157,7 +157,7 @@ module _ {A : Type 0} (w : Width) (same : A → A → Type 0) (reads : Cell → 
   one_decoded view (Err r) (Ok t) h k = form_or_refused (view t) r k h
   one_decoded view (Err r) (Err f) h k = one_refusal r f h k
 
--- one outcome inside gives one outcome of the values with infinities
+-- if the value inside has one outcome, so has the value that may be infinite
 pub special_single : {A B : Type 0} (w : Width) (view : B → Special A) (same : A → A → Type 0)
     (reads : Cell → Outcome A → Type 0) → ReadsSingle same reads
     → ReadsSingle (λ s t. SameSpecial same (view s) (view t)) (ReadsSpecial w view reads)

@@ -1,4 +1,4 @@
-//! Reading arrays of a fixed number of elements.
+//! Reading arrays with a fixed number of elements.
 ghost use Rattle.std.specs.Prelude.{◌≡◌, Some, IsTrue};
 ghost use Rattle.pg_base.specs.ArrayTypes.{accepted_list, element_of};
 ghost use Rattle.pg_base.specs.Options.{NoneOr};
@@ -12,6 +12,7 @@ ghost use Rattle.pg_read.specs.ElementReading.{Finishes, GivesElement, Stops};
 
 use super::accepts_list;
 use crate::from_sql::{FromSql, from_sql_nullable};
+use crate::laws::{never_answers_memory, never_answers_memory_at_null};
 use array_slots::{ElementSource, Finish, try_from_source};
 use pg_base::acceptance::element_type;
 use pg_base::fault::Fault;
@@ -20,12 +21,13 @@ use pg_base::types::PgType;
 use std::alloc::Global;
 use std::marker::PhantomData;
 
-/// An array of a type that `T` accepts, of `N` elements, read as for `Vec<T>`; elements after the
-/// first `N` are not read. Where `N` were read, a further element that is truncated is `Size`, and
-/// one that is whole `Excess` with `N`. Where the count is smaller, bytes after the last are `Size`,
-/// and otherwise it is `TooFew` with `N` and the count. NULL is `WasNull`.
+/// Reads an array of `N` elements whose type `T` accepts. The header and the first `N` elements are
+/// read as `Vec<T>` reads them. After them, a further element is refused with `Excess` and `N`, or
+/// with `Size` if it is truncated. Trailing bytes after the last element are refused with `Size`.
+/// Otherwise an array of fewer elements is refused with `TooFew`, `N` and their number. NULL is
+/// refused with `WasNull`.
 ///
-/// The elements are read into their places, so that it takes no memory where none of them does.
+/// The elements are read into slots on the stack, so it allocates only if an element does.
 impl<'a, T: FromSql<'a>, const N: usize> FromSql<'a> for [T; N] {
     ghost same = { SameList T.same };
 
@@ -58,7 +60,7 @@ impl<'a, T: FromSql<'a>, const N: usize> FromSql<'a> for [T; N] {
     }
 }
 
-/// Reads `N` elements of an array, which are of the type `element`.
+/// Reads the `N` elements of an array of `element`.
 fn read_array<'a, T: FromSql<'a>, const N: usize>(
     alloc: Global,
     element: &PgType,
@@ -90,9 +92,9 @@ struct ElementReader<'a, 'p, T> {
     element: &'p PgType,
     /// The cells that are to be read.
     cells: ArrayCells<'a>,
-    /// How many elements are wanted.
+    /// The number of elements of the Rust array.
     expected: usize,
-    /// Why there are no more elements: too few are stated, unless another fault was met.
+    /// The fault if no further element is given: `TooFew`, unless another fault was found.
     fault: Fault,
     values: PhantomData<T>,
 }
@@ -134,7 +136,7 @@ impl<'a, 'p, T: FromSql<'a>> Finish for ElementReader<'a, 'p, T> {
         self.fault
     }
 
-    /// There is no further element, and no bytes are left.
+    /// Checks that there is no further element and no trailing byte.
     fn finish(mut self) -> Result<(), Fault> {
         match self.cells.next() {
             None => Ok(()),
@@ -144,4 +146,10 @@ impl<'a, 'p, T: FromSql<'a>> Finish for ElementReader<'a, 'p, T> {
             Some(Err(fault)) => Err(fault),
         }
     }
+}
+
+/// An array is read without memory where its elements are, and NULL always.
+pub(crate) fn read_without_memory() {
+    never_answers_memory::<[i32; 2]>();
+    never_answers_memory_at_null::<[String; 2]>();
 }

@@ -1,4 +1,4 @@
-//! Reading dates with infinities.
+//! Reading dates that may be infinite.
 ghost use Rattle.std.specs.Prelude.{Some};
 ghost use Rattle.std.specs.Int.{w32};
 ghost use Rattle.pg_base.specs.Special.{FreeSpecial, ReadsSpecial, SameSpecial, accepted_date, date_view};
@@ -6,6 +6,8 @@ ghost use Rattle.pg_base.proofs.SpecialLaws.{special_equivalence, inside_accepte
 ghost use Rattle.pg_read.specs.Laws.Reading.{special_single};
 
 use crate::from_sql::FromSql;
+use crate::laws::{never_answers_memory, never_answers_memory_at_null};
+use jiff::civil;
 use pg_base::acceptance::is_date;
 use pg_base::fault::Fault;
 use pg_base::protocol::date_from_sql;
@@ -13,9 +15,10 @@ use pg_base::special::Date;
 use pg_base::types::PgType;
 use std::alloc::Global;
 
-/// DATE where `T` reads it: 4 bytes, else `Size` (`date_recv`). The greatest number is
-/// `PosInfinity` and the least `NegInfinity`, whatever `T` says of them. Any other is `Value` of
-/// `T`'s value, or `T`'s fault. NULL is `WasNull`, whatever `T` says of it.
+/// Reads DATE, if `T` accepts it (`date_recv`). Any other length than 4 bytes is refused with
+/// `Size`. The greatest number is `PosInfinity` and the least `NegInfinity`, without asking `T`.
+/// Any other number is `Value` of what `T` reads, or `T`'s fault. NULL is refused with `WasNull`,
+/// even if `T` has a value for it.
 impl<'a, T: FromSql<'a>> FromSql<'a> for Date<T> {
     ghost same = { λ v w. SameSpecial T.same (date_view v) (date_view w) };
 
@@ -48,4 +51,10 @@ impl<'a, T: FromSql<'a>> FromSql<'a> for Date<T> {
     fn accepts(ty: &PgType) -> bool {
         is_date(ty) && T::accepts(ty)
     }
+}
+
+/// A `Date` is read without memory where its date is, and NULL always.
+pub(crate) fn read_without_memory() {
+    never_answers_memory::<Date<civil::Date>>();
+    never_answers_memory_at_null::<Date<String>>();
 }

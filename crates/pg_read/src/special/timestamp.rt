@@ -1,4 +1,4 @@
-//! Reading timestamps with infinities.
+//! Reading timestamps that may be infinite.
 ghost use Rattle.std.specs.Prelude.{Some};
 ghost use Rattle.std.specs.Int.{w64};
 ghost use Rattle.pg_base.specs.Special.{FreeSpecial, ReadsSpecial, SameSpecial, accepted_timestamp, timestamp_view};
@@ -6,17 +6,19 @@ ghost use Rattle.pg_base.proofs.SpecialLaws.{special_equivalence, inside_accepte
 ghost use Rattle.pg_read.specs.Laws.Reading.{special_single};
 
 use crate::from_sql::FromSql;
+use crate::laws::{never_answers_memory, never_answers_memory_at_null};
 use pg_base::acceptance::is_timestamp;
 use pg_base::fault::Fault;
 use pg_base::protocol::timestamp_from_sql;
 use pg_base::special::Timestamp;
 use pg_base::types::PgType;
+use pg_base::unix_time::UnixTime;
 use std::alloc::Global;
 
-/// TIMESTAMP and TIMESTAMPTZ where `T` reads them: 8 bytes, else `Size` (`timestamp_recv`,
-/// `timestamptz_recv`). The greatest number is `PosInfinity` and the least `NegInfinity`, whatever
-/// `T` says of them. Any other is `Value` of `T`'s value, or `T`'s fault. NULL is `WasNull`,
-/// whatever `T` says of it.
+/// Reads TIMESTAMP and TIMESTAMPTZ, if `T` accepts them (`timestamp_recv`, `timestamptz_recv`). Any
+/// other length than 8 bytes is refused with `Size`. The greatest number is `PosInfinity` and the
+/// least `NegInfinity`, without asking `T`. Any other number is `Value` of what `T` reads, or `T`'s
+/// fault. NULL is refused with `WasNull`, even if `T` has a value for it.
 impl<'a, T: FromSql<'a>> FromSql<'a> for Timestamp<T> {
     ghost same = { λ v w. SameSpecial T.same (timestamp_view v) (timestamp_view w) };
 
@@ -50,4 +52,10 @@ impl<'a, T: FromSql<'a>> FromSql<'a> for Timestamp<T> {
     fn accepts(ty: &PgType) -> bool {
         is_timestamp(ty) && T::accepts(ty)
     }
+}
+
+/// A `Timestamp` is read without memory where its timestamp is, and NULL always.
+pub(crate) fn read_without_memory() {
+    never_answers_memory::<Timestamp<UnixTime>>();
+    never_answers_memory_at_null::<Timestamp<String>>();
 }

@@ -16,7 +16,7 @@ label_passes Sad = refl
 label_passes MoodOk = refl
 label_passes Happy = refl
 
--- no two values have one label
+-- no two values have the same label
 label_single : (v w : Mood) → label v ≡ label w → v ≡ w
 label_single Sad Sad e = refl
 label_single Sad MoodOk e = cc
@@ -28,7 +28,7 @@ label_single Happy Sad e = cc
 label_single Happy MoodOk e = cc
 label_single Happy Happy e = refl
 
--- each value is at its place among the values
+-- each value is at its index among the values
 pub placed : (v : Mood) → slice_get members (place v) ≡ Some v
 placed Sad = refl
 placed MoodOk = refl

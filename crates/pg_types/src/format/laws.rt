@@ -1,9 +1,9 @@
-//! What equality of formats and of answers of a write means, each as a call whose contract says it.
+//! What equality of formats and of `IsNull` means, each as a function whose contract states it.
 ghost use Rattle.std.specs.Prelude.{◌≡◌, ◌↔◌, IsTrue};
 
 use super::{Format, IsNull};
 
-/// Whether two answers of a write are equal: the same variant.
+/// Whether two results of a write are equal: the same variant.
 pub fn same_is_null(a: &IsNull, b: &IsNull) -> bool
     ensures { IsTrue result ↔ (a.now ≡ b.now) }
 {

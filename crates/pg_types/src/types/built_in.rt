@@ -4,10 +4,10 @@ ghost use Rattle.pg_types.specs.BuiltInRows.{row_oid, row_name, row_element};
 
 use super::Oid;
 
-/// The table of the built-in types, as in the server's catalog pg_type and in the order of its
-/// OIDs: of each its constant of `PgType`, its member of `BuiltIn`, its OID, its name and, of an
-/// array, the member of its elements. `$rows` is the macro that is called with all rows, after the
-/// arguments.
+/// The table of the built-in types, as in the system catalog `pg_type` and in the order of the
+/// OIDs. A row has the constant of `PgType`, the member of `BuiltIn`, the OID, the name and, for an
+/// array, the member of its element type. The macro `$rows` is called with the arguments and then
+/// all rows.
 macro_rules! built_in_types {
     ($rows:ident $args:tt) => {
         $rows! { $args
@@ -146,7 +146,7 @@ macro_rules! name_of {
     };
 }
 
-// The row of the elements of a row.
+// The row of the element type of a row.
 macro_rules! element_of {
     (($row:expr) $($constant:ident $member:ident $oid:literal $name:literal $([$element:ident])?,)*) => {
         match $row {
@@ -170,7 +170,7 @@ impl BuiltIn {
         built_in_types!(name_of(self))
     }
 
-    // The element type of an array type.
+    // The element type of an array type; `None` for another type.
     pub(super) fn element(self) -> Option<BuiltIn>
         ensures { result ≡ row_element self }
     {

@@ -30,7 +30,7 @@ impl PgType {
     pub const BOOL: PgType = built_in!(Bool);
     /// `bytea`, OID 17.
     pub const BYTEA: PgType = built_in!(Bytea);
-    /// `char`, OID 18.
+    /// `char`, OID 18: the one-byte type `"char"`, and not `char(n)`.
     pub const CHAR: PgType = built_in!(Char);
     /// `name`, OID 19.
     pub const NAME: PgType = built_in!(Name);
@@ -38,7 +38,7 @@ impl PgType {
     pub const INT8: PgType = built_in!(Int8);
     /// `int2`, OID 21.
     pub const INT2: PgType = built_in!(Int2);
-    /// `int2vector`, OID 22: an array of `int2`, as the catalog's own tables hold it.
+    /// `int2vector`, OID 22: an array of `int2`, as the system catalogs use it.
     pub const INT2_VECTOR: PgType = built_in!(Int2Vector);
     /// `int4`, OID 23.
     pub const INT4: PgType = built_in!(Int4);
@@ -46,7 +46,7 @@ impl PgType {
     pub const TEXT: PgType = built_in!(Text);
     /// `oid`, OID 26.
     pub const OID: PgType = built_in!(Oid);
-    /// `oidvector`, OID 30: an array of `oid`, as the catalog's own tables hold it.
+    /// `oidvector`, OID 30: an array of `oid`, as the system catalogs use it.
     pub const OID_VECTOR: PgType = built_in!(OidVector);
     /// `json`, OID 114.
     pub const JSON: PgType = built_in!(Json);
@@ -88,9 +88,9 @@ impl PgType {
     pub const MACADDR_ARRAY: PgType = built_in!(MacaddrArray);
     /// `_inet`, OID 1041: an array of `inet`.
     pub const INET_ARRAY: PgType = built_in!(InetArray);
-    /// `bpchar`, OID 1042.
+    /// `bpchar`, OID 1042: the type `char(n)`.
     pub const BPCHAR: PgType = built_in!(Bpchar);
-    /// `varchar`, OID 1043.
+    /// `varchar`, OID 1043: the type `varchar(n)`.
     pub const VARCHAR: PgType = built_in!(Varchar);
     /// `date`, OID 1082.
     pub const DATE: PgType = built_in!(Date);
@@ -133,7 +133,7 @@ impl PgType {
     /// `_jsonb`, OID 3807: an array of `jsonb`.
     pub const JSONB_ARRAY: PgType = built_in!(JsonbArray);
 
-    /// The built-in type of this OID, or `None` where no built-in type has it.
+    /// Returns the built-in type with this OID, or `None` if there is none.
     pub fn from_oid(oid: Oid) -> Option<PgType>
         ensures some { IfSome result (λ t. IsBuiltIn (content t) × (oid_of (content t) ≡ oid)) }
         ensures none { IsNone result → (row : _) → row_oid row ≢ oid }

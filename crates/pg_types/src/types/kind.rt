@@ -1,4 +1,4 @@
-//! The kinds of Postgres types, and the fields of a composite one.
+//! The kinds of Postgres types, and the fields of a composite type.
 ghost use Rattle.std.specs.Prelude.{◌≡◌, IfOk, IfErr, map, string_bytes};
 ghost use Rattle.pg_types.specs.declared.fault.Fault.TheVariants.{Memory};
 ghost use Rattle.pg_types.specs.Content.{SameField, content, kind_content, fields_content, field_name, field_type};
@@ -13,19 +13,19 @@ use std::borrow::Cow;
 #[cycle(types)]
 #[derive(Debug, PartialEq, Eq, Hash, Drop)]
 pub enum Kind {
-    /// A type that is built from no other.
+    /// A type like `int4` or `text`, which is built from no other type.
     Simple,
     /// An enumerated type, with its labels.
     Enum(Vec<String>),
-    /// A type that no column has.
+    /// A pseudo-type, like `anyarray`, which no column can have.
     Pseudo,
     /// An array, with the type of its elements.
     Array(PgType),
-    /// A range, with the type of its bounds.
+    /// A range type, with the type of its bounds.
     Range(PgType),
-    /// A set of ranges, with the type of their bounds.
+    /// A multirange type, with the type of the bounds of its ranges.
     Multirange(PgType),
-    /// A type with further conditions on its values, and the type below it.
+    /// A domain, with its underlying type.
     Domain(PgType),
     /// A composite type, with its fields.
     Composite(Vec<Field>),
@@ -39,29 +39,29 @@ pub struct Field {
     type_: PgType,
 }
 
-/// A view of how a Postgres type is built, with the variants of [`Kind`].
+/// A borrowed view of a [`Kind`], with the same variants.
 #[derive(Debug, PartialEq, Eq, Hash, Drop)]
 pub enum KindRef<'a> {
-    /// A type that is built from no other.
+    /// A type like `int4` or `text`, which is built from no other type.
     Simple,
     /// An enumerated type, with its labels.
     Enum(&'a [String]),
-    /// A type that no column has.
+    /// A pseudo-type, like `anyarray`, which no column can have.
     Pseudo,
     /// An array, with the type of its elements.
     Array(Cow<'a, PgType>),
-    /// A range, with the type of its bounds.
+    /// A range type, with the type of its bounds.
     Range(Cow<'a, PgType>),
-    /// A set of ranges, with the type of their bounds.
+    /// A multirange type, with the type of the bounds of its ranges.
     Multirange(Cow<'a, PgType>),
-    /// A type with further conditions on its values, and the type below it.
+    /// A domain, with its underlying type.
     Domain(Cow<'a, PgType>),
     /// A composite type, with its fields.
     Composite(&'a [Field]),
 }
 
 impl Kind {
-    /// An equal kind, which is refused with [`Fault::Memory`] only.
+    /// Returns an equal kind. The only error is [`Fault::Memory`].
     #[tactic(auto, using(crate::proofs::Fields::composite_content))]
     pub fn try_clone(&self, alloc: Global) -> Result<Kind, Fault>
         ensures same { IfOk result (λ kind. kind_content kind ≡ kind_content self.now) }
@@ -98,7 +98,7 @@ impl Kind {
 }
 
 impl Field {
-    /// A field of this name and type.
+    /// Creates a field from its name and type.
     pub fn new(name: String, type_: PgType) -> Field
         ensures name { field_name result ≡ string_bytes name }
         ensures type_ { content (field_type result) ≡ content type_ }
@@ -106,21 +106,21 @@ impl Field {
         Field { name, type_ }
     }
 
-    /// The name of this field.
+    /// Returns the name of this field.
     pub fn name(&self) -> &str
         ensures { result.now ≡ field_name self.now }
     {
         self.name.as_str()
     }
 
-    /// The type of this field.
+    /// Returns the type of this field.
     pub fn type_(&self) -> &PgType
         ensures { result.now ≡ field_type self.now }
     {
         &self.type_
     }
 
-    /// An equal field, which is refused with [`Fault::Memory`] only.
+    /// Returns an equal field. The only error is [`Fault::Memory`].
     pub fn try_clone(&self, alloc: Global) -> Result<Field, Fault>
         ensures same { IfOk result (λ field. SameField self.now field) }
         ensures refused { IfErr result (λ e. e ≡ Memory) }

@@ -1,4 +1,4 @@
-//! What equality and hashing mean, each as a call whose contract says it.
+//! What equality and hashing mean, each as a function whose contract states it.
 ghost use Rattle.std.specs.Prelude.{◌≡◌, ◌↔◌, IsTrue};
 ghost use Rattle.pg_types.specs.Content.{SameField, content, kind_content};
 ghost use Rattle.pg_types.specs.Digest.{digest};
@@ -7,7 +7,7 @@ ghost use Rattle.pg_types.specs.KindRefs.{kind_ref_view};
 use super::{Field, Kind, KindRef, PgType};
 use std::hash::{DefaultHasher, Hash, Hasher};
 
-/// Whether two types are equal: the same built-in type, or user-defined types of equal parts.
+/// Whether two types are equal: the same built-in type, or user-defined types with equal parts.
 #[tactic(auto, using(crate::proofs::DerivedTypes::same_from_eq, crate::proofs::DerivedTypes::eq_from_same))]
 pub fn same_type(a: &PgType, b: &PgType) -> bool
     ensures { IsTrue result ↔ (content a.now ≡ content b.now) }
@@ -15,7 +15,7 @@ pub fn same_type(a: &PgType, b: &PgType) -> bool
     *a == *b
 }
 
-/// Whether two kinds are equal: the same variant of equal parts.
+/// Whether two kinds are equal: the same variant with equal parts.
 #[tactic(auto, using(crate::proofs::DerivedTypes::same_kind_from_eq, crate::proofs::DerivedTypes::eq_from_same_kind))]
 pub fn same_kind(k: &Kind, l: &Kind) -> bool
     ensures { IsTrue result ↔ (kind_content k.now ≡ kind_content l.now) }
@@ -23,7 +23,7 @@ pub fn same_kind(k: &Kind, l: &Kind) -> bool
     *k == *l
 }
 
-/// Whether two views of kinds are equal: the same variant of equal parts, borrowed or owned.
+/// Whether two views of kinds are equal: the same variant with equal parts, borrowed or owned.
 #[tactic(auto, using(crate::proofs::DerivedTypes::kind_ref_from_eq, crate::proofs::DerivedTypes::eq_from_kind_ref))]
 pub fn same_kind_ref(v: &KindRef<'_>, w: &KindRef<'_>) -> bool
     ensures { IsTrue result ↔ (kind_ref_view v.now ≡ kind_ref_view w.now) }
@@ -31,7 +31,7 @@ pub fn same_kind_ref(v: &KindRef<'_>, w: &KindRef<'_>) -> bool
     *v == *w
 }
 
-/// Whether two fields are equal: of one name and of equal types.
+/// Whether two fields are equal: with the same name and equal types.
 #[tactic(auto, using(crate::proofs::DerivedTypes::same_field_from_eq, crate::proofs::DerivedTypes::eq_from_same_field))]
 pub fn same_field(f: &Field, g: &Field) -> bool
     ensures { IsTrue result ↔ SameField f.now g.now }
@@ -39,7 +39,7 @@ pub fn same_field(f: &Field, g: &Field) -> bool
     *f == *g
 }
 
-/// Whether two types are hashed alike, as equal ones always are.
+/// Whether two types have the same hash, as equal ones always do.
 #[tactic(auto, using(crate::proofs::DerivedTypes::hash_from_same))]
 pub fn hash_alike(a: &PgType, b: &PgType) -> bool
     ensures alike { (content a.now ≡ content b.now) → IsTrue result }
@@ -49,7 +49,7 @@ pub fn hash_alike(a: &PgType, b: &PgType) -> bool
     hash_of(a) == hash_of(b)
 }
 
-/// Whether two kinds are hashed alike, as equal ones always are.
+/// Whether two kinds have the same hash, as equal ones always do.
 #[tactic(auto, using(crate::proofs::DerivedTypes::hash_from_same_kind))]
 pub fn kinds_hash_alike(k: &Kind, l: &Kind) -> bool
     ensures alike { (kind_content k.now ≡ kind_content l.now) → IsTrue result }
@@ -59,7 +59,7 @@ pub fn kinds_hash_alike(k: &Kind, l: &Kind) -> bool
     hash_of(k) == hash_of(l)
 }
 
-/// Whether two fields are hashed alike, as equal ones always are.
+/// Whether two fields have the same hash, as equal ones always do.
 #[tactic(auto, using(crate::proofs::DerivedTypes::hash_from_same_field))]
 pub fn fields_hash_alike(f: &Field, g: &Field) -> bool
     ensures alike { SameField f.now g.now → IsTrue result }
@@ -69,7 +69,7 @@ pub fn fields_hash_alike(f: &Field, g: &Field) -> bool
     hash_of(f) == hash_of(g)
 }
 
-/// Whether two views of kinds are hashed alike, as equal ones always are.
+/// Whether two views of kinds have the same hash, as equal ones always do.
 pub fn kind_refs_hash_alike(v: &KindRef<'_>, w: &KindRef<'_>) -> bool
     ensures alike { (kind_ref_view v.now ≡ kind_ref_view w.now) → IsTrue result }
     ensures hashed { IsTrue result ↔

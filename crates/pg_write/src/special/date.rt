@@ -1,10 +1,12 @@
-//! Writing dates with infinities.
+//! Writing dates that may be infinite.
 ghost use Rattle.std.specs.Prelude.{true, codes};
 ghost use Rattle.std.specs.Int.{w32};
 ghost use Rattle.pg_base.specs.Special.{InfinityOr, accepted_date, date_view, wire_special};
 
+use crate::laws::keeps_room_rule;
 use crate::to_sql::{ToSql, check_type};
 use bytes::BytesMut;
+use jiff::civil;
 use pg_base::acceptance::is_date;
 use pg_base::fault::Fault;
 use pg_base::format::{Format, IsNull};
@@ -13,8 +15,8 @@ use pg_base::special::Date;
 use pg_base::types::PgType;
 use std::alloc::Global;
 
-/// DATE where `T` writes it: `PosInfinity` is the greatest number of 4 bytes and `NegInfinity` the
-/// least (`date_send`). `Value` is written as `T` writes the value inside, NULL included.
+/// Writes DATE, if `T` accepts it: `PosInfinity` as the greatest number of 4 bytes, `NegInfinity`
+/// as the least (`date_send`), and `Value` as the value inside, which may be NULL.
 impl<T: ToSql> ToSql for Date<T> {
     ghost accepted = { accepted_date T.accepted };
 
@@ -53,4 +55,9 @@ impl<T: ToSql> ToSql for Date<T> {
     fn encode_format(&self, _ty: &PgType) -> Format {
         Format::Binary
     }
+}
+
+/// A `Date` keeps the room rule where its date does.
+pub(crate) fn keep_room_rule() {
+    keeps_room_rule::<Date<civil::Date>>();
 }

@@ -1,8 +1,9 @@
-//! Writing timestamps with infinities.
+//! Writing timestamps that may be infinite.
 ghost use Rattle.std.specs.Prelude.{true, codes};
 ghost use Rattle.std.specs.Int.{w64};
 ghost use Rattle.pg_base.specs.Special.{InfinityOr, accepted_timestamp, timestamp_view, wire_special};
 
+use crate::laws::keeps_room_rule;
 use crate::to_sql::{ToSql, check_type};
 use bytes::BytesMut;
 use pg_base::acceptance::is_timestamp;
@@ -11,11 +12,12 @@ use pg_base::format::{Format, IsNull};
 use pg_base::protocol::timestamp_to_sql;
 use pg_base::special::Timestamp;
 use pg_base::types::PgType;
+use pg_base::unix_time::UnixTime;
 use std::alloc::Global;
 
-/// TIMESTAMP and TIMESTAMPTZ where `T` writes them: `PosInfinity` is the greatest number of 8 bytes
-/// and `NegInfinity` the least (`timestamp_send`, `timestamptz_send`). `Value` is written as `T`
-/// writes the value inside, NULL included.
+/// Writes TIMESTAMP and TIMESTAMPTZ, if `T` accepts them: `PosInfinity` as the greatest number of 8
+/// bytes, `NegInfinity` as the least (`timestamp_send`, `timestamptz_send`), and `Value` as the
+/// value inside, which may be NULL.
 impl<T: ToSql> ToSql for Timestamp<T> {
     ghost accepted = { accepted_timestamp T.accepted };
 
@@ -54,4 +56,9 @@ impl<T: ToSql> ToSql for Timestamp<T> {
     fn encode_format(&self, _ty: &PgType) -> Format {
         Format::Binary
     }
+}
+
+/// A `Timestamp` keeps the room rule where its timestamp does.
+pub(crate) fn keep_room_rule() {
+    keeps_room_rule::<Timestamp<UnixTime>>();
 }

@@ -1,4 +1,4 @@
--- Lists are read back as they are written where their elements are.
+-- Lists are read back as they are written if their elements are.
 use Rattle.std.specs.Prelude.{◌≡◌, ◌==◌, ℕ, List, [], ◌∷◌, length, take, Option, Some, None, Ok, Err, Bool, true}
 use Rattle.std.specs.Prelude.{nat_le, IsTrue, if◌then◌else◌, refl}
 use Rattle.std.proofs.Common.{sym, ◌∙◌, ap, subst, arith, inl, inr, true≢false}
@@ -62,8 +62,8 @@ module _ {A : Type 0} (same : A → A → Type 0) (reads : Cell → Outcome A �
 
 -- ---- lists, of all lengths or of those wanted
 
--- Elements are read as their cells: values come from cells, and where as many cells as are wanted are all there, and
--- nothing after them, their outcome is that of the cells.
+-- Elements are read as their cells: values come from cells, and if as many cells as are wanted are there, with nothing
+-- after them, the outcome of the elements is that of the cells.
 pub record ReadsItsCells {A : Type 0} (reads : Cell → Outcome A → Type 0) (wanted : ℕ → Bool)
     (elements : ℕ → List Cell → List ℕ → Outcome (List A) → Type 0) : Type 0 where
   pub from_cells : (n : ℕ) (cs : List Cell) (rest : List ℕ) (vs : List A) → elements n cs rest (Ok vs)
@@ -73,11 +73,11 @@ pub record ReadsItsCells {A : Type 0} (reads : Cell → Outcome A → Type 0) (w
   pub given : (cs : List Cell) (o : Outcome (List A)) → wanted (length cs) ≡ true → elements (length cs) cs [] o
       → ReadsAll reads cs o
 
--- what is written of lists of the lengths wanted; another list is Transmit
+-- what is written for lists of the wanted lengths; another list is Transmit
 abbrev pub wire_wanted : {A : Type 0} → (ℕ → Bool) → (List A → Wire) → List A → Wire
 wire_wanted wanted written vs = if wanted (length vs) then written vs else Err transmit
 
--- what is known of a cell that lists are written as
+-- what is known about a cell that a list is written as
 record IsListCell {A : Type 0} (wire : A → Wire) (wanted : ℕ → Bool) (vs : List A) (c : Cell) : Type 0 where
   pub bytes : List ℕ
   pub cells : List Cell
@@ -116,7 +116,7 @@ module _ {A X : Type 0} (items : X → List A) (same : A → A → Type 0) (read
   abbrev Reads : Cell → Outcome X → Type 0
   Reads = ReadsArray items elements
 
-  -- what lists of so many elements with these cells are written as
+  -- what lists of n elements with these cells are written as
   abbrev written_of : ℕ → Outcome (List Cell) → Wire
   written_of n cells =
       if wanted n then (if fits_prefix n then wire_array (lower_bound_of ty)
@@ -212,7 +212,7 @@ module _ {A X : Type 0} (items : X → List A) (same : A → A → Type 0) (read
       let read = its_cells.from_cells h.count h.cells h.rest (items x) h.gives in
       list_written x read.0 (Written (items x)) read.1 refl
 
-  -- lists are lawful where their elements are
+  -- lists are lawful if their elements are
   pub list_lawful : IsLawful (λ x y. SameList same (items x) (items y)) Reads (λ x. Written (items x))
       (BackList items back)
   list_lawful = record {
@@ -263,7 +263,7 @@ module _ {A : Type 0} (reads : Cell → Outcome A → Type 0) where
         let is : expected ≡ length cs = sym (eqb-true (length cs) expected w) in
         rw (is, no_more (length cs)) refl
 
-    -- a list of so many values
+    -- a list of `expected` values
     pub one_length : ReadsItsCells reads (λ n. n == expected) (ReadsFixed expected reads)
     one_length = record {
       from_cells = λ n cs rest vs h. (take expected cs, h.0);
@@ -280,7 +280,7 @@ same_by_element : (reading writing : Content → Bool) → ((ty : Content) → r
 same_by_element reading writing same None = refl
 same_by_element reading writing same (Some element) = same element
 
--- lists accept the same arrays in both directions where their elements accept the same types
+-- lists accept the same arrays in both directions if their elements accept the same types
 pub same_lists : (reading writing : Content → Bool) → ((ty : Content) → reading ty ≡ writing ty) → (ty : Content)
     → accepted_list reading ty ≡ accepted_list writing ty
 same_lists reading writing same ty = same_by_element reading writing same (element_of ty)
@@ -308,13 +308,13 @@ module _ {A X : Type 0} (items : X → List A) (same : A → A → Type 0) (acce
         list_lawful items same (reads element) wire (back element) ty element (law element h) wanted
         (elements (reads element)) (its_cells (reads element))
 
-  -- lists are lawful for the arrays of what lawful elements accept
+  -- lists are lawful for the arrays of the types that lawful elements accept
   pub array_lawful : (ty : Content) → IsTrue (accepted_list accepted ty)
       → IsLawful Same (ReadsByElement (λ element. ReadsList items (reads element)) (element_of ty))
       (λ x. wire_list wire ty (items x)) (Back (element_of ty))
   array_lawful ty h = by_element_lawful (λ n. true) ReadsElements all_lengths ty (element_of ty) h
 
-  -- and so are those of so many elements
+  -- and so are those of `expected` elements
   pub fixed_lawful : (expected : ℕ) (ty : Content) → IsTrue (accepted_list accepted ty)
       → IsLawful Same (ReadsByElement (λ element. ReadsArray items (ReadsFixed expected (reads element)))
       (element_of ty)) (λ x. wire_fixed expected wire ty (items x)) (Back (element_of ty))

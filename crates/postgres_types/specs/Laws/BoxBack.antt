@@ -1,4 +1,4 @@
--- Boxes are read back as they are written, and their values stay finite, where those inside do.
+-- Boxes are read back as they are written, and their values stay finite, if those inside do.
 use Rattle.std.specs.Prelude.{◌≡◌, Some, None, Ok, Err}
 use Rattle.std.proofs.Common.{sym, subst}
 use Rattle.std.specs.Int.{Width}
@@ -13,7 +13,7 @@ use Rattle.postgres_types.specs.Laws.ViewBack.{through_lawful}
 
 module _ {A : Type 0} (same : A → A → Type 0) (reads : Cell → Outcome A → Type 0) (wire : A → Wire)
     (back : A → Outcome A → Type 0) (law : IsLawful same reads wire back) where
-  -- what a value is read back as where NULL is WasNull, if it is written so
+  -- what a value is read back as if NULL gives WasNull and the value is written as w
   abbrev BackFrom : Wire → A → Outcome A → Type 0
   BackFrom w v o = IfNull w (IsWasNull o) (back v o)
 
@@ -38,7 +38,7 @@ module _ {A : Type 0} (same : A → A → Type 0) (reads : Cell → Outcome A �
   not_null_reads_back v (Some b) o e h =
       subst (λ u. BackFrom u v o) (sym e) (law.reads_back v (Some b) o e h)
 
-  -- a type for which NULL is WasNull is lawful where one is that reads bytes as it does
+  -- a type for which NULL gives WasNull is lawful if one is that reads bytes as it does
   pub not_null_lawful : IsLawful same (NotNull (λ b. reads (Some b))) wire (BackNotNull wire back)
   not_null_lawful = record {
     same_wire = law.same_wire;
@@ -49,7 +49,7 @@ module _ {A : Type 0} (same : A → A → Type 0) (reads : Cell → Outcome A �
     reads_back = not_null_reads_back;
   }
 
--- boxes are lawful where the values inside are
+-- boxes are lawful if the values inside are
 pub box_lawful : {A B : Type 0} (inside : B → A) (same : A → A → Type 0) (reads : Cell → Outcome A → Type 0)
     (wire : A → Wire) (back : A → Outcome A → Type 0) → IsLawful same reads wire back
     → IsLawful (λ v w. same (inside v) (inside w)) (ReadsBox inside reads) (λ v. wire (inside v))
@@ -57,7 +57,7 @@ pub box_lawful : {A B : Type 0} (inside : B → A) (same : A → A → Type 0) (
 box_lawful inside same reads wire back law = through_lawful inside (NotNull (λ b. reads (Some b))) same wire
     (BackNotNull wire back) (not_null_lawful same reads wire back law)
 
--- and finite where those are
+-- and finite if those are
 pub box_finite : {A B : Type 0} (inside : B → A) (w : Width) (reads : Cell → Outcome A → Type 0) (wire : A → Wire)
     → KeepsFinite w reads wire → KeepsFinite w (ReadsBox inside reads) (λ v. wire (inside v))
 box_finite inside w reads wire law b v finite h = law b (inside v) finite h

@@ -10,7 +10,7 @@ pub underlying_accepted : (name : List ℕ) (accepted : Content → Bool) (ty : 
     → IsTrue (accepts_domain name accepted ty) → IsTrue (accepted (underlying ty))
 underlying_accepted name accepted ty ok = (and_parts (is_domain name ty) (accepted (underlying ty)) ok).1
 
--- the same domains are read and written where the same underlying types are
+-- the same domains are read and written if the same underlying types are
 pub domain_types : (name : List ℕ) (reading writing : Content → Bool) → ((ty : Content) → reading ty ≡ writing ty)
     → (ty : Content) → accepts_domain name reading ty ≡ accepts_domain name writing ty
 domain_types name reading writing same ty = ap (λ t. is_domain name ty && t) (same (underlying ty))

@@ -21,7 +21,7 @@ not_true : (t : Bool) → not t ≡ true → t ≡ false
 not_true true h = cc
 not_true false h = refl
 
--- a label at a place is among the labels
+-- a label at an index is among the labels
 label_in : (labels : List (List ℕ)) (i : ℕ) (b : List ℕ) → slice_get labels i ≡ Some b → has_label labels b ≡ true
 label_in [] i b h = let no : ⊥ = cc in absurd no
 label_in (label ∷ others) zero b h =
@@ -31,7 +31,7 @@ label_in (label ∷ others) zero b h =
 label_in (label ∷ others) (suc i) b h = ap (λ t. pointwise ◌==◌ label b || t) (label_in others i b h)
     ∙ or_true (pointwise ◌==◌ label b)
 
--- the parts of what labels are
+-- the parts of the property that labels have
 first_and_others : (label : List ℕ) (others : List (List ℕ)) → IsTrue (are_labels (label ∷ others))
     → (has_label others label ≡ false) × (are_labels others ≡ true)
 first_and_others label others ok =
@@ -39,7 +39,7 @@ first_and_others label others ok =
     let q = and_parts (not (has_label others label)) (are_labels others) p.1 in
     (not_true (has_label others label) q.0, q.1)
 
--- the first label comes at no other place
+-- the first label does not occur again
 no_second : (label : List ℕ) (others : List (List ℕ)) (i : ℕ) (b : List ℕ) → IsTrue (are_labels (label ∷ others))
     → Some label ≡ Some b → slice_get others i ≡ Some b → ⊥
 no_second label others i b ok h k =
@@ -47,7 +47,7 @@ no_second label others i b ok h k =
     let found = label_in others i label (subst (λ s. slice_get others i ≡ Some s) e k) in
     let first = (first_and_others label others ok).0 in cc
 
--- a label has one place
+-- a label has one index
 label_place : (labels : List (List ℕ)) → IsTrue (are_labels labels) → (i j : ℕ) (b : List ℕ)
     → slice_get labels i ≡ Some b → slice_get labels j ≡ Some b → i ≡ j
 label_place [] ok i j b h k = let no : ⊥ = cc in absurd no
@@ -70,7 +70,7 @@ module _ (labels : List (List ℕ)) (ok : IsTrue (are_labels labels)) where
   pub label_single : ReadsSingle (λ i j. i ≡ j) (ReadsLabel labels)
   label_single = plain_single (λ i j. i ≡ j) (FormLabel labels) (first_fault_label labels) label_grammar
 
-  -- a place is written as its label
+  -- an index is written as its label
   label_written_at : (i : ℕ) (found : Option (List ℕ)) → slice_get labels i ≡ found
       → WrittenAsKept (FormLabel labels) (first_fault_label labels) (λ i j. i ≡ j) i (wire_at found)
   label_written_at i None e = tt
@@ -80,7 +80,7 @@ module _ (labels : List (List ℕ)) (ok : IsTrue (are_labels labels)) where
     λ j h. label_place labels ok i j b e h,
   )
 
-  -- and is read back as itself
+  -- an index is read back as itself
   pub label_lawful : IsLawful (λ i j. i ≡ j) (ReadsLabel labels) (wire_label labels) (BackKept (λ i j. i ≡ j))
   label_lawful = kept_lawful (FormLabel labels) (first_fault_label labels) (λ i j. i ≡ j) (λ i j. i ≡ j)
       (wire_label labels) (λ i j h. ap (wire_label labels) h) (λ i j k h e. sym h ∙ e) (λ b i h. refl)

@@ -1,4 +1,4 @@
--- Laws of maps of texts: reading and writing belong together, and a map is read back as itself.
+-- Laws of maps of texts: reading and writing agree, and a map is read back as itself.
 use Rattle.std.specs.Prelude.{◌≡◌, ℕ, List, [], ◌∷◌, length, map, Option, Some, None, option_map, Bool, true, false}
 use Rattle.std.specs.Prelude.{IsUtf8, String, string_bytes, refl}
 use Rattle.std.proofs.Common.{sym, ◌∙◌, ap, cond, Ordering, Less, Equal, Greater}
@@ -39,7 +39,7 @@ found_or : (t : Bool) (v : Option (String Global)) (rest : Option (Option (Strin
 found_or true v rest old e = refl
 found_or false v rest old e = e
 
--- it stands among its entries
+-- the value of a key is found among the entries
 found : (es : List Owned) (q : List ℕ)
     → option_map (λ o. option_map string_bytes o) (lookup (λ k. bytes_eq q (string_bytes k)) es)
     ≡ lookup (bytes_eq q) (map owned_entry es)
@@ -52,7 +52,7 @@ first_or true q e rest h none = rw (none refl, h) refl
 first_or false q e None h none = rw h refl
 first_or false q e (Some v) h none = refl
 
--- in key order the last of a key is the first
+-- in sorted entries the last one of a key is the first one
 last_found : (q : List ℕ) (es : List Entry) → InOrder es → lookup (bytes_eq q) es ≡ last_value q es
 unfolding IsStrictlySortedBy
 last_found q [] h = refl
@@ -110,7 +110,7 @@ entries_spelled (x ∷ xs) s h e =
       rest_spells = entries_spelled xs p.second h.1 p.second_is;
     }
 
--- and a count prefix and them, and what has their values, the whole
+-- a count prefix and the entries spell a map that has their values
 spelled : {A : Type 0} (value_at : A → List ℕ → Option Cell) (m : A) (es : List Entry) (b : List ℕ) → AreTexts es
     → ((q : List ℕ) → value_at m q ≡ last_value q es)
     → hstore_bytes es ≡ Some b → FormHstore value_at b m
@@ -125,7 +125,7 @@ spelled value_at m es b h has e =
     }
 
 module _ {S : Type 0} where
-  -- the entries of a map, in key order
+  -- the entries of a map, sorted by key
   abbrev entries_of : HashMap (String Global) (Option (String Global)) S → List Entry
   entries_of m = in_key_order (map owned_entry m.entries)
 
@@ -137,7 +137,7 @@ module _ {S : Type 0} where
       ≡ last_value q (entries_of m)
   has_last m q = has_entries m q ∙ last_found q (entries_of m) (in_order (map owned_entry m.entries))
 
-  -- same maps have the same entries in key order
+  -- the same maps have the same entries, sorted by key
   same_entries : (m n : HashMap (String Global) (Option (String Global)) S) → SameMap m n → entries_of m ≡ entries_of n
   same_entries m n h =
       sorted_same (entries_of m) (entries_of n) (in_order (map owned_entry m.entries))

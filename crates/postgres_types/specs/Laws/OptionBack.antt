@@ -1,4 +1,4 @@
--- Options are read back as they are written, and their values stay finite, where those inside do.
+-- Options are read back as they are written, and their values stay finite, if those inside do.
 use Rattle.std.specs.Prelude.{◌≡◌, ℕ, List, Option, Some, None, Ok, Err, refl}
 use Rattle.std.proofs.Common.{sym, subst}
 use Rattle.std.specs.Int.{Width}
@@ -78,7 +78,7 @@ module _ {A : Type 0} (same : A → A → Type 0) (reads : Cell → Outcome A �
   option_reads_back (Some v) (Some b) o e h =
       subst (λ u. IfNull u (IsNoneOutcome o) (InSome (back v) o)) (sym e) (some_back b v e o h)
 
-  -- options are lawful where the values inside are
+  -- options are lawful if the values inside are
   pub option_lawful : IsLawful (SameOption same) (ReadsOption reads) (wire_option wire) (BackOption wire back)
   option_lawful = record {
     same_wire = option_same_wire;
@@ -91,7 +91,7 @@ module _ {A : Type 0} (same : A → A → Type 0) (reads : Cell → Outcome A �
 
 module _ {A : Type 0} (w : Width) (reads : Cell → Outcome A → Type 0) (wire : A → Wire)
     (law : KeepsFinite w reads wire) where
-  -- and finite where those are
+  -- and finite if those are
   pub option_finite : KeepsFinite w (ReadsOption reads) (wire_option wire)
   option_finite b None finite h = absurd h
   option_finite b (Some v) finite h = law b v finite h

@@ -1,5 +1,5 @@
--- Laws of plain types: reading and writing belong together.
-use Rattle.std.specs.Prelude.{◌≡◌, ℕ, List, Option, Some, None, Ok, Err, refl}
+-- Laws of plain types: reading and writing agree.
+use Rattle.std.specs.Prelude.{◌≡◌, ℕ, Bool, true, false, if◌then◌else◌, List, Option, Some, None, Ok, Err, refl}
 use Rattle.std.proofs.Common.{sym, ◌∙◌, ap, subst}
 use Rattle.pg_base.specs.Appending.{Wire}
 use Rattle.pg_base.specs.Cells.{Cell}
@@ -8,7 +8,8 @@ use Rattle.pg_base.specs.Formats.{IsGrammar, ReadsPlain}
 use Rattle.pg_read.specs.Laws.Reading.{no_fault}
 use Rattle.postgres_types.specs.ReadingBack.{BackKept, IsLawful, WrittenAsBytes}
 
--- a value is written as bytes that have no fault and spell what is kept of it, and nothing else; or refused
+-- a value is written as bytes that have no fault and spell what is kept of the value, and nothing else; or it is
+-- refused
 abbrev pub WrittenAsKept : {A : Type 0} → (List ℕ → A → Type 0) → (List ℕ → Option Refusal) → (A → A → Type 0) → A
     → Wire → Type 0
 WrittenAsKept form first_fault kept v (Ok None) = ⊥
@@ -16,7 +17,7 @@ WrittenAsKept {A} form first_fault kept v (Ok (Some b)) =
     (first_fault b ≡ None) × ((w : A) → kept v w → form b w) × ((w : A) → form b w → kept v w)
 WrittenAsKept form first_fault kept v (Err r) = Unit {0}
 
--- over a plain format, and what is kept of a value
+-- for a plain format, and what is kept of a value
 module _ {A : Type 0} (form : List ℕ → A → Type 0) (first_fault : List ℕ → Option Refusal) (kept : A → A → Type 0) where
   kept_same_back : (same : A → A → Type 0) → ((u v w : A) → same u v → kept u w → kept v w)
       → (u v : A) (o : Outcome A) → same u v → BackKept kept u o → BackKept kept v o
@@ -41,8 +42,8 @@ module _ {A : Type 0} (form : List ℕ → A → Type 0) (first_fault : List ℕ
   kept_reads_back v (Some b) (Ok w) h k = h.2 w k
   kept_reads_back v (Some b) (Err r) h k = no_fault (first_fault b) r h.0 k
 
-  -- a plain type is lawful, where each value is written as bytes that spell what is kept of it, and all of what bytes
-  -- spell is kept
+  -- a plain type is lawful if each value is written as bytes that spell what is kept of it, and if everything that
+  -- bytes spell is kept
   pub kept_lawful : (same : A → A → Type 0) (wire : A → Wire)
       → ((v w : A) → same v w → wire v ≡ wire w)
       → ((u v w : A) → same u v → kept u w → kept v w)
@@ -58,13 +59,13 @@ module _ {A : Type 0} (form : List ℕ → A → Type 0) (first_fault : List ℕ
     reads_back = λ v c o e. kept_reads_back v c o (subst (WrittenAsKept form first_fault kept v) e (written v));
   }
 
--- a format stays a grammar under other checks, where bytes that spell a value pass them
+-- a format stays a grammar with other checks if bytes that spell a value pass them
 pub under_checks : {A : Type 0} {same : A → A → Type 0} {form : List ℕ → A → Type 0} {first_fault : List ℕ → Option Refusal}
     → IsGrammar same form first_fault → (checks : List ℕ → Option Refusal)
     → ((b : List ℕ) (v : A) → form b v → checks b ≡ None) → IsGrammar same form checks
 under_checks grammar checks passes = record { passes = passes; single = grammar.single }
 
--- over a grammar of contents, and what contents are written as
+-- for a grammar of contents, and what contents are written as
 module _ {A C : Type 0} (content_of : A → C) (form : List ℕ → C → Type 0) (first_fault : List ℕ → Option Refusal)
     (grammar : IsGrammar (λ x y. x ≡ y) form first_fault) where
   all_kept : (v : A) (x : Wire) → WrittenAsBytes (ReadsPlain form first_fault) (content_of v) x
@@ -78,8 +79,8 @@ module _ {A C : Type 0} (content_of : A → C) (form : List ℕ → C → Type 0
   )
   all_kept v (Err r) h = tt
 
-  -- a type whose format is a grammar is lawful, where each content is written as bytes that read as it: the value is
-  -- read back as itself
+  -- a type whose format is a grammar is lawful if each content is written as bytes that read as it: the value is read
+  -- back as itself
   pub plain_lawful : (wire : C → Wire) → ((x : C) → WrittenAsBytes (ReadsPlain form first_fault) x (wire x))
       → IsLawful (λ v w. content_of v ≡ content_of w) (ReadsPlain (λ b v. form b (content_of v)) first_fault)
       (λ v. wire (content_of v)) (BackKept (λ v w. content_of v ≡ content_of w))
@@ -88,3 +89,10 @@ module _ {A C : Type 0} (content_of : A → C) (form : List ℕ → C → Type 0
       (λ v w. content_of v ≡ content_of w) (λ v. wire (content_of v))
       (λ v w e. ap wire e) (λ u v w e k. sym e ∙ k) (λ b v h. refl)
       (λ v. all_kept v (wire (content_of v)) (written (content_of v)))
+
+-- a value that is written if it passes a test
+pub written_if : {A : Type 0} (reads : Cell → Outcome A → Type 0) (v : A) (t : Bool) (b : List ℕ) (r : Refusal)
+    → (t ≡ true → reads (Some b) (Ok v))
+    → WrittenAsBytes reads v (if t then Ok (Some b) else Err r)
+written_if reads v true b r h = h refl
+written_if reads v false b r h = tt

@@ -1,4 +1,4 @@
--- Laws of records, of any number of fields, from the laws of the fields alone.
+-- Laws of records with any number of fields, from the laws of the fields.
 use Rattle.std.specs.Prelude.{◌≡◌, ◌==◌, ◌++◌, ◌≤◌, ℕ, pos, List, [], ◌∷◌, length, true, Option, Some, None, Ok, Err}
 use Rattle.std.specs.Prelude.{refl}
 use Rattle.std.proofs.Common.{sym, ◌∙◌, ap, subst, arith, append_assoc, length-append, inl, inr}
@@ -31,7 +31,7 @@ unless_single same gives single (Some f) (Ok v) s h k = absurd h
 unless_single same gives single (Some f) (Err r) (Ok w) h k = absurd k
 unless_single same gives single (Some f) (Err r) (Err s) h k = h ∙ sym k
 
--- two pairs are the same where their parts are
+-- two pairs are the same if their parts are
 abbrev pub SamePair : {A B : Type 0} → (A → A → Type 0) → (B → B → Type 0) → A × B → A × B → Type 0
 SamePair same alike p q = same p.0 q.0 × alike p.1 q.1
 
@@ -64,7 +64,7 @@ module _ {A B : Type 0} (same : A → A → Type 0) (alike : B → B → Type 0)
         let moved = subst (λ x. CellThen reads others k.cells x o) (sym e.1) k.holds in
         cell_then_single h.cells h.rest r o h.holds (subst (λ x. CellThen reads others x h.rest o) (sym e.0) moved)
 
-    -- a field before others
+    -- a field, followed by others
     pub field_single : (oid : ℕ) (s : List ℕ) → GivesSingle (SamePair same alike) (FieldThen oid reads others s)
     field_single oid s =
         unless_single (SamePair same alike) (FrameThen reads others _) (frame_then_single _) (oid_fault oid s)
@@ -86,9 +86,9 @@ record_single n same fields one = not_null_single same (CountThen n fields)
 
 -- ---- what is known of fields in a row
 
--- Reading, writing and what written values are read back as belong together: the same values are written as the same
--- bytes and read back as the same; what was read is written as bytes that read as it, or is refused; and the bytes that
--- values are written as read as what they are read back as.
+-- Reading, writing and what written values are read back as agree: the same values are written as the same bytes and
+-- read back as the same; a value that was read is written as bytes that read as it, or is refused; and the bytes that
+-- values are written as read as what the values are read back as.
 pub record AreLawful {A : Type 0} (same : A → A → Type 0) (reads : List ℕ → Outcome A → Type 0) (bytes : A → Bytes)
     (back : A → Outcome A → Type 0) : Type 0 where
   pub same_bytes : (v w : A) → same v w → bytes v ≡ bytes w
@@ -112,13 +112,13 @@ four_there m s =
 oid_passes : (oid : ℕ) (s : List ℕ) → oid_fault oid (to_be_bytes w32 oid ++ s) ≡ None
 oid_passes oid s = rw (four_there oid s, self_equal (to_be_bytes w32 oid)) refl
 
--- and those of a count its
+-- the bytes of a count pass its checks
 count_passes : (n : ℕ) (h s : List ℕ) → IsCount h n → count_fault n (h ++ s) ≡ None
 count_passes n h s e =
     let p = number_then (h ++ s) h s (pos n) refl e in
     rw (p.has, p.number, (Decides-int_eq (pos n) (pos n)).1 refl) refl
 
--- what is given past a check that passed, and nothing else
+-- what is given after a check that passed, and nothing else
 past_check : {A : Type 0} (x : Option Refusal) (gives : Outcome A → Type 0) (o : Outcome A) → x ≡ None → gives o
     → Unless x gives o
 past_check x gives o e h = subst (λ y. Unless y gives o) (sym e) h
@@ -127,7 +127,7 @@ from_check : {A : Type 0} (x : Option Refusal) (gives : Outcome A → Type 0) (o
     → Unless x gives o → gives o
 from_check x gives o e h = subst (λ y. Unless y gives o) e h
 
--- a value is given past a check alone
+-- a value is given only after a check that passed
 value_given : {A : Type 0} (x : Option Refusal) (gives : Outcome A → Type 0) (v : A) → Unless x gives (Ok v)
     → gives (Ok v)
 value_given None gives v h = h
@@ -153,7 +153,7 @@ frame_parts : (w : Wire) (f : List ℕ) → frame_bytes w ≡ Ok f → (c : Cell
 frame_parts (Err r) f e = let no : ⊥ = cc in absurd no
 frame_parts (Ok c) f e = (c, refl, or_transmit_parts (frame c) f e)
 
--- what is known of a pair of outcomes may be replaced
+-- the statement about a pair of outcomes may be replaced
 both_map : {A B : Type 0} (P Q : Outcome A → Type 0) (M N : Outcome B → Type 0) → ((o : Outcome A) → P o → Q o)
     → ((o : Outcome B) → M o → N o) → (o : Outcome (A × B)) → Both P M o → Both Q N o
 both_map P Q M N f g (Ok v) h = (f (Ok v.0) h.0, g (Ok v.1) h.1)
@@ -188,7 +188,7 @@ module _ {A B : Type 0} (oid : ℕ) (same : A → A → Type 0) (reads : Cell �
   by_cells cs u t c o e k h =
       subst (λ x. Both (reads c) (others x) o) k (subst (λ x. CellThen reads others x u o) e h)
 
-  -- and as nothing else
+  -- they read as nothing else
   from_fields : (c : Cell) (f t : List ℕ) → frame c ≡ Some f → (o : Outcome (A × B))
       → Fields ((to_be_bytes w32 oid ++ f) ++ t) o → Both (reads c) (others t) o
   from_fields c f t e o h =
@@ -239,7 +239,7 @@ module _ {A B : Type 0} (oid : ℕ) (same : A → A → Type 0) (reads : Cell �
   same_whole p q h = ap (λ w. concat_bytes (field_bytes oid w) (bytes p.1)) (law.same_wire p.0 q.0 h.0)
       ∙ ap (concat_bytes (field_bytes oid (wire q.0))) (laws.same_bytes p.1 q.1 h.1)
 
-  -- a field before others is lawful with them
+  -- a field, followed by others, is lawful with them
   pub field_lawful : AreLawful (SamePair same alike) Fields whole (λ p. Both (back p.0) (others_back p.1))
   field_lawful = record {
     same_bytes = same_whole;
@@ -272,7 +272,7 @@ module _ {A : Type 0} (n : ℕ) (same : A → A → Type 0) (fields : List ℕ �
   record_parts (Ok h) (Err r) c e = let no : ⊥ = cc in absurd no
   record_parts (Ok h) (Ok t) c e = (h, t, refl, refl, cc)
 
-  -- the number of the fields and the fields read as these
+  -- the number of the fields and the fields read as the record
   count_then : (h t : List ℕ) (o : Outcome A) → or_transmit (count_bytes n) ≡ Ok h → fields t o
       → CountThen n fields (h ++ t) o
   count_then h t o e k =
@@ -310,7 +310,7 @@ module _ {A : Type 0} (n : ℕ) (same : A → A → Type 0) (fields : List ℕ �
       let p = record_parts (or_transmit (count_bytes n)) (bytes v) c e in
       laws.reads_back v p.1 o p.3 (from_count p.0 p.1 o p.2 (subst (λ x. ReadsRecord n fields x o) p.4 h))
 
-  -- is lawful where its fields are
+  -- a record is lawful if its fields are
   pub record_lawful : IsLawful same (ReadsRecord n fields) (λ v. wire_record n (bytes v)) back
   record_lawful = record {
     same_wire = λ v w h. ap (wire_record n) (laws.same_bytes v w h);

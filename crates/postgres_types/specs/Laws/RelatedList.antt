@@ -6,21 +6,21 @@ use Rattle.pg_base.specs.Sameness.{SameList}
 use Rattle.pg_read.specs.ArrayReading.{ReadsAll}
 
 module _ {C D : Type 0} (related : C → D → Type 0) where
-  -- the lists are as long as each other
+  -- the lists have the same length
   pub related_length : (cs : List C) (ds : List D) → SameList related cs ds → length cs ≡ length ds
   related_length [] [] h = refl
   related_length [] (d ∷ ds) h = absurd h
   related_length (c ∷ cs) [] h = absurd h
   related_length (c ∷ cs) (d ∷ ds) h = ap suc (related_length cs ds h.1)
 
-  -- and related the other way round
+  -- and are related the other way round
   pub flipped : (cs : List C) (ds : List D) → SameList related cs ds → SameList (λ d c. related c d) ds cs
   flipped [] [] h = tt
   flipped [] (d ∷ ds) h = absurd h
   flipped (c ∷ cs) [] h = absurd h
   flipped (c ∷ cs) (d ∷ ds) h = (h.0, flipped cs ds h.1)
 
-  -- where each item gives what the one related to it gives, so do the lists
+  -- if each item gives what the one related to it gives, so do the lists
   pub related_give : {A : Type 0} (P : C → Outcome A → Type 0) (Q : D → Outcome A → Type 0)
       → ((c : C) (d : D) (o : Outcome A) → related c d → P c o → Q d o)
       → (cs : List C) (ds : List D) (o : Outcome (List A)) → SameList related cs ds → ReadsAll P cs o → ReadsAll Q ds o

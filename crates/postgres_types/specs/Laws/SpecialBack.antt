@@ -1,4 +1,4 @@
--- Values with infinities are read back as they are written, and stay finite, where the values inside do both.
+-- Values that may be infinite are read back as they are written, and stay finite, if the values inside do both.
 use Rattle.std.specs.Prelude.{◌≡◌, ℕ, List, Some, None, Ok, Err, IsTrue, Bool, ◌&&◌, refl}
 use Rattle.std.proofs.Common.{sym, subst, inl, inr, true≢false}
 use Rattle.std.proofs.lemmas.Bool.{and_parts}
@@ -16,13 +16,13 @@ use Rattle.pg_types.proofs.Contents.{type-same}
 use Rattle.postgres_types.specs.ReadingBack.{IsLawful, KeepsFinite, WrittenFinite, WrittenAsBytes, OfValue}
 use Rattle.postgres_types.specs.ReadingBack.{BackValue, BackSpecial}
 
--- no type is that of a date and of a timestamp
+-- no type is both DATE and a type of timestamps
 pub not_both : (ty : Content) → IsTrue (is_row DateRow ty) → IsTrue (accepts_timestamps ty) → ⊥
 not_both ty date timestamp =
     let is : ty ≡ BuiltInType DateRow = type-same ty (BuiltInType DateRow) date in
     true≢false (sym (subst (λ t. IsTrue (accepts_timestamps t)) is timestamp))
 
--- what is accepted is a type of dates, or of timestamps
+-- a type that is accepted is DATE, or a type of timestamps
 pub row_accepted : (x y : Bool) → IsTrue (x && y) → IsTrue x
 row_accepted x y h = (and_parts x y h).0
 
@@ -38,7 +38,7 @@ module _ {A B : Type 0} (w : Width) (view : B → Special A) where
   of_value_map F G f neg_infinity h = h
   of_value_map F G f (value v) h = f v h
 
-  -- what is said of the value inside may be replaced
+  -- the statement about the value inside may be replaced
   special_map : (P Q : Cell → Outcome A → Type 0) (c : Cell) → ((o : Outcome A) → P c o → Q c o) → (o : Outcome B)
       → ReadsSpecial w view P c o → ReadsSpecial w view Q c o
   special_map P Q None f o h = h
@@ -52,7 +52,7 @@ module _ {A B : Type 0} (w : Width) (view : B → Special A) where
   value_map P Q f (Err r) (Ok s) h = of_value_map (λ v. P (Ok v)) (λ v. Q (Ok v)) (λ v. f (Ok v)) (view s) h
   value_map P Q f (Err r) (Err g) h = f (Err g) h
 
-  -- the bytes of an infinity are that infinity's alone
+  -- the bytes of an infinity spell that infinity only
   infinity_form : (F : A → Type 0) (s : Special A) → FormSpecial w F (infinity w) s → s ≡ pos_infinity
   infinity_form F pos_infinity h = refl
   infinity_form F neg_infinity h = absurd (infinities_apart w h)
@@ -145,7 +145,7 @@ module _ {A B : Type 0} (w : Width) (view : B → Special A) where
     special_written b v neg_infinity e h = minus_infinity_reads (Ok v) e
     special_written b v (value x) e h = value_written v x (wire x) e (finite b x h.0 h.1) (law.from_bytes b x h.1)
 
-    -- values with infinities are lawful where the values inside are, and stay finite
+    -- values that may be infinite are lawful if the values inside are, and stay finite
     pub special_lawful : IsLawful (λ v u. SameSpecial same (view v) (view u)) Reads (λ v. wire_special w wire (view v))
         (λ v. Back (view v))
     special_lawful = record {
@@ -165,6 +165,6 @@ module _ {A B : Type 0} (w : Width) (view : B → Special A) (reads : Cell → O
   view_finite b neg_infinity f h = absurd (f.not_minus_infinity h)
   view_finite b (value x) f h = finite b x f h.1
 
-  -- what finite bytes give is no infinity, and its value stays finite
+  -- finite bytes give no infinity, and the value that they give stays finite
   pub special_finite : KeepsFinite w (ReadsSpecial w view reads) (λ v. wire_special w wire (view v))
   special_finite b v f h = view_finite b (view v) f h

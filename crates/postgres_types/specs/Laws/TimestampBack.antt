@@ -1,4 +1,4 @@
--- Laws of dates and timestamps: reading and writing belong together, and none becomes an infinity.
+-- Laws of dates and timestamps: reading and writing agree, and no value becomes an infinity.
 use Rattle.std.specs.Prelude.{◌≡◌, ◌*◌, ◌/◌, ℕ, ℤ, pos, negsuc, ◌+ℤ◌, ◌-ℤ◌, ◌*ℤ◌, int_div, List, Option, Some, None}
 use Rattle.std.specs.Prelude.{Ok, Err, IsOkAnd, refl}
 use Rattle.std.proofs.Common.{sym, ◌∙◌, ap, subst, arith}
@@ -19,17 +19,17 @@ use Rattle.pg_base.proofs.FormatLaws.{int8_grammar}
 use Rattle.pg_base.specs.Timestamps.{base_nanos, whole_micros, IsAfterBase, FormTimestamp, ReadsTimestamp}
 use Rattle.pg_base.specs.Timestamps.{wire_timestamp}
 use Rattle.pg_base.specs.Numbers.{ReadsSigned, first_fault_number, wire_signed}
-use Rattle.postgres_types.specs.Laws.FormatBack.{signed_finite, signed_lawful}
+use Rattle.postgres_types.specs.Laws.NumberBack.{signed_finite, signed_lawful}
 use Rattle.postgres_types.specs.TimestampBack.{KeptMicros, KeptMicrosOfDay}
 use Rattle.postgres_types.specs.Laws.Plain.{WrittenAsKept, kept_lawful}
 use Rattle.postgres_types.specs.ReadingBack.{BackKept, IsLawful, KeepsFinite, WrittenFinite}
 
--- a type that writes what bytes give as those bytes keeps finite cells
+-- a type that writes what bytes give as the same bytes keeps finite cells
 pub finite_kept : {A : Type 0} (w : Width) (reads : Cell → Outcome A → Type 0) (wire : A → Wire)
     → ((b : List ℕ) (v : A) → reads (Some b) (Ok v) → wire v ≡ Ok (Some b)) → KeepsFinite w reads wire
 finite_kept w reads wire again b v h k = subst (WrittenFinite w) (sym (again b v k)) h
 
--- where a count names one value and each value is written as its count, what bytes give is written as those bytes
+-- if a number names one value and each value is written as its number, what bytes give is written as the same bytes
 again_by : {A : Type 0} (w : Width) (low high : ℤ) (names : ℤ → A → Type 0) (count_of : A → ℤ) (wire : A → Wire)
     → ((v : A) → IsWrittenCount w low high (count_of v) (wire v)) → ((z : ℤ) (v : A) → names z v → count_of v ≡ z)
     → (b : List ℕ) (v : A) → ReadsCount w low high names (Some b) (Ok v) → wire v ≡ Ok (Some b)
@@ -40,7 +40,7 @@ no_fault_by : (o : Option Refusal) → ((r : Refusal) → o ≡ Some r → ⊥) 
 no_fault_by None h = refl
 no_fault_by (Some r) h = absurd (h r refl)
 
--- over counts of a width and what is kept of a value, where what is written is read back as what is kept
+-- for the numbers of a width and what is kept of a value, if what is written is read back as what is kept
 module _ {A : Type 0} (w : Width) (low high : ℤ) (names : ℤ → A → Type 0) (count_of : A → ℤ) (wire : A → Wire)
     (kept same : A → A → Type 0)
     (written : (v : A) → IsWrittenCount w low high (count_of v) (wire v))
@@ -87,7 +87,7 @@ date_lawful = count_lawful w32 first_day last_day IsDayOf (λ v. epoch_day v -�
 micros_named : (z : ℤ) (v : Time) → IsAfterMidnight z v → pos (time_nanos v / 1000) ≡ z
 micros_named z v h = omega (arith, signed_arith, h)
 
--- a time is lawful, and is read back as its whole microseconds
+-- a time is lawful, and is read back truncated to microseconds
 pub time_lawful : IsLawful (λ v w. time_nanos v ≡ time_nanos w) ReadsTime wire_time (BackKept KeptMicrosOfDay)
 time_lawful = count_lawful w64 (pos 0) last_micros IsAfterMidnight
     (λ v. pos (time_nanos v / 1000)) wire_time KeptMicrosOfDay (λ v w. time_nanos v ≡ time_nanos w)
@@ -104,7 +104,7 @@ whole_micros_exact nanos z h =
     let rest : nanos -ℤ base_nanos ≡ z *ℤ pos 1000 = omega (arith, signed_arith, h) in
     ap (λ n. int_div n (pos 1000)) rest ∙ thousandth_of z
 
--- over timestamps that are told by their nanoseconds
+-- for timestamps that are given by their nanoseconds
 module _ {A : Type 0} (nanos : A → ℤ) where
   timestamp_named : (z : ℤ) (v : A) → IsAfterBase nanos z v → whole_micros (nanos v) ≡ z
   timestamp_named z v h = whole_micros_exact (nanos v) z h
@@ -146,11 +146,11 @@ instant_finite w = finite_kept w ReadsInstant wire_instant
 int8_lawful : IsLawful (λ m n. m ≡ n) (ReadsSigned w64) (wire_signed w64) (BackKept (λ m n. m ≡ n))
 int8_lawful = signed_lawful w64 int8_grammar
 
--- what a number is written as, if it is not refused, is its bytes
+-- a number that is not refused is written as its bytes
 spelled_as : (z : ℤ) (c : Cell) → wire_signed w64 z ≡ Ok c → ReadsSigned w64 c (Ok z)
 spelled_as z c e = int8_lawful.back_reads z c (Ok z) e refl
 
--- over timestamps of every count
+-- for timestamps with every number of microseconds
 module _ {A : Type 0} (nanos : A → ℤ) where
   timestamp_kept : (v : A) (x : Wire) → wire_timestamp (nanos v) ≡ x
       → WrittenAsKept (FormTimestamp nanos) (first_fault_number (byte_len w64)) (KeptMicros nanos) v x
@@ -166,7 +166,7 @@ module _ {A : Type 0} (nanos : A → ℤ) where
   timestamp_whole : (b : List ℕ) (v : A) → FormTimestamp nanos b v → KeptMicros nanos v v
   timestamp_whole b v h = h.2 ∙ ap (λ z. base_nanos +ℤ z *ℤ pos 1000) (sym (timestamp_named nanos h.0 v h.2))
 
-  -- they are lawful, and are read back as their whole microseconds
+  -- they are lawful, and are read back truncated to microseconds
   pub timestamp_lawful : IsLawful (λ v w. nanos v ≡ nanos w) (ReadsTimestamp nanos) (λ v. wire_timestamp (nanos v))
       (BackKept (KeptMicros nanos))
   timestamp_lawful = kept_lawful (FormTimestamp nanos) (first_fault_number (byte_len w64)) (KeptMicros nanos)

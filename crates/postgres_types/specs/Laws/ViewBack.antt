@@ -1,4 +1,4 @@
--- Types over another are read back as they are written, and their values stay finite, where those of the other do.
+-- Types over another are read back as they are written, and their values stay finite, if those of the other do.
 use Rattle.std.specs.Prelude.{◌≡◌, Bool, true, false, if◌then◌else◌, Some, None, Ok, Err, refl}
 use Rattle.std.proofs.Common.{inl, inr}
 use Rattle.std.specs.Int.{Width}
@@ -11,7 +11,7 @@ use Rattle.postgres_types.specs.ReadingBack.{IsLawful, KeepsFinite, WrittenAsByt
 
 -- ---- values that show one of another type inside
 module _ {A B : Type 0} (inside : B → A) where
-  -- what is said of the value inside may be replaced
+  -- the statement about the value inside may be replaced
   pub through_map : (P Q : Outcome A → Type 0) → ((o : Outcome A) → P o → Q o) → (o : Outcome B) → Through inside P o
       → Through inside Q o
   through_map P Q f (Ok v) h = f (Ok (inside v)) h
@@ -28,7 +28,7 @@ module _ {A B : Type 0} (inside : B → A) where
     cell_through v (Ok c) h = h
     cell_through v (Err r) h = tt
 
-    -- they are lawful where those inside are
+    -- they are lawful if the values inside are
     pub through_lawful : (same : A → A → Type 0) (wire : A → Wire) (back : A → Outcome A → Type 0)
         → IsLawful same reads wire back
         → IsLawful (λ v w. same (inside v) (inside w)) (ReadsThrough inside reads) (λ v. wire (inside v))
@@ -43,7 +43,7 @@ module _ {A B : Type 0} (inside : B → A) where
       reads_back = λ v c o e. through_map (reads c) (back (inside v)) (λ p. law.reads_back (inside v) c p e) o;
     }
 
-    -- and finite where those are
+    -- and finite if those are
     pub through_finite : (w : Width) (wire : A → Wire) → KeepsFinite w reads wire
         → KeepsFinite w (ReadsThrough inside reads) (λ v. wire (inside v))
     through_finite w wire law b v finite h = law b (inside v) finite h
@@ -53,7 +53,7 @@ module _ {A : Type 0} (meets : A → Bool) (fault : Refusal) where
   abbrev Under : (Outcome A → Type 0) → Outcome A → Type 0
   Under = Constrained meets fault
 
-  -- what is said of values may be replaced
+  -- the statement about values may be replaced
   constrained_map : (P Q : Outcome A → Type 0) → ((o : Outcome A) → P o → Q o) → (o : Outcome A) → Under P o → Under Q o
   constrained_map P Q f (Ok v) h = (f (Ok v) h.0, h.1)
   constrained_map P Q f (Err r) h = elim h [
@@ -82,7 +82,7 @@ module _ {A : Type 0} (meets : A → Bool) (fault : Refusal) where
     cell_refused v true w h = h
     cell_refused v false w h = tt
 
-    -- a type that only refuses to write what does not meet a constraint is lawful where it is without it
+    -- a type that only refuses to write values that do not meet a constraint is lawful if it is without the constraint
     pub refusing_lawful : (back : A → Outcome A → Type 0) → IsLawful same reads wire back
         → IsLawful same reads (wire_constrained meets fault wire) back
     refusing_lawful back law = record {
@@ -125,12 +125,12 @@ module _ {A : Type 0} (meets : A → Bool) (fault : Refusal) where
   finite_refused w true x h = h
   finite_refused w false x h = tt
 
-  -- finite values stay so where some are refused in writing
+  -- finite values stay finite if writing refuses some of them
   pub refusing_finite : (w : Width) (reads : Cell → Outcome A → Type 0) (wire : A → Wire) → KeepsFinite w reads wire
       → KeepsFinite w reads (wire_constrained meets fault wire)
   refusing_finite w reads wire law b v finite h = finite_refused w (meets v) (wire v) (law b v finite h)
 
-  -- and where these are refused in reading too
+  -- and if reading refuses them too
   pub constrained_finite : (w : Width) (reads : Cell → Outcome A → Type 0) (wire : A → Wire) → KeepsFinite w reads wire
       → KeepsFinite w (ReadsConstrained meets fault reads) (wire_constrained meets fault wire)
   constrained_finite w reads wire law b v finite h = finite_refused w (meets v) (wire v) (law b v finite h.0)

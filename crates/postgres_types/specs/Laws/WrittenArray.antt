@@ -41,7 +41,7 @@ mapped : (f : List ℕ → List ℕ) (o : Option (List ℕ)) (s : List ℕ) → 
 mapped f None s e = cc
 mapped f (Some x) s e = (x, refl, cc)
 
--- what is written as an array of cells is one
+-- what cells are written as an array is an array of these cells
 pub array_body : (lower_bound : ℤ) (oid : ℕ) (cs : List Cell) (b : List ℕ) → array_bytes lower_bound oid cs ≡ Some b
     → ArrayBody b (length cs) cs []
 array_body lower_bound oid cs b e =
@@ -79,7 +79,7 @@ wire_of_bytes : (o : Option (List ℕ)) (c : Cell) → wire_of o ≡ Ok c → (b
 wire_of_bytes None c e = cc
 wire_of_bytes (Some b) c e = (b, refl, cc)
 
--- what is known of a written array
+-- what is known about a written array
 pub record IsArrayCell (lower_bound : ℤ) (oid : ℕ) (r : Outcome (List Cell)) (c : Cell) : Type 0 where
   -- the cells of its elements, and its bytes
   pub cells : List Cell
@@ -97,7 +97,7 @@ array_cell lower_bound oid (Ok cs) c e =
     let p = wire_of_bytes (array_bytes lower_bound oid cs) c e in
     record { cells = cs; bytes = p.0; cells_are = refl; written = p.1; is = p.2 }
 
--- what is not refused meets the test
+-- a value that is not refused passes the test
 pub tested : (t : Bool) (w : Wire) (c : Cell) → (if t then w else Err transmit) ≡ Ok c → (t ≡ true) × (w ≡ Ok c)
 tested true w c e = (refl, e)
 tested false w c e = cc

@@ -1,4 +1,4 @@
-//! Four fields of a composite type before others.
+//! Four fields of a composite type, followed by others.
 ghost use Rattle.std.specs.Prelude.{ℕ};
 ghost use Rattle.pg_types.specs.Content.{FieldsContent};
 ghost use Rattle.pg_base.proofs.SamenessLaws.{inside_equivalence};
@@ -16,12 +16,12 @@ use pg_read::from_sql::FromSql;
 use pg_write::to_sql::ToSql;
 use std::alloc::Global;
 
-/// The values of four fields before those of others, which is read and written as four times
-/// [`And`] is.
+/// The values of four fields, followed by those of others. It is read and written as four nested
+/// [`And`]s are.
 #[derive(Debug, PartialEq, Eq, Drop)]
 pub struct And4<A, B, C, D, E>(pub A, pub B, pub C, pub D, pub E);
 
-/// The same, one field after another.
+/// The same values as nested `And`s.
 type InTurn<A, B, C, D, E> = And<A, And<B, And<C, And<D, E>>>>;
 
 impl<'a, A, B, C, D, E> FromFields<'a> for And4<A, B, C, D, E>

@@ -1,4 +1,4 @@
-//! Eight fields of a composite type before others.
+//! Eight fields of a composite type, followed by others.
 ghost use Rattle.std.specs.Prelude.{ℕ};
 ghost use Rattle.pg_types.specs.Content.{FieldsContent};
 ghost use Rattle.pg_base.proofs.SamenessLaws.{inside_equivalence};
@@ -16,8 +16,8 @@ use pg_read::from_sql::FromSql;
 use pg_write::to_sql::ToSql;
 use std::alloc::Global;
 
-/// The values of eight fields before those of others, which is read and written as eight times
-/// [`And`] is.
+/// The values of eight fields, followed by those of others. It is read and written as eight nested
+/// [`And`]s are.
 #[derive(Debug, PartialEq, Eq, Drop)]
 pub struct And8<A, B, C, D, E, F, G, H, I>(
     pub A,
@@ -31,7 +31,7 @@ pub struct And8<A, B, C, D, E, F, G, H, I>(
     pub I,
 );
 
-/// The same, one field after another.
+/// The same values as nested `And`s.
 type InTurn<A, B, C, D, E, F, G, H, I> = And<
     A,
     And<B, And<C, And<D, And<E, And<F, And<G, And<H, I>>>>>>>,
@@ -70,8 +70,8 @@ where
         (and_single A.same A.accepted A.reads _ _ _ A.single (and_single B.same B.accepted B.reads _ _ _ B.single
         (and_single C.same C.accepted C.reads _ _ _ C.single (and_single D.same D.accepted D.reads _ _ _ D.single
         (and_single E.same E.accepted E.reads _ _ _ E.single (and_single F.same F.accepted F.reads _ _ _ F.single
-        (and_single G.same G.accepted G.reads _ _ _ G.single (and_single H.same H.accepted H.reads _ _ _ H.single I.single)))))))
-        fields ok s) };
+        (and_single G.same G.accepted G.reads _ _ _ G.single (and_single H.same H.accepted H.reads _ _ _ H.single
+        I.single))))))) fields ok s) };
 
     fn from_fields(alloc: Global, fields: &[Field], raw: &'a [u8]) -> Result<Self, Fault> {
         let row = InTurn::<A, B, C, D, E, F, G, H, I>::from_fields(alloc, fields, raw)?;

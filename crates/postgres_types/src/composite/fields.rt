@@ -1,4 +1,4 @@
-//! The fields of a composite type in a row.
+//! The fields of a composite type, one after another.
 ghost use Rattle.std.specs.Prelude.{◌≡◌, ℕ, List, Bool, IsTrue, [], Ok, suc};
 ghost use Rattle.pg_types.specs.Content.{FieldsContent, fields_content};
 ghost use Rattle.pg_types.specs.Faults.{Answers, NeverMemory, Outcome};
@@ -22,15 +22,16 @@ use pg_read::from_sql::FromSql;
 use pg_write::to_sql::ToSql;
 use std::alloc::Global;
 
-/// The value of a field before those of others.
+/// The value of a field, followed by those of others.
 #[derive(Debug, PartialEq, Eq, Drop)]
 pub struct And<A, B>(pub A, pub B);
 
-/// No further field.
+/// The end of the values: there are no more fields.
 #[derive(Debug, PartialEq, Eq, Drop)]
 pub struct End;
 
-/// The values of fields that are read: [`End`], or [`And`] of a type that is read and of others.
+/// The values of fields that are read: [`End`], or [`And`] of a value that is read and the values
+/// of the other fields.
 pub trait FromFields<'a>: Sized {
     /// Two values have the same content.
     ghost same: { Self → Self → Type 0 };
@@ -38,33 +39,34 @@ pub trait FromFields<'a>: Sized {
     /// The fields' types are accepted.
     ghost accepted: { FieldsContent → Bool };
 
-    /// The fields' bytes have that outcome.
+    /// The bytes of the fields have the outcome.
     ghost reads: { FieldsContent → List ℕ → Outcome Self → Type 0 };
 
-    /// The fields' bytes are read without memory.
+    /// Reading the bytes of the fields does not allocate.
     ghost memory_free: { List ℕ → Type 0 };
 
-    /// Reads the fields, one after another, and then the record's end: the first fault of a field,
-    /// or `Size` where bytes trail the last one, or `Memory`. The types must be accepted.
+    /// Reads the fields one after another, and then the end of the record. Returns the values, the
+    /// first fault of a field, `Size` if bytes trail the last field, or `Memory`. The types must be
+    /// accepted.
     fn from_fields(alloc: Global, fields: &[Field], raw: &'a [u8]) -> Result<Self, Fault>
         requires { IsTrue (accepted (fields_content fields.now)) }
         ensures outcome { Answers (reads (fields_content fields.now) raw.entry.now) result }
         ensures never_memory { memory_free raw.entry.now → NeverMemory result };
 
-    /// Whether so many fields, of these types, are read. Their names don't matter.
+    /// Whether fields of these types, in this number, are read. Their names do not matter.
     fn accepts(fields: &[Field]) -> bool
         ensures { result ≡ accepted (fields_content fields.now) };
 
     /// Law: sameness is an equivalence.
     ghost equivalence: { IsEquivalence same };
 
-    /// Law: the fields' bytes have at most one outcome.
+    /// Law: the bytes of the fields have at most one outcome.
     ghost single: { (fields : FieldsContent) → IsTrue (accepted fields) → (s : List ℕ)
         → GivesSingle same (reads fields s) };
 }
 
-/// The values of fields that are written: [`End`], or [`And`] of a type that is written and of
-/// others. References to them are written, as [`FieldRefs`].
+/// The values of fields that are written: [`End`], or [`And`] of a value that is written and the
+/// values of the other fields. They are written through references, as [`FieldRefs`].
 pub trait ToFields {
     /// The fields' types are accepted.
     ghost accepted: { FieldsContent → Bool };
@@ -72,19 +74,19 @@ pub trait ToFields {
     /// What the values are written as.
     ghost bytes: { FieldsContent → Self → Bytes };
 
-    /// How many fields there are.
+    /// The number of the fields.
     ghost width: { ℕ };
 
-    /// Whether so many fields, of these types, are written. Their names don't matter.
+    /// Whether fields of these types, in this number, are written. Their names do not matter.
     fn accepts(fields: &[Field]) -> bool
         ensures { result ≡ accepted (fields_content fields.now) };
 
-    /// Law: so many fields are accepted, and no other number of them.
+    /// Law: only that number of fields is accepted.
     ghost width_of_accepted: { (fields : FieldsContent) → IsTrue (accepted fields) → count_of fields ≡ width };
 }
 
-/// References to the values of fields, which are written: [`End`], or [`And`], [`And4`] or [`And8`]
-/// of references and of others.
+/// References to the values of fields that are written: [`End`], or [`And`], [`And4`] or [`And8`]
+/// of references and those of the other fields.
 ///
 /// [`And4`]: super::And4
 /// [`And8`]: super::And8
@@ -95,8 +97,9 @@ pub trait FieldRefs {
     /// The values that are referred to.
     ghost values: { Self → Self.Values };
 
-    /// Appends the fields, one after another. The types must be accepted. A refusal is that of the
-    /// first field that is refused, and leaves the buffer's bytes as they were, `Memory` too.
+    /// Appends the fields, one after another. The types must be accepted. It fails with the fault
+    /// of the first field that is refused. An error, `Memory` included, leaves the buffer's bytes
+    /// as they were.
     fn to_fields(&self, alloc: Global, fields: &[Field], out: &mut BytesMut) -> Result<(), Fault>
         requires { IsTrue (Self.Values.accepted (fields_content fields.now)) }
         ensures bytes { AppendsBytes (Self.Values.bytes (fields_content fields.now) (values self.now))
@@ -104,9 +107,9 @@ pub trait FieldRefs {
         ensures capacity { KeepsCapacity out.old out.new };
 }
 
-/// The values of fields that are read back as they are written.
+/// The values of fields that are read back as they were written.
 ///
-/// It has no function of its own, as [`Paired`] has none.
+/// It has no functions, like [`Paired`].
 pub trait PairedFields<'a>: FromFields<'a> + ToFields {
     /// What the bytes of written values are read back as.
     ghost back: { FieldsContent → Self → Outcome Self → Type 0 };
@@ -114,7 +117,7 @@ pub trait PairedFields<'a>: FromFields<'a> + ToFields {
     /// Law: both directions accept the same types.
     ghost types: { (fields : FieldsContent) → Self.FromFields.accepted fields ≡ Self.ToFields.accepted fields };
 
-    /// Law: reading, writing and reading back belong together.
+    /// Law: reading, writing and reading back agree.
     ghost lawful: { (fields : FieldsContent) → IsTrue (Self.FromFields.accepted fields)
         → AreLawful Self.same (Self.reads fields) (Self.bytes fields) (back fields) };
 }

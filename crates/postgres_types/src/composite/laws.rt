@@ -1,4 +1,5 @@
-//! What equality means, and what is read without memory, each as a call whose contract says it.
+//! What equality means, and what is read without allocating, each as a function whose contract
+//! states it.
 ghost use Rattle.std.specs.Prelude.{◌≡◌, ◌&&◌, ℕ, List, true};
 ghost use Rattle.pg_base.specs.Cells.{Cell};
 
@@ -48,7 +49,7 @@ where
     *a == *b
 }
 
-/// Rows without a field are equal.
+/// Two rows without fields are equal.
 pub fn same_end(a: &End, b: &End) -> bool
     ensures { result ≡ true }
 {
@@ -62,14 +63,14 @@ pub fn same_composite<T: PartialEq>(a: &Composite<T>, b: &Composite<T>) -> bool
     *a == *b
 }
 
-/// A field and others are read without memory where both are.
+/// A field and the others are read without allocating if each of them is.
 pub fn fields_read_without_memory<'a, A: FromSql<'a>, B: FromFields<'a>>()
     requires first { (cell : Cell) → A.memory_free cell }
     requires others { (bytes : List ℕ) → B.memory_free bytes }
     ensures { (bytes : List ℕ) → ⟦<And<A, B> as FromFields<'a>>⟧.memory_free bytes }
 {}
 
-/// A composite type's cells are read without memory where its fields are.
+/// The cells of a composite type are read without allocating if its fields are.
 #[tactic(auto, using(crate::proofs::RecordSteps::record_free))]
 pub fn record_read_without_memory<'a, T: Record>()
 where

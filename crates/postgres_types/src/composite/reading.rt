@@ -12,7 +12,7 @@ use pg_read::from_sql::FromSql;
 use pg_read::private::{read_be_i32, read_value};
 use std::alloc::Global;
 
-/// The fields of a composite type; none of another.
+/// Returns the fields of a composite type; another type has none.
 #[inline(always)]
 #[tactic(auto, using(crate::proofs::RecordSteps::counted))]
 pub fn fields_of(ty: &PgType) -> &[Field]
@@ -25,11 +25,11 @@ pub fn fields_of(ty: &PgType) -> &[Field]
     }
 }
 
-/// Reads the number of a record's fields, in 4 bytes, which has to be this one, and moves the slice
-/// after it.
+/// Reads the number of fields of a record, in 4 bytes, big-endian, which must be `count`, and
+/// advances the slice past it.
 ///
-/// Where fewer bytes are left it answers `Size`, and the slice stays. Another number, a negative
-/// one too, is `FieldCount`, and the slice stands after it.
+/// If fewer bytes are left it returns `Size`, and the slice is unchanged. Any other number, also a
+/// negative one, is refused with `FieldCount`, and the slice begins after it.
 pub fn read_field_count(count: usize, buf: &mut &[u8]) -> Result<(), Fault>
     ensures { PassesNumber (count_fault count buf.old.now) buf.old.now result buf.new.now }
 {
@@ -41,7 +41,7 @@ pub fn read_field_count(count: usize, buf: &mut &[u8]) -> Result<(), Fault>
     }
 }
 
-/// Reads the OID of a field's type, in 4 bytes.
+/// Reads the OID of the type of a field, in 4 bytes, big-endian.
 fn read_field_oid(ty: &PgType, buf: &mut &[u8]) -> Result<(), Fault>
     ensures { PassesNumber (oid_fault (oid_of (content ty.now)) buf.old.now) buf.old.now result buf.new.now }
 {
@@ -58,11 +58,11 @@ fn read_field_oid(ty: &PgType, buf: &mut &[u8]) -> Result<(), Fault>
     }
 }
 
-/// Reads a record's field of that type from the front of the slice: the OID of the type, in 4
-/// bytes, and then its value, as [`read_value`] does. The type must be accepted.
+/// Reads a field of a record from the front of the slice: the OID of its type, in 4 bytes,
+/// big-endian, and then its value, as [`read_value`] does. The type must be accepted.
 ///
-/// Where the OID is truncated it answers `Size`, and the slice stays. Another OID is `FieldOid`,
-/// and the slice stands after it.
+/// If the OID is truncated it returns `Size`, and the slice is unchanged. Any other OID is refused
+/// with `FieldOid`, and the slice begins after it.
 pub fn read_field<'a, T: FromSql<'a>>(
     alloc: Global,
     ty: &PgType,
@@ -76,7 +76,7 @@ pub fn read_field<'a, T: FromSql<'a>>(
     read_value(alloc, ty, buf)
 }
 
-/// Answers `Size` where bytes trail a record's last field.
+/// Checks the end of a record: trailing bytes after its last field are refused with `Size`.
 pub fn read_end(raw: &[u8]) -> Result<(), Fault>
     ensures { PassesCheck (first_fault_of (no_trailing raw.now ∷ [])) result }
 {

@@ -25,36 +25,36 @@ use std::fmt;
 
 /// A struct whose fields are those of a composite type.
 ///
-/// [`Composite`] around it is read and written. The struct says what the type and its fields are
-/// called, and how its own fields stand in a row; that it is read, written and read back as it
-/// should be follows from the types of the fields.
+/// [`Composite`] around the struct is read and written. An implementation gives the name of the
+/// type, the names of its fields, and the struct's own fields as a row. That the struct is read,
+/// written and read back correctly follows from the types of the fields.
 pub trait Record: Sized + fmt::Debug + Drop {
-    /// Its fields in a row: `And<String, And<i32, End>>` for a text and an integer.
+    /// The fields as a row: `And<String, And<i32, End>>` for a text and an integer.
     type Fields: ToFields;
 
     /// The name of the composite type, without its schema.
     ghost type_name: { List ℕ };
 
-    /// The names of its fields, in their order.
+    /// The names of the fields, in order.
     ghost names: { List (List ℕ) };
 
-    /// The values of its fields.
+    /// The values of the fields.
     ghost inside: { Self → Self.Fields };
 
-    /// The name of the composite type, without its schema, byte for byte: at most 64 bytes. SQL makes a
-    /// name that is not quoted one of lower case.
+    /// Returns the name of the composite type, without its schema, byte for byte, at most 64 bytes
+    /// long. SQL folds a name that is not quoted to lower case.
     fn name() -> &'static str
         ensures { result.now ≡ type_name };
 
-    /// The names of the type's fields, in their order.
+    /// Returns the names of the fields of the type, in order.
     fn field_names() -> &'static [&'static str]
         ensures { map (λ name. name.now) result.now ≡ names };
 
-    /// The struct of these fields.
+    /// Creates the struct from a row of its fields.
     fn from_row(row: Self::Fields) -> Self
         ensures { inside result ≡ row };
 
-    /// Appends its fields, as [`to_fields`] of references to them does.
+    /// Appends the fields, as [`to_fields`] of references to them does.
     ///
     /// [`to_fields`]: super::FieldRefs::to_fields
     fn row_to_sql(&self, alloc: Global, fields: &[Field], out: &mut BytesMut) -> Result<(), Fault>
@@ -69,23 +69,25 @@ pub trait Record: Sized + fmt::Debug + Drop {
     /// Law: there are as many names as fields.
     ghost names_width: { length names ≡ Self.Fields.width };
 
-    /// Law: structs whose fields in a row are the same are the same.
+    /// Law: structs whose rows of fields are the same are the same.
     ghost injective: { (v w : Self) → inside v ≡ inside w → v ≡ w };
 }
 
-/// The value of a composite type that is a struct.
+/// A value of a composite type, as a struct.
 ///
-/// It accepts a composite type of the struct's name, with fields of the struct's names in their
-/// order, of types that the struct's fields accept. Its cell is a record: see
-/// [the module](super::composite). NULL is `WasNull`; in a `WrongType` its name is the type's.
+/// It accepts a composite type that has the name of the struct, whatever its schema, and fields
+/// with the names of the struct, in order, whose types the struct's fields accept. Its cell is a
+/// record: see [the module](super::composite). NULL is refused with `WasNull`. A `WrongType` has
+/// the name of the composite type.
 ///
-/// In reading, fewer than 4 bytes are `Size`, and another number of fields is `FieldCount`. Then,
-/// field by field: a truncated OID is `Size`, another OID than that of the field's type `FieldOid`,
-/// a truncated cell `Size`, and a cell that the field's type refuses has its fault. Trailing bytes
-/// are `Size`. A record takes no memory of its own.
+/// In reading, fewer than 4 bytes are refused with `Size`, and another number of fields with
+/// `FieldCount`. Then, field by field, a truncated OID is refused with `Size`, another OID than
+/// that of the field's type with `FieldOid`, a truncated cell with `Size`, and a cell that the
+/// field refuses with its fault. Trailing bytes are refused with `Size`. The record itself
+/// allocates nothing.
 ///
-/// In writing, the first field that is refused gives the fault, which is `Transmit` where its cell
-/// passes 2,147,483,647 bytes. A refusal leaves the buffer's bytes as they were.
+/// In writing, the first field that is refused gives the fault, which is `Transmit` if its cell
+/// exceeds 2,147,483,647 bytes. An error leaves the buffer's bytes as they were.
 #[derive(Debug, PartialEq, Eq, Drop)]
 pub struct Composite<T>(pub T);
 
@@ -104,15 +106,15 @@ fn are_named(names: &[&str], fields: &[Field]) -> bool
     true
 }
 
-/// Whether it is a composite type.
+/// Whether the type is a composite type.
 fn is_composite(ty: &PgType) -> bool
     ensures { result ≡ is_composite (kind_of (content ty.now)) }
 {
     matches!(ty.kind(), KindRef::Composite(_))
 }
 
-/// Whether the type is a composite one of that name, without its schema, whose fields have these
-/// names in this order. Their types are not looked at.
+/// Whether the type has this name, whatever its schema, and is a composite type whose fields have
+/// these names in this order. The types of the fields are not checked.
 pub fn is_record(name: &str, names: &[&str], ty: &PgType) -> bool
     ensures { result ≡ is_record name.now (map (λ name. name.now) names.now) (content ty.now) }
 {
@@ -155,7 +157,7 @@ where
     }
 }
 
-/// Appends the record. A refusal leaves the buffer's bytes as they were.
+/// Appends the record. An error leaves the buffer's bytes as they were.
 fn record_to_sql<T: Record>(
     alloc: Global,
     value: &T,

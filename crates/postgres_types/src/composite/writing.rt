@@ -13,8 +13,9 @@ use pg_write::params::frame_value;
 use pg_write::to_sql::ToSql;
 use std::alloc::Global;
 
-/// Appends the number of a record's fields, in 4 bytes; `Transmit` where it passes 2,147,483,647.
-/// A refusal leaves the buffer's bytes as they were, `Memory` too.
+/// Appends the number of fields of a record, in 4 bytes, big-endian. It fails with `Transmit` if
+/// the number exceeds 2,147,483,647. An error, `Memory` included, leaves the buffer's bytes as they
+/// were.
 pub fn field_count_to_sql(_alloc: Global, count: usize, out: &mut BytesMut) -> Result<(), Fault>
     ensures bytes { AppendsBytes (or_transmit (count_bytes count)) out.old.items out.new.items result }
     ensures capacity { KeepsCapacity out.old out.new }
@@ -26,11 +27,11 @@ pub fn field_count_to_sql(_alloc: Global, count: usize, out: &mut BytesMut) -> R
     Ok(())
 }
 
-/// Appends a record's field of that type: the OID of the type, in 4 bytes, and the frame of the
+/// Appends a field of a record: the OID of its type, in 4 bytes, big-endian, and the frame of the
 /// value's cell. The type must be accepted.
 ///
-/// A refusal is that of the value's writing, or `Transmit` where its cell passes 2,147,483,647
-/// bytes. It leaves the buffer's bytes as they were, `Memory` too.
+/// It fails with the fault of writing the value, or with `Transmit` if its cell exceeds
+/// 2,147,483,647 bytes. An error, `Memory` included, leaves the buffer's bytes as they were.
 pub fn field_to_sql<T: ToSql>(
     alloc: Global,
     value: &T,

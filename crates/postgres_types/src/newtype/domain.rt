@@ -21,32 +21,33 @@ use pg_write::to_sql::{ToSql, check_type};
 use std::alloc::Global;
 use std::borrow::Cow;
 
-/// The value of a domain that is a newtype.
+/// A value of a domain, as a newtype.
 ///
-/// It accepts a domain of the newtype's name, whatever its schema, over a type that the value inside
-/// accepts: one of the library, an enumerated type, a composite type, or another domain. Its cell is
-/// the cell of the underlying type (`domain_recv`, and the underlying type's send function), NULL
-/// included; in a `WrongType` its name is the domain's.
+/// It accepts a domain that has the name of the newtype, whatever its schema, and an underlying
+/// type that the value inside accepts: a type of the library, an enumerated type, a composite type,
+/// or another domain. Its cell is that of the underlying type, NULL included (`domain_recv`, and
+/// the send function of the underlying type). A `WrongType` has the name of the domain.
 ///
-/// A cell that the value inside refuses has its fault, and then a value that does not meet the
-/// constraint has the constraint's. In writing the constraint is tested first. An error leaves the
-/// buffer's bytes as they were.
+/// In reading, a cell that the value inside refuses is refused with its fault, and then a value
+/// that does not meet the constraint with the constraint's fault. In writing, the constraint is
+/// checked first. An error leaves the buffer's bytes as they were.
 ///
-/// A record's field, an array's element and a parameter have the domain as their type. A column of a
-/// RowDescription has the domain's underlying type, so that it is read as [`Transparent`].
+/// The field of a record, the element of an array and a parameter have the domain as their type. A
+/// RowDescription, however, gives a column the underlying type of the domain, so a column is read
+/// as [`Transparent`].
 ///
 /// [`Transparent`]: super::Transparent
 #[derive(Debug, PartialEq, Eq, Drop)]
 pub struct Domain<T>(pub T);
 
-/// Whether the type has that name, whatever its schema, and is a domain.
+/// Whether the type has this name, whatever its schema, and is a domain.
 pub fn is_domain(name: &str, ty: &PgType) -> bool
     ensures { result ≡ is_domain name.now (content ty.now) }
 {
     ty.name() == name && matches!(ty.kind(), KindRef::Domain(_))
 }
 
-/// The underlying type of a domain; any other type is answered as it is.
+/// Returns the underlying type of a domain, and any other type as it is.
 pub fn underlying_type(ty: &PgType) -> Cow<'_, PgType>
     ensures { content (cow_value result) ≡ underlying (content ty.now) }
 {

@@ -1,4 +1,4 @@
-//! What equality means, each as a call whose contract says it.
+//! What equality of newtypes means, each as a function whose contract states it.
 ghost use Rattle.std.specs.Prelude.{◌≡◌};
 
 use super::{Domain, Transparent};
@@ -10,7 +10,7 @@ pub fn same_domain<T: PartialEq>(a: &Domain<T>, b: &Domain<T>) -> bool
     *a == *b
 }
 
-/// Whether two values under a name of their own are equal: as structs.
+/// Whether two values of [`Transparent`] are equal: as structs.
 pub fn same_transparent<T: PartialEq>(a: &Transparent<T>, b: &Transparent<T>) -> bool
     ensures { result ≡ T.eq a.now.0 b.now.0 }
 {

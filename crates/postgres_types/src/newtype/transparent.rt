@@ -1,4 +1,4 @@
-//! Newtypes that are read and written as the value inside is.
+//! Newtypes that are read and written as the value inside.
 ghost use Rattle.std.specs.Prelude.{◌≡◌, true};
 ghost use Rattle.pg_base.proofs.SamenessLaws.{inside_equivalence};
 ghost use Rattle.pg_read.specs.Laws.Reading.{constrained_single, through_single};
@@ -16,14 +16,14 @@ use pg_read::from_sql::FromSql;
 use pg_write::to_sql::{ToSql, check_type};
 use std::alloc::Global;
 
-/// A newtype that is read and written as the value inside is.
+/// A newtype that is read and written as the value inside.
 ///
-/// It accepts the types that the value inside accepts, and its cell is that value's, NULL included;
-/// in a `WrongType` its name is the newtype's.
+/// It accepts the types that the value inside accepts, and its cell is that of the value inside,
+/// NULL included. A `WrongType` has the name of the newtype.
 ///
-/// A cell that the value inside refuses has its fault, and then a value that does not meet the
-/// constraint has the constraint's. In writing the constraint is tested first. An error leaves the
-/// buffer's bytes as they were.
+/// In reading, a cell that the value inside refuses is refused with its fault, and then a value
+/// that does not meet the constraint with the constraint's fault. In writing, the constraint is
+/// checked first. An error leaves the buffer's bytes as they were.
 #[derive(Debug, PartialEq, Eq, Drop)]
 pub struct Transparent<T>(pub T);
 

@@ -1,4 +1,4 @@
-//! What equality means, each as a call whose contract says it.
+//! What equality of these types means, each as a function whose contract states it.
 ghost use Rattle.std.specs.Prelude.{◌≡◌, ◌↔◌, IsTrue};
 
 use super::{Gap, Moment, Picky, Short};

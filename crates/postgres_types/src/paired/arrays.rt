@@ -8,8 +8,8 @@ ghost use Rattle.postgres_types.specs.ReadingBack.{BackList};
 use crate::paired::Paired;
 use std::boxed::BoxedSlice;
 
-/// A list is read back as the list of what its elements are read back as, in order, or the first
-/// refusal among them: a `Box` of an element that was written as NULL is `WasNull`.
+/// A list is read back as the list of what its elements are read back as, in order, or as the first
+/// fault among them: a `Box` of an element that was written as NULL is read back as `WasNull`.
 impl<'a, T: Paired<'a>> Paired<'a> for Vec<T> {
     ghost back = { λ ty. ReadsByElement (λ element. BackList (λ v. v.items) (T.back element)) (element_of ty) };
 
@@ -18,7 +18,7 @@ impl<'a, T: Paired<'a>> Paired<'a> for Vec<T> {
     ghost lawful = { array_lawful (λ v. v.items) T.same T.FromSql.accepted T.reads T.wire T.back T.lawful };
 }
 
-/// Read back as a `Vec` of these elements is.
+/// It is read back as a `Vec` of these elements.
 impl<'a, T: Paired<'a>> Paired<'a> for BoxedSlice<T> {
     ghost back = { λ ty. ReadsByElement (λ element. BackList boxed_slice_items (T.back element)) (element_of ty) };
 
@@ -27,7 +27,7 @@ impl<'a, T: Paired<'a>> Paired<'a> for BoxedSlice<T> {
     ghost lawful = { array_lawful boxed_slice_items T.same T.FromSql.accepted T.reads T.wire T.back T.lawful };
 }
 
-/// Read back as a `Vec` of these elements is.
+/// It is read back as a `Vec` of these elements.
 impl<'a, T: Paired<'a>, const N: usize> Paired<'a> for [T; N] {
     ghost back = { λ ty. ReadsByElement (λ element. BackList (λ vs. vs) (T.back element)) (element_of ty) };
 

@@ -1,11 +1,11 @@
-//! Bytes are read back as themselves.
+//! Byte strings are read back as themselves.
 ghost use Rattle.std.specs.Prelude.{◌≡◌, refl};
-ghost use Rattle.postgres_types.specs.Laws.FormatBack.{bytes_lawful};
+ghost use Rattle.postgres_types.specs.Laws.TextBack.{bytes_lawful};
 ghost use Rattle.postgres_types.specs.ReadingBack.{BackKept};
 
 use crate::paired::Paired;
 
-/// Bytes are read back as themselves.
+/// Byte strings are read back as themselves.
 impl<'a> Paired<'a> for &'a [u8] {
     ghost back = { λ _. BackKept (λ s t. s.now ≡ t.now) };
 
@@ -14,7 +14,7 @@ impl<'a> Paired<'a> for &'a [u8] {
     ghost lawful = { λ _ _. bytes_lawful (λ s. s.now) };
 }
 
-/// Bytes are read back as themselves.
+/// Byte strings are read back as themselves.
 impl<'a> Paired<'a> for Vec<u8> {
     ghost back = { λ _. BackKept (λ s t. s.items ≡ t.items) };
 

@@ -1,5 +1,4 @@
-//! Dates are read back as themselves, and times and the timestamps of `jiff` truncated to
-//! microseconds.
+//! Dates are read back as themselves, and times and timestamps of `jiff` truncated to microseconds.
 ghost use Rattle.std.specs.Prelude.{◌≡◌, refl};
 ghost use Rattle.std.specs.Int.{w32, w64};
 ghost use Rattle.jiff.specs.Words.{civil_nanos, epoch_day};
@@ -23,14 +22,14 @@ impl<'a> Paired<'a> for Date {
     ghost lawful = { λ _ _. date_lawful };
 }
 
-/// What is read from a count that is no infinity is written as that count.
+/// A value that is read from a number that is not an infinity is written as that number.
 impl<'a> Finite<'a> for Date {
     ghost dates = { λ _ _ _. date_finite w32 };
 
     ghost timestamps = { λ _ _ _. date_finite w64 };
 }
 
-/// A time is read back truncated to whole microseconds, toward midnight.
+/// A time is read back truncated to microseconds, toward midnight.
 impl<'a> Paired<'a> for Time {
     ghost back = { λ _. BackKept KeptMicrosOfDay };
 
@@ -39,8 +38,7 @@ impl<'a> Paired<'a> for Time {
     ghost lawful = { λ _ _. time_lawful };
 }
 
-/// A civil datetime is read back truncated to whole microseconds, toward 2000-01-01 00:00:00 on
-/// both sides.
+/// A civil datetime is read back truncated to microseconds, toward 2000-01-01 00:00:00.
 impl<'a> Paired<'a> for DateTime {
     ghost back = { λ _. BackKept (KeptMicros civil_nanos) };
 
@@ -49,15 +47,14 @@ impl<'a> Paired<'a> for DateTime {
     ghost lawful = { λ _ _. datetime_lawful };
 }
 
-/// What is read from a count that is no infinity is written as that count.
+/// A value that is read from a number that is not an infinity is written as that number.
 impl<'a> Finite<'a> for DateTime {
     ghost dates = { λ _ _ _. datetime_finite w32 };
 
     ghost timestamps = { λ _ _ _. datetime_finite w64 };
 }
 
-/// An instant is read back truncated to whole microseconds, toward 2000-01-01 00:00:00 UTC on both
-/// sides.
+/// An instant is read back truncated to microseconds, toward 2000-01-01 00:00:00 UTC.
 impl<'a> Paired<'a> for Timestamp {
     ghost back = { λ _. BackKept (KeptMicros instant_nanos) };
 
@@ -66,7 +63,7 @@ impl<'a> Paired<'a> for Timestamp {
     ghost lawful = { λ _ _. instant_lawful };
 }
 
-/// What is read from a count that is no infinity is written as that count.
+/// A value that is read from a number that is not an infinity is written as that number.
 impl<'a> Finite<'a> for Timestamp {
     ghost dates = { λ _ _ _. instant_finite w32 };
 

@@ -1,6 +1,6 @@
-//! Intervals of time are read back as themselves.
+//! Intervals are read back as themselves.
 ghost use Rattle.std.specs.Prelude.{◌≡◌, refl};
-ghost use Rattle.postgres_types.specs.Laws.FormatBack.{interval_lawful};
+ghost use Rattle.postgres_types.specs.Laws.IntervalBack.{interval_lawful};
 ghost use Rattle.postgres_types.specs.ReadingBack.{BackKept};
 
 use crate::paired::Paired;

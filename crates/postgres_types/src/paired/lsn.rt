@@ -1,14 +1,14 @@
-//! Log positions are read back as themselves.
+//! Log sequence numbers are read back as themselves.
 ghost use Rattle.std.specs.Prelude.{◌≡◌, refl};
 ghost use Rattle.std.specs.Int.{w64};
 ghost use Rattle.pg_base.proofs.LsnLaws.{lsn_grammar};
-ghost use Rattle.postgres_types.specs.Laws.FormatBack.{unsigned_lawful};
+ghost use Rattle.postgres_types.specs.Laws.NumberBack.{unsigned_lawful};
 ghost use Rattle.postgres_types.specs.ReadingBack.{BackKept};
 
 use crate::paired::Paired;
 use pg_base::lsn::PgLsn;
 
-/// A log position is read back as itself.
+/// A log sequence number is read back as itself.
 impl<'a> Paired<'a> for PgLsn {
     ghost back = { λ _. BackKept (λ v w. v ≡ w) };
 

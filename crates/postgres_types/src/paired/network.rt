@@ -1,6 +1,7 @@
 //! Addresses are read back as themselves.
 ghost use Rattle.std.specs.Prelude.{◌≡◌, refl};
-ghost use Rattle.postgres_types.specs.Laws.FormatBack.{address_lawful, cidr_lawful, fixed_bytes_lawful, inet_lawful};
+ghost use Rattle.postgres_types.specs.Laws.FixedBytesBack.{fixed_bytes_lawful};
+ghost use Rattle.postgres_types.specs.Laws.NetworkBack.{address_lawful, cidr_lawful, inet_lawful};
 ghost use Rattle.postgres_types.specs.ReadingBack.{BackKept};
 
 use crate::paired::Paired;
@@ -8,7 +9,7 @@ use pg_base::network::{IpCidr, IpInet, MacAddress};
 use std::net::IpAddr;
 
 /// An address is read back as itself: it is written with a netmask of all its bits, which reading
-/// leaves out.
+/// ignores.
 impl<'a> Paired<'a> for IpAddr {
     ghost back = { λ _. BackKept (λ v w. v ≡ w) };
 

@@ -2,7 +2,7 @@
 ghost use Rattle.std.specs.Prelude.{◌≡◌, refl};
 ghost use Rattle.std.specs.Int.{w8, w16, w32, w64};
 ghost use Rattle.pg_base.proofs.FormatLaws.{char_grammar, int2_grammar, int4_grammar, int8_grammar, oid_grammar};
-ghost use Rattle.postgres_types.specs.Laws.FormatBack.{bool_lawful, signed_lawful, unsigned_lawful};
+ghost use Rattle.postgres_types.specs.Laws.NumberBack.{bool_lawful, signed_lawful, unsigned_lawful};
 ghost use Rattle.postgres_types.specs.ReadingBack.{BackKept};
 
 use crate::paired::Paired;

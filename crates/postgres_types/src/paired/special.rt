@@ -1,4 +1,4 @@
-//! Reading dates and timestamps with infinities back.
+//! Reading dates and timestamps that may be infinite back.
 ghost use Rattle.std.specs.Prelude.{◌&&◌};
 ghost use Rattle.std.proofs.Common.{ap};
 ghost use Rattle.std.specs.Int.{w32, w64};
@@ -13,9 +13,9 @@ ghost use Rattle.postgres_types.specs.Laws.SpecialBack.{not_both, row_accepted, 
 use crate::paired::{Finite, Paired};
 use pg_base::special::{Date, Timestamp};
 
-/// An infinity is read back as itself, and a value as its cell says: `WasNull` where it was written
-/// as NULL, `Size` where the cell has not 4 bytes, the infinity where it is one's, and otherwise as
-/// `Value` of what the value inside is read back as, or that one's fault.
+/// An infinity is read back as itself. A value is read back as its cell is read: as `WasNull` if it
+/// was written as NULL, as `Size` if the cell does not have 4 bytes, as the infinity if it is the
+/// cell of one, and otherwise as `Value` of what the value inside is read back as, or as its fault.
 impl<'a, T: Finite<'a>> Paired<'a> for Date<T> {
     ghost back = { λ ty v. BackSpecial w32 date_view (T.wire ty) (T.back ty) (date_view v) };
 
@@ -26,7 +26,7 @@ impl<'a, T: Finite<'a>> Paired<'a> for Date<T> {
         (T.dates ty (row_accepted _ _ ok) (inside_accepted _ _ ok)) };
 }
 
-/// Finite bytes give no infinity, but `Value` of a value that stays finite.
+/// Bytes that are not an infinity give `Value` of a value that is not written as one.
 impl<'a, T: Finite<'a>> Finite<'a> for Date<T> {
     ghost dates = { λ ty date ok. special_finite w32 date_view (T.reads ty) (T.wire ty)
         (T.dates ty date (inside_accepted _ _ ok)) };
@@ -34,7 +34,7 @@ impl<'a, T: Finite<'a>> Finite<'a> for Date<T> {
     ghost timestamps = { λ ty timestamp ok. absurd (not_both ty (row_accepted _ _ ok) timestamp) };
 }
 
-/// Read back as a `Date` is, with a cell of 8 bytes in place of 4.
+/// It is read back as a `Date` is, with a cell of 8 bytes instead of 4.
 impl<'a, T: Finite<'a>> Paired<'a> for Timestamp<T> {
     ghost back = { λ ty v. BackSpecial w64 timestamp_view (T.wire ty) (T.back ty) (timestamp_view v) };
 
@@ -45,7 +45,7 @@ impl<'a, T: Finite<'a>> Paired<'a> for Timestamp<T> {
         (T.timestamps ty (row_accepted _ _ ok) (inside_accepted _ _ ok)) };
 }
 
-/// Finite bytes give no infinity, but `Value` of a value that stays finite.
+/// Bytes that are not an infinity give `Value` of a value that is not written as one.
 impl<'a, T: Finite<'a>> Finite<'a> for Timestamp<T> {
     ghost dates = { λ ty date ok. absurd (not_both ty date (row_accepted _ _ ok)) };
 

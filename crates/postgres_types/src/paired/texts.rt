@@ -3,7 +3,7 @@ ghost use Rattle.std.specs.Prelude.{◌≡◌, refl, string_bytes};
 ghost use Rattle.std.specs.Box.{boxed_str_bytes};
 ghost use Rattle.std.specs.Cow.{cow_str_bytes};
 ghost use Rattle.pg_base.specs.Texts.{has_version};
-ghost use Rattle.postgres_types.specs.Laws.FormatBack.{text_lawful};
+ghost use Rattle.postgres_types.specs.Laws.TextBack.{text_lawful};
 ghost use Rattle.postgres_types.specs.ReadingBack.{BackKept};
 
 use crate::paired::Paired;

@@ -9,8 +9,7 @@ ghost use Rattle.postgres_types.specs.ReadingBack.{BackKept};
 use crate::paired::{Finite, Paired};
 use pg_base::unix_time::UnixTime;
 
-/// A timestamp is read back truncated to whole microseconds, toward 2000-01-01 00:00:00 UTC on both
-/// sides.
+/// A timestamp is read back truncated to microseconds, toward 2000-01-01 00:00:00 UTC.
 impl<'a> Paired<'a> for UnixTime {
     ghost back = { λ _. BackKept (KeptMicros nanos_of) };
 
@@ -19,7 +18,7 @@ impl<'a> Paired<'a> for UnixTime {
     ghost lawful = { λ _ _. timestamp_lawful nanos_of };
 }
 
-/// What is read from a count that is no infinity is written as that count.
+/// A value that is read from a number that is not an infinity is written as that number.
 impl<'a> Finite<'a> for UnixTime {
     ghost dates = { λ _ _ _. timestamp_finite nanos_of w32 };
 

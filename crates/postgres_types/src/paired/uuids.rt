@@ -1,6 +1,6 @@
 //! UUIDs are read back as themselves.
 ghost use Rattle.std.specs.Prelude.{◌≡◌, refl};
-ghost use Rattle.postgres_types.specs.Laws.FormatBack.{fixed_bytes_lawful};
+ghost use Rattle.postgres_types.specs.Laws.FixedBytesBack.{fixed_bytes_lawful};
 ghost use Rattle.postgres_types.specs.ReadingBack.{BackKept};
 
 use crate::paired::Paired;
