@@ -1,4 +1,4 @@
-//! Reads a cell of int4, and prints the number, by the library for C.
+//! Reads a cell of int4, and prints the number, with the library for C.
 #[path = "../out/include/pg_cells.rs"]
 mod pg_cells;
 

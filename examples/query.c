@@ -1,6 +1,6 @@
 /*
- * Binds an int4 and an int4[] as parameters, and prints the int4 and the int4[] of each row of the result, over libpq,
- * whose environment names the server.
+ * Binds an int4 and an int4[] as parameters, and prints the int4 and the int4[] of each row of the result, with libpq,
+ * whose environment variables name the server.
  */
 #include <libpq-fe.h>
 #include <stdio.h>
@@ -48,7 +48,7 @@ static uint32_t print_array(const char *cell, size_t len)
     return fault == PGC_END ? PGC_OK : fault;
 }
 
-/* Ends the program where there is a fault. */
+/* Ends the program if there is a fault. */
 static void expect_none(uint32_t fault)
 {
     char said[64];

@@ -12,9 +12,9 @@ pub const PGC_OK: u32 = 0;
 pub const PGC_MEMORY: u32 = 1;
 /// An element of int2vector or oidvector is NULL.
 pub const PGC_WAS_NULL: u32 = 2;
-/// A type is none of those that pgc_rewrite rewrites.
+/// Cells of the type are not rewritten by pgc_rewrite.
 pub const PGC_WRONG_TYPE: u32 = 3;
-/// The cell, or a part of it, has another length than its format.
+/// The length of a cell, or of a part of it, is not that of its format.
 pub const PGC_SIZE: u32 = 4;
 /// A text is not UTF-8.
 pub const PGC_UTF8: u32 = 5;
@@ -26,10 +26,10 @@ pub const PGC_KEY_LENGTH: u32 = 7;
 pub const PGC_DIMENSIONS: u32 = 8;
 pub const PGC_TOO_FEW: u32 = 9;
 pub const PGC_EXCESS: u32 = 10;
-/// There is no such day or time, or its number is that of no date, time or timestamp.
+/// There is no such day or time, or it is out of the range of the type.
 pub const PGC_TRANSMIT: u32 = 12;
 pub const PGC_JSON_VERSION: u32 = 13;
-/// A cell of ltree, lquery or ltxtquery is of another version than 1.
+/// The version of a cell of ltree, lquery or ltxtquery is not 1.
 pub const PGC_TEXT_VERSION: u32 = 14;
 pub const PGC_JSON_TEXT: u32 = 15;
 pub const PGC_JSON_NUMBER: u32 = 16;
@@ -37,18 +37,18 @@ pub const PGC_JSON_NUMBER: u32 = 16;
 pub const PGC_FAMILY: u32 = 17;
 /// A netmask is longer than its address.
 pub const PGC_NETMASK: u32 = 18;
-/// An address has another length than its family.
+/// The length of an address is not that of its family.
 pub const PGC_ADDRESS_LENGTH: u32 = 19;
-/// A network has bits set after its netmask.
+/// A network has a bit set after its netmask.
 pub const PGC_HOST_BITS: u32 = 20;
 pub const PGC_USER: u32 = 21;
 pub const PGC_FIELD_COUNT: u32 = 22;
 pub const PGC_FIELD_OID: u32 = 23;
 
-// What a function that writes answers where the value has no cell.
+// What a function that writes returns for a value that has no cell.
 pub const PGC_NO_CELL: usize = usize::MAX;
 
-// The OIDs of PostgreSQL's built-in types, as PQftype gives them.
+// The OIDs of PostgreSQL's built-in types, as PQftype returns them.
 pub const PGC_BOOL_OID: u32 = 16;
 pub const PGC_BYTEA_OID: u32 = 17;
 pub const PGC_CHAR_OID: u32 = 18;
@@ -103,7 +103,7 @@ pub const PGC_PG_LSN_ARRAY_OID: u32 = 3221;
 pub const PGC_JSONB_OID: u32 = 3802;
 pub const PGC_JSONB_ARRAY_OID: u32 = 3807;
 
-/// A part of a cell: `len` bytes from `cell + offset` on.
+/// A part of a cell: the `len` bytes from `cell + offset` on.
 #[derive(Clone, Copy, Debug, Default, PartialEq, Eq)]
 #[repr(C)]
 pub struct PgcSpan {
@@ -111,7 +111,7 @@ pub struct PgcSpan {
     pub len: usize,
 }
 
-/// Lists of bits.
+/// A bit string: the number of bits, and the bytes that have them.
 #[derive(Clone, Copy, Debug, Default, PartialEq, Eq)]
 #[repr(C)]
 pub struct PgcBits {
@@ -120,21 +120,21 @@ pub struct PgcBits {
     pub bytes: PgcSpan,
 }
 
-/// A UUID, in the order of its text.
+/// A UUID: its bytes in the order of its text.
 #[derive(Clone, Copy, Debug, Default, PartialEq, Eq)]
 #[repr(C)]
 pub struct PgcUuid {
     pub bytes: [u8; 16],
 }
 
-/// A MAC address, in the order of its text.
+/// A MAC address: its bytes in the order of its text.
 #[derive(Clone, Copy, Debug, Default, PartialEq, Eq)]
 #[repr(C)]
 pub struct PgcMacaddr {
     pub bytes: [u8; 6],
 }
 
-// The families of addresses.
+// The address families.
 pub const PGC_IPV4: u8 = 2;
 pub const PGC_IPV6: u8 = 3;
 
@@ -144,9 +144,9 @@ pub const PGC_IPV6: u8 = 3;
 pub struct PgcInet {
     /// PGC_IPV4 or PGC_IPV6.
     pub family: u8,
-    /// At most 32 bits of IPv4, or 128 of IPv6.
+    /// At most 32 for IPv4, and 128 for IPv6.
     pub netmask: u8,
-    /// The first 4 of IPv4, and then zeros; all 16 of IPv6.
+    /// For IPv4 the first 4, and then zeros; for IPv6 all 16.
     pub octets: [u8; 16],
 }
 
@@ -154,23 +154,23 @@ pub struct PgcInet {
 #[derive(Clone, Copy, Debug, Default, PartialEq, Eq)]
 #[repr(C)]
 pub struct PgcDate {
-    /// From 2000-01-01; of an infinity INT32_MAX or INT32_MIN.
+    /// From 2000-01-01; INT32_MAX or INT32_MIN for an infinity.
     pub days: i32,
-    /// 1 for infinity, -1 for -infinity, and 0 for every other date.
+    /// 1 for infinity, -1 for -infinity, and 0 for any other date.
     pub infinity: i32,
 }
 
-/// A timestamp, without a time zone or with one; it is in UTC then.
+/// A timestamp, with or without a time zone.
 #[derive(Clone, Copy, Debug, Default, PartialEq, Eq)]
 #[repr(C)]
 pub struct PgcTimestamp {
-    /// From 2000-01-01 00:00:00; of an infinity INT64_MAX or INT64_MIN.
+    /// From 2000-01-01 00:00:00; INT64_MAX or INT64_MIN for an infinity.
     pub microseconds: i64,
-    /// 1 for infinity, -1 for -infinity, and 0 for every other timestamp.
+    /// 1 for infinity, -1 for -infinity, and 0 for any other timestamp.
     pub infinity: i32,
 }
 
-/// An interval, in three parts with a sign each.
+/// An interval: three parts, each with its sign.
 #[derive(Clone, Copy, Debug, Default, PartialEq, Eq)]
 #[repr(C)]
 pub struct PgcInterval {
@@ -194,29 +194,29 @@ pub struct PgcDateParts {
 #[derive(Clone, Copy, Debug, Default, PartialEq, Eq)]
 #[repr(C)]
 pub struct PgcTimeParts {
-    /// 0 to 23; 24 in 24:00:00 alone.
+    /// 0 to 23, or 24 for 24:00:00.
     pub hour: u32,
     pub minute: u32,
     pub second: u32,
     pub microsecond: u32,
 }
 
-/// A day and a time of day, in UTC where it has a time zone.
+/// A day and a time of day.
 #[derive(Clone, Copy, Debug, Default, PartialEq, Eq)]
 #[repr(C)]
 pub struct PgcTimestampParts {
     pub date: PgcDateParts,
-    /// Never 24:00:00: the next day has begun then.
+    /// Before 24:00:00, at which the next day begins.
     pub time: PgcTimeParts,
 }
 
-/// Where a walk over the elements of a cell is.
+/// A walk: a position among the elements of a cell, which are read one after another.
 #[derive(Clone, Copy, Debug, Default, PartialEq, Eq)]
 #[repr(C)]
 pub struct PgcWalk {
-    /// How many elements are still to come, as the cell states it.
+    /// The number of elements that are left, as the cell states it.
     pub left: usize,
-    /// Where the next one begins.
+    /// The offset of the next one in the cell.
     pub offset: usize,
 }
 
@@ -224,21 +224,21 @@ pub struct PgcWalk {
 #[derive(Clone, Copy, Debug, Default, PartialEq, Eq)]
 #[repr(C)]
 pub struct PgcElement {
-    /// 1 where it is NULL, and else 0.
+    /// 1 if it is NULL, and otherwise 0.
     pub is_null: u32,
     pub bytes: PgcSpan,
 }
 
-// What the functions of a walk answer where there is no further element.
+// What the functions of a walk return if there are no more elements.
 pub const PGC_END: u32 = u32::MAX;
 
-/// An array that was begun.
+/// An array whose header was read.
 #[derive(Clone, Copy, Debug, Default, PartialEq, Eq)]
 #[repr(C)]
 pub struct PgcArray {
-    /// Over its elements.
+    /// At its first element.
     pub walk: PgcWalk,
-    /// The OID of their type, as the cell states it.
+    /// The OID of the elements' type, as the cell states it.
     pub element_oid: u32,
 }
 
@@ -258,81 +258,81 @@ pub struct PgcField {
     pub value: PgcElement,
 }
 
-/// How far a cell is built that has items.
+/// A builder: the state of a cell that is built from items.
 #[derive(Clone, Copy, Debug, Default, PartialEq, Eq)]
 #[repr(C)]
 pub struct PgcBuilder {
-    /// How many bytes of the buffer the cell has so far, with the room for its head.
+    /// The length of the cell so far, in bytes, with the room for its header.
     pub len: usize,
-    /// How many items it has.
+    /// The number of items.
     pub count: usize,
-    /// 0 where no item is NULL.
+    /// 1 if an item is NULL, and otherwise 0.
     pub has_null: u32,
 }
 
 unsafe extern "C" {
-    /// Writes the text of a fault, with a zero at its end, as cells are written.
+    /// Writes the text of a fault, with a zero byte at its end, as other functions write cells.
     pub fn pgc_fault_text(fault: u32, out: *mut c_void, room: usize) -> usize;
 
-    /// Reads bool: 1 byte, of which 0 is false and any other true.
+    /// Reads bool (boolrecv): 1 byte, where 0 is false and any other byte is true.
     pub fn pgc_bool_read(cell: *const c_void, len: usize, value: *mut bool) -> u32;
 
-    /// Writes bool: 1 byte, 0 or 1.
+    /// Writes bool (boolsend): 1 byte, 0 or 1.
     pub fn pgc_bool_write(value: bool, out: *mut c_void, room: usize) -> usize;
 
-    /// Reads "char": 1 byte, in two's complement.
+    /// Reads "char" (charrecv): 1 byte, in two's complement.
     pub fn pgc_char_read(cell: *const c_void, len: usize, value: *mut i8) -> u32;
 
-    /// Writes "char": 1 byte, in two's complement.
+    /// Writes "char" (charsend): 1 byte, in two's complement.
     pub fn pgc_char_write(value: i8, out: *mut c_void, room: usize) -> usize;
 
-    /// Reads int2: 2 bytes, big-endian, in two's complement.
+    /// Reads int2 (int2recv): 2 bytes, big-endian, in two's complement.
     pub fn pgc_int2_read(cell: *const c_void, len: usize, value: *mut i16) -> u32;
 
-    /// Writes int2: 2 bytes, big-endian, in two's complement.
+    /// Writes int2 (int2send): 2 bytes, big-endian, in two's complement.
     pub fn pgc_int2_write(value: i16, out: *mut c_void, room: usize) -> usize;
 
-    /// Reads int4: 4 bytes, big-endian, in two's complement.
+    /// Reads int4 (int4recv): 4 bytes, big-endian, in two's complement.
     pub fn pgc_int4_read(cell: *const c_void, len: usize, value: *mut i32) -> u32;
 
-    /// Writes int4: 4 bytes, big-endian, in two's complement.
+    /// Writes int4 (int4send): 4 bytes, big-endian, in two's complement.
     pub fn pgc_int4_write(value: i32, out: *mut c_void, room: usize) -> usize;
 
-    /// Reads int8: 8 bytes, big-endian, in two's complement.
+    /// Reads int8 (int8recv): 8 bytes, big-endian, in two's complement.
     pub fn pgc_int8_read(cell: *const c_void, len: usize, value: *mut i64) -> u32;
 
-    /// Writes int8: 8 bytes, big-endian, in two's complement.
+    /// Writes int8 (int8send): 8 bytes, big-endian, in two's complement.
     pub fn pgc_int8_write(value: i64, out: *mut c_void, room: usize) -> usize;
 
-    /// Reads oid: 4 bytes, unsigned, big-endian.
+    /// Reads oid (oidrecv): 4 bytes, unsigned, big-endian.
     pub fn pgc_oid_read(cell: *const c_void, len: usize, value: *mut u32) -> u32;
 
-    /// Writes oid: 4 bytes, unsigned, big-endian.
+    /// Writes oid (oidsend): 4 bytes, unsigned, big-endian.
     pub fn pgc_oid_write(oid: u32, out: *mut c_void, room: usize) -> usize;
 
-    /// Reads pg_lsn: 8 bytes, unsigned, big-endian.
+    /// Reads pg_lsn (pg_lsn_recv): 8 bytes, unsigned, big-endian.
     pub fn pgc_lsn_read(cell: *const c_void, len: usize, value: *mut u64) -> u32;
 
-    /// Writes pg_lsn: 8 bytes, unsigned, big-endian.
+    /// Writes pg_lsn (pg_lsn_send): 8 bytes, unsigned, big-endian.
     pub fn pgc_lsn_write(lsn: u64, out: *mut c_void, room: usize) -> usize;
 
-    /// Reads a text (text, varchar, bpchar, name, unknown, and citext).
+    /// Reads a text: text, varchar, bpchar, name, unknown or citext (textrecv and its like).
     pub fn pgc_text_read(cell: *const c_void, len: usize, text: *mut PgcSpan) -> u32;
 
-    /// Writes a text: its `len` bytes from `text` on, which may not be NULL even where `len` is 0.
+    /// Writes a text (textsend and its like): the `len` bytes from `text` on.
     pub fn pgc_text_write(text: *const c_void, len: usize, out: *mut c_void, room: usize) -> usize;
 
-    /// Reads ltree, lquery and ltxtquery: the version 1 in a byte, and then the text.
+    /// Reads ltree, lquery and ltxtquery (ltree_recv, lquery_recv, ltxtq_recv).
     pub fn pgc_ltree_read(cell: *const c_void, len: usize, text: *mut PgcSpan) -> u32;
 
-    /// Writes ltree, lquery and ltxtquery: the version 1 and the text, as pgc_text_write takes it.
+    /// Writes ltree, lquery and ltxtquery (ltree_send, lquery_send, ltxtq_send).
     pub fn pgc_ltree_write(text: *const c_void, len: usize, out: *mut c_void, room: usize)
     -> usize;
 
-    /// Reads bytea: all bytes of the cell.
+    /// Reads bytea (bytearecv): all bytes of the cell.
     pub fn pgc_bytea_read(cell: *const c_void, len: usize, bytes: *mut PgcSpan) -> u32;
 
-    /// Writes bytea: the `len` bytes from `bytes` on, which may not be NULL even where `len` is 0.
+    /// Writes bytea (byteasend): the `len` bytes from `bytes` on.
     pub fn pgc_bytea_write(
         bytes: *const c_void,
         len: usize,
@@ -340,10 +340,10 @@ unsafe extern "C" {
         room: usize,
     ) -> usize;
 
-    /// Reads bit and varbit.
+    /// Reads bit and varbit (bit_recv, varbit_recv).
     pub fn pgc_varbit_read(cell: *const c_void, len: usize, bits: *mut PgcBits) -> u32;
 
-    /// Writes bit and varbit.
+    /// Writes bit and varbit (bit_send, varbit_send): the first `bit_len` bits of `bytes`.
     pub fn pgc_varbit_write(
         bit_len: usize,
         bytes: *const c_void,
@@ -352,71 +352,71 @@ unsafe extern "C" {
         room: usize,
     ) -> usize;
 
-    /// Reads uuid: 16 bytes.
+    /// Reads uuid (uuid_recv): 16 bytes.
     pub fn pgc_uuid_read(cell: *const c_void, len: usize, uuid: *mut PgcUuid) -> u32;
 
-    /// Writes uuid: 16 bytes.
+    /// Writes uuid (uuid_send): 16 bytes.
     pub fn pgc_uuid_write(uuid: *const PgcUuid, out: *mut c_void, room: usize) -> usize;
 
-    /// Reads macaddr: 6 bytes.
+    /// Reads macaddr (macaddr_recv): 6 bytes.
     pub fn pgc_macaddr_read(cell: *const c_void, len: usize, macaddr: *mut PgcMacaddr) -> u32;
 
-    /// Writes macaddr: 6 bytes.
+    /// Writes macaddr (macaddr_send): 6 bytes.
     pub fn pgc_macaddr_write(macaddr: *const PgcMacaddr, out: *mut c_void, room: usize) -> usize;
 
-    /// Reads inet.
+    /// Reads inet (inet_recv).
     pub fn pgc_inet_read(cell: *const c_void, len: usize, inet: *mut PgcInet) -> u32;
 
-    /// Reads cidr.
+    /// Reads cidr (cidr_recv), as pgc_inet_read reads inet.
     pub fn pgc_cidr_read(cell: *const c_void, len: usize, cidr: *mut PgcInet) -> u32;
 
-    /// Writes inet.
+    /// Writes inet (inet_send).
     pub fn pgc_inet_write(inet: *const PgcInet, out: *mut c_void, room: usize) -> usize;
 
-    /// Writes cidr, as pgc_inet_write writes inet.
+    /// Writes cidr (cidr_send), as pgc_inet_write writes inet.
     pub fn pgc_cidr_write(cidr: *const PgcInet, out: *mut c_void, room: usize) -> usize;
 
-    /// Reads date: the days in 4 bytes, big-endian, in two's complement.
+    /// Reads date (date_recv).
     pub fn pgc_date_read(cell: *const c_void, len: usize, date: *mut PgcDate) -> u32;
 
-    /// Writes date: the days from 2000-01-01, in 4 bytes.
+    /// Writes date (date_send): the days from 2000-01-01, in 4 bytes.
     pub fn pgc_date_write(days: i32, out: *mut c_void, room: usize) -> usize;
 
-    /// Reads time: the microseconds from midnight in 8 bytes, big-endian, in two's complement.
+    /// Reads time (time_recv).
     pub fn pgc_time_read(cell: *const c_void, len: usize, microseconds: *mut i64) -> u32;
 
-    /// Writes time: the microseconds from midnight, in 8 bytes.
+    /// Writes time (time_send): the microseconds from midnight, in 8 bytes.
     pub fn pgc_time_write(microseconds: i64, out: *mut c_void, room: usize) -> usize;
 
-    /// Reads timestamp and timestamptz.
+    /// Reads timestamp and timestamptz (timestamp_recv, timestamptz_recv).
     pub fn pgc_timestamp_read(cell: *const c_void, len: usize, timestamp: *mut PgcTimestamp)
     -> u32;
 
-    /// Writes timestamp and timestamptz: the microseconds from 2000-01-01 00:00:00, in 8 bytes.
+    /// Writes timestamp and timestamptz (timestamp_send, timestamptz_send).
     pub fn pgc_timestamp_write(microseconds: i64, out: *mut c_void, room: usize) -> usize;
 
-    /// Tells the day of a date, by its days from 2000-01-01.
+    /// Splits a date, as days from 2000-01-01, into the year, the month and the day.
     pub fn pgc_date_parts(days: i32, parts: *mut PgcDateParts) -> u32;
 
-    /// Tells the hour, the minute, the second and the microsecond of a time, by its microseconds from midnight, of which 86,400,000,000 are 24:00:00.
+    /// Splits a time, as microseconds from midnight, into its parts.
     pub fn pgc_time_parts(microseconds: i64, parts: *mut PgcTimeParts) -> u32;
 
-    /// Tells the day and the time of day of a timestamp, by its microseconds from 2000-01-01 00:00:00.
+    /// Splits a timestamp, as microseconds from 2000-01-01 00:00:00, into its parts.
     pub fn pgc_timestamp_parts(microseconds: i64, parts: *mut PgcTimestampParts) -> u32;
 
-    /// Finds the date of a day: sets its days from 2000-01-01, and answers 0.
+    /// Makes the date of a day: sets `days` to its days from 2000-01-01, and returns 0.
     pub fn pgc_date_of_parts(parts: *const PgcDateParts, days: *mut i32) -> u32;
 
-    /// Finds a time: sets its microseconds from midnight, and answers 0.
+    /// Makes a time: sets `microseconds` to its microseconds from midnight, and returns 0.
     pub fn pgc_time_of_parts(parts: *const PgcTimeParts, microseconds: *mut i64) -> u32;
 
-    /// Finds a timestamp: sets its microseconds from 2000-01-01 00:00:00, and answers 0.
+    /// Makes a timestamp.
     pub fn pgc_timestamp_of_parts(parts: *const PgcTimestampParts, microseconds: *mut i64) -> u32;
 
-    /// Reads interval.
+    /// Reads interval (interval_recv).
     pub fn pgc_interval_read(cell: *const c_void, len: usize, interval: *mut PgcInterval) -> u32;
 
-    /// Writes interval: its parts, in 8, 4 and 4 bytes.
+    /// Writes interval (interval_send): its parts, in 8, 4 and 4 bytes.
     pub fn pgc_interval_write(
         microseconds: i64,
         days: i32,
@@ -425,17 +425,17 @@ unsafe extern "C" {
         room: usize,
     ) -> usize;
 
-    /// Writes the frame of a cell, as it stands in arrays, records, hstores, rows and lists of parameters.
+    /// Writes the frame of a cell, as arrays, records, hstores, rows and lists of parameters have it.
     pub fn pgc_frame_write(cell: *const c_void, len: usize, out: *mut c_void, room: usize)
     -> usize;
 
     /// Writes the frame of NULL: the length -1 in 4 bytes.
     pub fn pgc_null_write(out: *mut c_void, room: usize) -> usize;
 
-    /// Reads the head of an array.
+    /// Reads the header of an array (array_recv).
     pub fn pgc_array_begin(cell: *const c_void, len: usize, array: *mut PgcArray) -> u32;
 
-    /// Reads the next element of an array, of which `walk` tells, over the same cell as pgc_array_begin.
+    /// Reads the next element of an array, at `walk`, from the same cell as pgc_array_begin.
     pub fn pgc_array_next(
         cell: *const c_void,
         len: usize,
@@ -443,7 +443,7 @@ unsafe extern "C" {
         element: *mut PgcElement,
     ) -> u32;
 
-    /// Reads the count of an hstore: 4 bytes, big-endian.
+    /// Reads the number of entries of an hstore (hstore_recv): 4 bytes, big-endian.
     pub fn pgc_hstore_begin(cell: *const c_void, len: usize, walk: *mut PgcWalk) -> u32;
 
     /// Reads the next entry of an hstore, as pgc_array_next reads an element.
@@ -454,7 +454,7 @@ unsafe extern "C" {
         entry: *mut PgcEntry,
     ) -> u32;
 
-    /// Reads the number of a record's fields, of a composite type or of row values.
+    /// Reads the number of fields of a record (record_recv), of a composite type or of type record.
     pub fn pgc_record_begin(cell: *const c_void, len: usize, walk: *mut PgcWalk) -> u32;
 
     /// Reads the next field of a record, as pgc_array_next reads an element.
@@ -465,19 +465,19 @@ unsafe extern "C" {
         field: *mut PgcField,
     ) -> u32;
 
-    /// Reads the number of a row's columns, in the body of a DataRow message or in the file format of binary COPY.
+    /// Reads the number of columns of a row: 2 bytes, big-endian.
     pub fn pgc_row_begin(body: *const c_void, len: usize, walk: *mut PgcWalk) -> u32;
 
-    /// Begins an array of one dimension: 20 bytes are left for its head.
+    /// Begins an array of one dimension (array_send): 20 bytes are left for its header.
     pub fn pgc_array_open(builder: *mut PgcBuilder);
 
-    /// Begins a list of parameters: 2 bytes are left for their number.
+    /// Begins a list of parameters (Bind message): 2 bytes are left for their number.
     pub fn pgc_params_open(builder: *mut PgcBuilder);
 
-    /// Begins a record: 4 bytes are left for the number of its fields.
+    /// Begins a record (record_send): 4 bytes are left for the number of its fields.
     pub fn pgc_record_open(builder: *mut PgcBuilder);
 
-    /// Begins an hstore: 4 bytes are left for the count of its entries.
+    /// Begins an hstore (hstore_send): 4 bytes are left for the number of its entries.
     pub fn pgc_hstore_open(builder: *mut PgcBuilder);
 
     /// Pushes an element of an array, or a parameter.
@@ -489,10 +489,10 @@ unsafe extern "C" {
         room: usize,
     ) -> usize;
 
-    /// Pushes an element or a parameter that is NULL, in 4 bytes.
+    /// Pushes an element or a parameter that is NULL: its frame, of 4 bytes.
     pub fn pgc_push_null(builder: *mut PgcBuilder, out: *mut c_void, room: usize) -> usize;
 
-    /// Pushes an element or a parameter whose cell of `len` bytes stands at `out + builder->len + 4` already, where any function may have written it.
+    /// Pushes an element or a parameter whose cell is already written.
     pub fn pgc_push_written(
         builder: *mut PgcBuilder,
         len: usize,
@@ -500,7 +500,7 @@ unsafe extern "C" {
         room: usize,
     ) -> usize;
 
-    /// Pushes a field of a record: the OID of its type in 4 bytes, and then as pgc_push.
+    /// Pushes a field of a record: the OID of its type in 4 bytes, and then its frame as pgc_push.
     pub fn pgc_push_field(
         builder: *mut PgcBuilder,
         oid: u32,
@@ -510,7 +510,7 @@ unsafe extern "C" {
         room: usize,
     ) -> usize;
 
-    /// Pushes a field that is NULL: the OID of its type, and then as pgc_push_null.
+    /// Pushes a field that is NULL.
     pub fn pgc_push_null_field(
         builder: *mut PgcBuilder,
         oid: u32,
@@ -518,7 +518,7 @@ unsafe extern "C" {
         room: usize,
     ) -> usize;
 
-    /// Pushes a field whose cell of `len` bytes stands at `out + builder->len + 8` already, as pgc_push_written.
+    /// Pushes a field whose cell is already written, as pgc_push_written.
     pub fn pgc_push_written_field(
         builder: *mut PgcBuilder,
         oid: u32,
@@ -527,7 +527,7 @@ unsafe extern "C" {
         room: usize,
     ) -> usize;
 
-    /// Pushes an entry of an hstore.
+    /// Pushes an entry of an hstore: the frames of its key and its value.
     pub fn pgc_push_entry(
         builder: *mut PgcBuilder,
         key: *const c_void,
@@ -538,7 +538,7 @@ unsafe extern "C" {
         room: usize,
     ) -> usize;
 
-    /// Pushes an entry whose value is NULL: the frame of its key, and that of NULL.
+    /// Pushes an entry whose value is NULL: the frame of its key, and the frame of NULL.
     pub fn pgc_push_null_entry(
         builder: *mut PgcBuilder,
         key: *const c_void,
@@ -561,7 +561,7 @@ unsafe extern "C" {
     /// Closes a record: the number of its fields in 4 bytes, big-endian.
     pub fn pgc_record_close(builder: *const PgcBuilder, out: *mut c_void, room: usize) -> usize;
 
-    /// Closes an hstore: the count of its entries in 4 bytes, big-endian.
+    /// Closes an hstore: the number of its entries in 4 bytes, big-endian.
     pub fn pgc_hstore_close(builder: *const PgcBuilder, out: *mut c_void, room: usize) -> usize;
 
     /// Rewrites a cell of the built-in type with that OID.

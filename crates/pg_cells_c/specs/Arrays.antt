@@ -1,4 +1,4 @@
--- Heads of arrays, as walks begin at them.
+-- Headers of arrays.
 use Rattle.std.specs.Prelude.{ℕ, List, drop}
 use Rattle.std.specs.Int.{w32}
 use Rattle.pg_base.specs.Arrays.{SpellsHead}
@@ -6,7 +6,7 @@ use Rattle.pg_base.specs.Cells.{IsBeUnsigned}
 use Rattle.pg_cells_c.specs.Walks.{to_read}
 use Rattle.pg_cells_c.specs.declared.arrays.Array.{Array}
 
--- b is the head of an array (array_send), which states the OID of its elements' type after its flags, and then the
--- elements, which the walk is to read
+-- b is the header of an array (array_send), which has the OID of its elements' type after its flags, and then the
+-- elements, which are to be read
 abbrev pub SpellsArray : List ℕ → Array → Type 0
 SpellsArray b v = (head : SpellsHead b (to_read b v.walk)) × IsBeUnsigned w32 (drop 4 head.flags_and_oid) v.element_oid

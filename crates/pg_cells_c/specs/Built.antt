@@ -1,4 +1,4 @@
--- What builders are for: the cell of the items that were pushed.
+-- What builders make: the cell of the items that were pushed.
 use Rattle.std.specs.Prelude.{◌≡◌, ◌==◌, ◌&&◌, ℕ, ◌+◌, ◌<◌, ◌≤◌, List, [], ◌∷◌, ◌++◌, length, take, Bool, not}
 use Rattle.std.specs.Prelude.{if◌then◌else◌, Option}
 use Rattle.std.specs.Prelude.{Some, None, Ok, Err, pos}
@@ -13,23 +13,23 @@ use Rattle.pg_cells_c.specs.Builders.{params_head}
 use Rattle.pg_cells_c.specs.Writings.{no_cell}
 use Rattle.pg_cells_c.specs.declared.builders.Builder.{Builder}
 
--- the bytes of items, one after another, where each has some
+-- the bytes of items, one after another, if each has some
 abbrev pub items_bytes : {A : Type 0} → (A → Option (List ℕ)) → List A → Option (List ℕ)
 items_bytes spell [] = Some []
 items_bytes spell (x ∷ xs) = concat (spell x) (items_bytes spell xs)
 
--- the builder tells of these items, whose bytes stand in the buffer after room for a head of so many bytes
+-- the builder has these items, whose bytes are in the buffer after room for a header of width bytes
 pub record Builds {A : Type 0} (spell : A → Option (List ℕ)) (is_null : A → Bool) (width : ℕ) (b : Builder)
     (buffer : List ℕ) (items : List A) : Type 0 where
-  -- what stands where the head is to be
+  -- the bytes where the header is to be
   pub room : List ℕ
   -- the items' bytes
   pub bytes : List ℕ
-  -- what is left of the buffer
+  -- the rest of the buffer
   pub rest : List ℕ
-  -- they follow one another
+  -- the buffer is these three
   pub is : buffer ≡ room ++ (bytes ++ rest)
-  -- the head has room
+  -- the room is that of the header
   pub wide : length room ≡ width
   -- the bytes are those of the items
   pub spelled : items_bytes spell items ≡ Some bytes
@@ -37,24 +37,24 @@ pub record Builds {A : Type 0} (spell : A → Option (List ℕ)) (is_null : A �
   pub ends : b.len ≡ width + length bytes
   -- it counts the items
   pub counts : b.count ≡ length items
-  -- and knows whether one of them is NULL
+  -- and has a flag for NULL among them
   pub null : b.has_null ≡ (if list_any is_null items then 1 else 0)
 
--- whether an item of which a push answered this many bytes was put into the buffer
+-- whether an item was written to the buffer, given the result of its push
 abbrev pub was_pushed : ℕ → Builder → List ℕ → Bool
 was_pushed n b buffer = not (n == no_cell) && has_room b.len n (length buffer)
 
--- the items with one more at their end, where it was pushed
+-- the items, with one more at their end if it was pushed
 abbrev pub and_item : {A : Type 0} → Bool → List A → A → List A
 and_item pushed items x = if pushed then items ++ x ∷ [] else items
 
--- the buffer begins with the cell, and the answer is how many bytes it has; or there is none, and so the answer says
+-- the buffer begins with the cell, and the result is its length; or there is none, and the result states that
 abbrev pub BeginsWithCell : Wire → List ℕ → ℕ → Type 0
 BeginsWithCell (Ok None) buffer n = ⊥
 BeginsWithCell (Ok (Some s)) buffer n = (take n buffer ≡ s) × (n ≡ length s)
 BeginsWithCell (Err r) buffer n = n ≡ no_cell
 
--- the cell of an array of one dimension that begins at 1 (array_send)
+-- the cell of an array with one dimension, whose lower bound is 1 (array_send)
 abbrev pub wire_array : ℕ → List Cell → Wire
 wire_array oid cells = wire_of (array_bytes (pos 1) oid cells)
 
@@ -62,7 +62,7 @@ wire_array oid cells = wire_of (array_bytes (pos 1) oid cells)
 abbrev pub wire_record : List (ℕ × Cell) → Wire
 wire_record fields = wire_of (concat (count_bytes (length fields)) (items_bytes field_bytes fields))
 
--- the cell of an hstore (hstore_send), of its entries in their order
+-- the cell of an hstore (hstore_send), with its entries in their order
 abbrev pub wire_entries : List Entry → Wire
 wire_entries entries = wire_of (hstore_bytes entries)
 
@@ -72,19 +72,19 @@ wire_params cells = wire_of (concat (params_head (length cells)) (frames cells))
 
 -- ---- what the calls do for the list
 
--- what was opened has no items, in a buffer that has room for the head
+-- a builder that was opened has no items, if the buffer has room for the header
 abbrev pub OpensEmpty : {A : Type 0} → (A → Option (List ℕ)) → (A → Bool) → ℕ → Type 0
 OpensEmpty spell null width =
     (buffer : List ℕ) → width ≤ length buffer → Builds spell null width (empty_builder width) buffer []
 
--- an item that is pushed is the last one of the list; what has no cell, or does not fit, leaves the list as it is
+-- an item that is pushed is appended to the list; one that has no cell, or does not fit, leaves the list unchanged
 abbrev pub PushesLast : {A : Type 0} → (A → Option (List ℕ)) → (A → Bool) → ℕ → Type 0
 PushesLast {A} spell null width =
     (b c : Builder) (old new : List ℕ) (items : List A) (x : A) (n : ℕ) → length old < no_cell
     → Builds spell null width b old items → Pushes (spell x) (null x) b c old new n
     → Builds spell null width c new (and_item (was_pushed n b old) items x)
 
--- and so is one whose cell was written to its place before
+-- so is an item whose cell the caller already wrote to its place
 abbrev pub PushesWrittenLast : {A : Type 0} → (A → Option (List ℕ)) → (A → Bool) → ℕ → (List ℕ → A) → ℕ → Type 0
 PushesWrittenLast {A} spell null width item prefix =
     (b c : Builder) (old new : List ℕ) (items : List A) (len n : ℕ) → length old < no_cell
@@ -92,7 +92,7 @@ PushesWrittenLast {A} spell null width item prefix =
     → (cell : List ℕ) × StandsAt (b.len + prefix) len old cell
     × Builds spell null width c new (and_item (was_pushed n b old) items (item cell))
 
--- a close makes the list's cell of the buffer's first bytes
+-- a close makes the first bytes of the buffer the cell of the list
 abbrev pub ClosesList : {A : Type 0} → (A → Option (List ℕ)) → (A → Bool) → ℕ → (Builder → Option (List ℕ))
     → (List A → Wire) → Type 0
 ClosesList {A} spell null width head wire =

@@ -8,19 +8,19 @@ use Rattle.pg_cells_c.specs.declared.dates.Date.{Date}
 use Rattle.pg_cells_c.specs.declared.dates.Interval.{Interval}
 use Rattle.pg_cells_c.specs.declared.dates.Timestamp.{Timestamp}
 
--- which infinity a number of a width stands for: 1 for infinity, -1 for -infinity, and 0 for none
+-- whether a number of a width is an infinity: 1 for infinity, -1 for -infinity, and 0 for any other number
 abbrev pub infinity_of : Width → ℤ → ℤ
 infinity_of w z =
     if int_le (infinity_number w) z then pos 1 else if int_le z (minus_infinity_number w) then negsuc 0 else pos 0
 
--- DATE: the bytes spell the days, and the infinity is theirs
+-- DATE: the days of the bytes, and whether they are an infinity
 abbrev pub FormDateParts : List ℕ → Date → Type 0
 FormDateParts b v = FormSigned w32 b v.days × (v.infinity ≡ infinity_of w32 v.days)
 
--- TIMESTAMP and TIMESTAMPTZ: the bytes spell the microseconds, and the infinity is theirs
+-- TIMESTAMP and TIMESTAMPTZ: the microseconds of the bytes, and whether they are an infinity
 abbrev pub FormTimestampParts : List ℕ → Timestamp → Type 0
 FormTimestampParts b v = FormSigned w64 b v.microseconds × (v.infinity ≡ infinity_of w64 v.microseconds)
 
--- INTERVAL: the bytes spell the parts
+-- INTERVAL: the parts of the bytes
 abbrev pub FormIntervalParts : List ℕ → Interval → Type 0
 FormIntervalParts b v = SpellsInterval b v.microseconds v.days v.months

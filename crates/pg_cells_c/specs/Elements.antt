@@ -10,7 +10,7 @@ use Rattle.pg_cells_c.specs.declared.rewrite.elements.Frames.{Frames}
 use Rattle.pg_cells_c.specs.declared.rewrite.kinds.Kind.{Kind}
 use Rattle.pg_types.specs.Faults.{Outcome, Refusal, number_of, was_null}
 
--- a cell of these bytes, or NULL where its length is negative
+-- a cell of these bytes, or NULL if its length is negative
 abbrev pub cell_by : ℤ → List ℕ → Cell
 cell_by (pos n) x = Some x
 cell_by (negsuc n) x = None
@@ -19,7 +19,7 @@ cell_by (negsuc n) x = None
 abbrev pub cell_in : List ℕ → Cell
 cell_in s = cell_by (number_in s) (bytes_in s)
 
--- the fault, or else the outcome
+-- the fault, or if there is none the outcome
 abbrev pub unless : {A : Type 0} → Option Refusal → Outcome A → Outcome A
 unless None o = o
 unless (Some r) o = Err r
@@ -29,7 +29,7 @@ abbrev pub some_cell : Outcome (List ℕ) → Outcome Cell
 some_cell (Ok c) = Ok (Some c)
 some_cell (Err r) = Err r
 
--- what an element is rewritten to, in an array that may have NULL or not
+-- what an element is rewritten to; nullable is whether an element of the array may be NULL
 abbrev pub rewritten_cell : Kind → Bool → Cell → Outcome Cell
 rewritten_cell k nullable None = if nullable then Ok None else Err was_null
 rewritten_cell k nullable (Some b) = some_cell (rewritten k b)
@@ -51,34 +51,34 @@ rewritten_cells k nullable (suc n) s =
     unless (first_fault_of (cell_checks s))
     (cons_cell (rewritten_cell k nullable (cell_in s)) (rewritten_cells k nullable n (after_cell s)))
 
--- the bytes are at the front of the buffer, if there is room for them
+-- the bytes are at the front of the buffer if there is room for them
 abbrev pub FitsInto : List ℕ → List ℕ → List ℕ → Type 0
 FitsInto s old new = length s ≤ length old → new ≡ s ++ drop (length s) old
 
--- the frame of a cell was written where there is room for it, and the answer is how many bytes it has; or the answer is
--- the number of the fault
+-- the frame of a cell was written if there was room for it, and the result is its length; or the result is the number
+-- of the fault
 unfoldable pub WritesFrame : Outcome Cell → List ℕ → List ℕ → Result ℕ ℕ → Type 0
 WritesFrame (Ok d) old new (Ok n) = (s : List ℕ) × (frame d ≡ Some s) × (n ≡ length s) × FitsInto s old new
 WritesFrame (Ok d) old new (Err n) = ⊥
 WritesFrame (Err r) old new (Ok n) = ⊥
 WritesFrame (Err r) old new (Err n) = n ≡ number_of r
 
--- what is told of frames
+-- the frames of cells, and whether they were written
 pub record AreFrames (ds : List Cell) (old new : List ℕ) (f : Frames) : Type 0 where
   -- the bytes
   pub bytes : List ℕ
   -- they are the frames of the cells
   pub are : frames ds ≡ Some bytes
-  -- so many
+  -- their number
   pub count : f.count ≡ length ds
-  -- of so many bytes
+  -- their length
   pub len : f.len ≡ length bytes
-  -- and with a NULL or not
+  -- whether one of them is that of NULL
   pub null : f.has_null ≡ has_null ds
-  -- they were written where there is room for them
+  -- they were written if there was room for them
   pub fits : FitsInto bytes old new
 
--- the frames of cells were written where there is room for them; or the answer is the number of the first fault
+-- the frames of cells were written if there was room for them; or the result is the number of the first fault
 unfoldable pub WritesFrames : Outcome (List Cell) → List ℕ → List ℕ → Result Frames ℕ → Type 0
 WritesFrames (Ok ds) old new (Ok f) = AreFrames ds old new f
 WritesFrames (Ok ds) old new (Err n) = ⊥

@@ -2,11 +2,12 @@
 use Rattle.std.specs.Prelude.{ℕ, List, [], ◌∷◌, ◌++◌, codes, slice_index_or}
 use Rattle.pg_types.specs.FaultTexts.{was_null_text}
 
--- a text as C has it: a zero ends it
+-- a text as a C string: a zero byte ends it
 abbrev pub c_string : List ℕ → List ℕ
 c_string text = text ++ 0 ∷ []
 
--- the texts by their number, from 0, which is no fault; a text that tells more of a fault in Rust does not tell it here
+-- the texts by their numbers, from 0, which is no fault; details of a fault, which a text in Rust can have, are left
+-- out
 abbrev pub fault_texts : List (List ℕ)
 fault_texts =
     c_string (codes "no fault")
@@ -35,6 +36,6 @@ fault_texts =
     ∷ c_string (codes "unexpected field type")
     ∷ []
 
--- the text of a number, and a zero at its end
+-- the text of a number, with a zero byte at its end
 abbrev pub fault_text : ℕ → List ℕ
 fault_text number = slice_index_or fault_texts number (c_string (codes "unknown fault"))

@@ -1,4 +1,4 @@
--- How the code rewrites cells: by a few formats, which several types share.
+-- How the code rewrites cells: by a few formats, each of which several types have.
 use Rattle.std.specs.Prelude.{◌≡◌, ◌==◌, ℕ, List, [], ◌∷◌, ◌++◌, Option, Some, None, Result, Ok, Err, if◌then◌else◌, pos}
 use Rattle.std.specs.Prelude.{false, take, drop, slice_index}
 use Rattle.std.specs.Int.{w32}
@@ -44,12 +44,12 @@ kind_of_row row.Uuid = Some (kind.Fixed 16)
 kind_of_row row.PgLsn = Some (kind.Fixed 8)
 kind_of_row _ = None
 
--- the same, where there is a type
+-- the same, if there is a type
 abbrev pub kind_by_row : Option Row → Option Kind
 kind_by_row None = None
 kind_by_row (Some r) = kind_of_row r
 
--- the format of the cells of the type of an OID
+-- the format of the cells of the type with that OID
 abbrev pub kind_at : ℕ → Option Kind
 kind_at oid = kind_by_row (row_among rewritten_rows oid)
 
@@ -67,15 +67,15 @@ fault_of_kind kind.Cidr b = first_fault_cidr b
 abbrev pub without_flag : List ℕ → List ℕ
 without_flag b = take 2 b ++ 0 ∷ drop 3 b
 
--- how many bits a cell has
+-- the number of bits of a cell
 abbrev pub bit_count : List ℕ → ℕ
 bit_count b = count_or_zero (number_in b)
 
--- the cell of the same bits with a pad of zeros
+-- the cell of the same bits, with zeros for the padding bits
 abbrev pub with_zero_pad : List ℕ → List ℕ
 with_zero_pad b = be w32 (pos (bit_count b)) ++ packed (first_bits (bit_count b) (after_number b))
 
--- the new cell of a sound one
+-- the new cell of a cell that passes the checks
 abbrev pub bytes_of_kind : Kind → List ℕ → List ℕ
 bytes_of_kind kind.Bool b = (if slice_index b 0 == 0 then 0 else 1) ∷ []
 bytes_of_kind kind.Bytea b = b
@@ -85,7 +85,7 @@ bytes_of_kind kind.Bits b = with_zero_pad b
 bytes_of_kind kind.Inet b = without_flag b
 bytes_of_kind kind.Cidr b = without_flag b
 
--- bytes, or a fault where there is one
+-- the bytes, or the fault if there is one
 abbrev pub or_fault : Option Refusal → List ℕ → Outcome (List ℕ)
 or_fault None c = Ok c
 or_fault (Some r) c = Err r
@@ -94,8 +94,8 @@ or_fault (Some r) c = Err r
 abbrev pub rewritten : Kind → List ℕ → Outcome (List ℕ)
 rewritten k b = or_fault (fault_of_kind k b) (bytes_of_kind k b)
 
--- the bytes were written where there is room for them, and the answer is how many they are; or it is the number of the
--- fault, and the buffer is as it was
+-- the bytes were written if there was room for them, and the result is their number; or the result is the number of the
+-- fault, and the buffer is unchanged
 unfoldable pub WritesOutcome : Outcome (List ℕ) → List ℕ → List ℕ → Result ℕ ℕ → Type 0
 WritesOutcome (Ok c) old new (Ok n) = WritesInto c old new n
 WritesOutcome (Ok c) old new (Err n) = ⊥

@@ -1,4 +1,4 @@
--- What calls from C answer.
+-- Definitions of the functions for C.
 pub mod ArrayRewriting
 pub mod Arrays
 pub mod Builders

@@ -1,4 +1,4 @@
--- Walks over the items of a cell.
+-- Reading the items of a cell one after another.
 use Rattle.std.specs.Prelude.{◌≡◌, ℕ, ◌+◌, ◌-◌, ◌^◌, ◌≤◌, ◌==◌, List, ◌++◌, length, drop, if◌then◌else◌, Option, Some}
 use Rattle.std.specs.Prelude.{None}
 use Rattle.std.specs.Prelude.{Result, Ok, Err}
@@ -14,7 +14,7 @@ use Rattle.pg_cells_c.specs.declared.spans.Span.{Span}
 use Rattle.pg_cells_c.specs.declared.items.Element.{Element}
 use Rattle.pg_cells_c.specs.declared.items.Walk.{Walk}
 
--- what is to be read of a cell, from a place in it on
+-- what is left to read of a cell at a position
 abbrev pub to_read : List ℕ → Walk → ToRead
 to_read b walk = record { left = walk.left; bytes = drop walk.offset b }
 
@@ -22,41 +22,41 @@ to_read b walk = record { left = walk.left; bytes = drop walk.offset b }
 abbrev pub element_cell : List ℕ → Element → Cell
 element_cell b e = if e.is_null == 0 then Some (bytes_at b e.bytes) else None
 
--- a span lies within the cell
+-- a span is within the cell
 abbrev pub IsWithin : List ℕ → Span → Type 0
 IsWithin b span = span.offset + span.len ≤ length b
 
--- s spells an element, which lies within the cell
+-- s is an element, which is within the cell
 abbrev pub SpellsElement : List ℕ → List ℕ → Element → Type 0
 SpellsElement b s e = Spells s (element_cell b e) × IsWithin b e.bytes
 
--- an element by its bytes, which stand right before a place, or NULL
+-- the element whose bytes end right before an offset, or NULL
 abbrev pub element_of : ℕ → Option (Bor (List ℕ)) → Element
 element_of next None = record { is_null = 1; bytes = record { offset = next; len = 0 } }
 element_of next (Some x) =
     record { is_null = 0; bytes = record { offset = next - length x.now; len = length x.now } }
 
--- s begins with what spells an item, and what the cell b has from a place on comes after it
+-- s begins with an item, and the bytes of the cell b from an offset on follow it
 abbrev pub StartsItem : {A : Type 0} → (List ℕ → A → Type 0) → List ℕ → List ℕ → A × ℕ → Type 0
 StartsItem spells b s p = (t : List ℕ) × (s ≡ t ++ drop p.1 b) × spells t p.0
 
--- s spells an entry, whose key and value lie within the cell
+-- s is an entry, whose key and value are within the cell
 abbrev pub SpellsEntryAt : List ℕ → List ℕ → Entry → Type 0
 SpellsEntryAt b s e =
     SpellsEntry s (bytes_at b e.key, element_cell b e.value) × IsWithin b e.key
     × IsWithin b e.value.bytes
 
--- the answer where there is no further item
+-- the result if there are no more items
 abbrev pub no_item : ℕ
 no_item = 2 ^ 32 - 1
 
--- what a step answered is told: the item is stored, and the answer is 0; or it is the fault's number, or that there is
--- no item, and the variable is as it was
+-- the result of a step: the item is stored, and the result is 0; or the result is the number of the fault, or that
+-- there are no more items, and the variable is unchanged
 abbrev pub Tells : {A : Type 0} → Option (Result A Fault) → A → A → ℕ → Type 0
 Tells None old new code = (code ≡ no_item) × (new ≡ old)
 Tells (Some (Ok v)) old new code = (code ≡ 0) × (new ≡ v)
 Tells (Some (Err f)) old new code = (code ≡ code_of f) × (new ≡ old)
 
--- a step that R allows was taken, and what it answered is told
+-- a step that R allows was taken, with its result
 unfoldable pub StepsInto : {A : Type 0} → (Option (Result A Fault) → Type 0) → A → A → ℕ → Type 0
 StepsInto {A} R old new code = (answer : Option (Result A Fault)) × R answer × Tells answer old new code

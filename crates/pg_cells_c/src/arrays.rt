@@ -1,4 +1,4 @@
-//! Walks over the elements of an array.
+//! Reading the elements of an array one after another.
 ghost use Rattle.std.specs.Prelude.{◌≤◌, drop, length, take};
 ghost use Rattle.std.specs.Int.{w32};
 ghost use Rattle.pg_base.specs.Arrays.{head_checks};
@@ -16,7 +16,7 @@ use pg_base::protocol::array_from_sql;
 use pg_types::fault::Fault;
 use std::alloc::Global;
 
-/// An array: the walk over its elements, and the OID of their type.
+/// An array: the position before its first element, and the OID of its elements' type.
 #[derive(Clone, Copy)]
 #[repr(C)]
 pub struct Array {
@@ -24,7 +24,7 @@ pub struct Array {
     pub element_oid: u32,
 }
 
-/// The OID of the elements' type, which stands in the head after the number of dimensions and the
+/// Returns the OID of the elements' type. In the header it follows the number of dimensions and the
 /// flags.
 #[inline(always)]
 fn element_oid(cell: &[u8]) -> u32
@@ -34,14 +34,14 @@ fn element_oid(cell: &[u8]) -> u32
     u32::from_be_bytes([cell[8], cell[9], cell[10], cell[11]])
 }
 
-/// The array of a cell, of which the elements are still to be read.
+/// Reads the header of an array.
 #[inline(always)]
 fn array_in(alloc: Global, cell: &[u8]) -> Result<Array, Fault>
     ensures outcome { Answers (Decodes SpellsArray (λ b. first_fault_of (head_checks b)) cell.now) result }
     ensures never_memory { NeverMemory result }
 {
     let cells = array_from_sql(alloc, cell)?;
-    // The head of an array without a dimension is shorter by that dimension.
+    // The header of an array without a dimension is shorter by the fields of that dimension.
     let offset = if cell.starts_with(&[0; 4]) { 12 } else { 20 };
     Ok(Array {
         walk: Walk {
@@ -52,7 +52,8 @@ fn array_in(alloc: Global, cell: &[u8]) -> Result<Array, Fault>
     })
 }
 
-/// Reads the head of an array. For C the first parameter is none, since it has no bytes.
+/// Reads the header of an array (`array_recv`). `alloc` has no size, so that C passes no argument
+/// for it.
 #[unsafe(no_mangle)]
 #[tactic(auto, using(crate::proofs::ReadingSteps::reads_into))]
 pub extern "C" fn pgc_array_begin(alloc: Global, cell: &[u8], array: &mut Array) -> u32

@@ -1,8 +1,7 @@
-//! Lists of bits, which stay where they are in the cell.
+//! Bit strings. Their bytes are not copied: they are a part of the cell.
 #![tactic(auto, using(crate::proofs::ReadingSteps::reads_into))]
 
-ghost use Rattle.std.specs.Prelude.{◌≡◌};
-ghost use Rattle.pg_base.specs.Bits.{first_fault_bits, pad_of, without_low};
+ghost use Rattle.pg_base.specs.Bits.{first_fault_bits};
 ghost use Rattle.pg_base.specs.Formats.{Decodes};
 ghost use Rattle.pg_cells_c.specs.Readings.{ReadsInto};
 ghost use Rattle.pg_cells_c.specs.Spans.{FormBitsSpan};
@@ -12,10 +11,11 @@ ghost use Rattle.pg_types.specs.Faults.{Answers, NeverMemory};
 use crate::buffers::{NO_CELL, write, write_parts};
 use crate::spans::{Span, last_bytes};
 use crate::store::store;
-use pg_base::protocol::{MAX_LEN, varbit_from_sql};
+use pg_base::protocol::{MAX_LEN, varbit_from_sql, without_pad};
 use pg_types::fault::Fault;
 
-/// The bits of a cell: how many, and the bytes that have them, the first bit on top of the first.
+/// The bits of a cell: their number, and the bytes that have them. The first bit is the most
+/// significant one of the first byte.
 #[derive(Clone, Copy)]
 #[repr(C)]
 pub struct Bits {
@@ -23,7 +23,7 @@ pub struct Bits {
     pub bytes: Span,
 }
 
-/// Where the bits of a cell lie.
+/// Returns the number of the bits of a cell, and where their bytes are.
 fn bits_span(cell: &[u8]) -> Result<Bits, Fault>
     ensures outcome { Answers (Decodes FormBitsSpan first_fault_bits cell.now) result }
     ensures never_memory { NeverMemory result }
@@ -35,7 +35,7 @@ fn bits_span(cell: &[u8]) -> Result<Bits, Fault>
     })
 }
 
-/// Reads BIT and VARBIT.
+/// Reads BIT and VARBIT (`bit_recv`, `varbit_recv`).
 #[unsafe(no_mangle)]
 pub extern "C" fn pgc_varbit_read(cell: &[u8], bits: &mut Bits) -> u32
     ensures { ReadsInto (Decodes FormBitsSpan first_fault_bits cell.now) bits.old bits.new result }
@@ -43,16 +43,8 @@ pub extern "C" fn pgc_varbit_read(cell: &[u8], bits: &mut Bits) -> u32
     store(bits_span(cell), bits)
 }
 
-/// The last byte of `len` bits, with 0 for what pads it.
-fn without_pad(byte: u8, len: usize) -> u8
-    ensures { result ≡ without_low (pad_of len) byte }
-{
-    let pad = (8 - len % 8) % 8;
-    byte >> pad << pad
-}
-
-/// Writes BIT and VARBIT: the first bits of the bytes, of which there have to be as many as the
-/// bits take.
+/// Writes BIT and VARBIT (`bit_send`, `varbit_send`): the first `bit_len` bits of the bytes. There
+/// is no cell if there are not exactly as many bytes as the bits take.
 #[unsafe(no_mangle)]
 pub extern "C" fn pgc_varbit_write(bit_len: usize, bytes: &[u8], out: &mut [u8]) -> usize
     ensures { WritesCell (wire_first_bits bit_len bytes.now) out.old out.new result }

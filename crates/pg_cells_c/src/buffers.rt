@@ -2,11 +2,11 @@
 ghost use Rattle.std.specs.Prelude.{◌++◌, ◌+◌, ◌<◌, ◌^◌, length};
 ghost use Rattle.pg_cells_c.specs.Writings.{WritesInto};
 
-/// The answer where a value has no cell.
+/// The result for a value that has no cell.
 pub(crate) const NO_CELL: usize = usize::MAX;
 
-/// Writes the bytes to the front of the buffer where there is room for them, and answers how many
-/// they are.
+/// Returns the number of the bytes. If the buffer has room for all of them, writes them to its
+/// front.
 #[inline(always)]
 #[tactic(auto, using(crate::proofs::WritingSteps::written, crate::proofs::WritingSteps::not_written))]
 pub(crate) fn write(bytes: &[u8], out: &mut [u8]) -> usize
@@ -18,7 +18,7 @@ pub(crate) fn write(bytes: &[u8], out: &mut [u8]) -> usize
     bytes.len()
 }
 
-/// Writes three parts, one after another, as [`write`] writes bytes.
+/// Writes three parts, one after another, as [`write`] does.
 #[inline(always)]
 #[tactic(auto, using(crate::proofs::WritingSteps::parts_written, crate::proofs::WritingSteps::parts_not_written))]
 pub(crate) fn write_parts(first: &[u8], second: &[u8], third: &[u8], out: &mut [u8]) -> usize

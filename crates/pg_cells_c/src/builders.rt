@@ -1,7 +1,7 @@
-//! Builders: cells that are written part after part to the caller's buffer.
+//! Builders: a cell is written part after part to the caller's buffer.
 //!
-//! The buffer begins with room for the head of the cell, and the items follow it. The head is written
-//! last, when their number is known.
+//! The buffer begins with room for the header of the cell, and the items follow it. The header is
+//! written last, when the number of items is known.
 ghost use Rattle.std.specs.Prelude.{◌≡◌, ◌<◌, ◌≤◌, ◌+◌, ◌++◌, ◌^◌, Some, length};
 ghost use Rattle.pg_base.specs.Cells.{max_length};
 ghost use Rattle.pg_cells_c.specs.Builders.{Closes, Pushes, PushesWritten, goes_on, has_room, empty_builder};
@@ -15,20 +15,20 @@ mod records;
 use crate::buffers::{NO_CELL, write};
 use pg_base::protocol::MAX_LEN;
 
-/// How far a cell is built. It is plain data: a copy of it that is put back takes back the items that
-/// were pushed since.
+/// The state of a cell that is being built. It is plain data: to remove the items that were pushed
+/// since a copy was made, assign the copy.
 #[derive(Clone, Copy)]
 #[repr(C)]
 pub struct Builder {
-    /// How many bytes of the buffer the cell has so far, with the room for its head.
+    /// The length of the cell so far, in bytes, with the room for its header.
     pub len: usize,
-    /// How many items it has.
+    /// The number of items.
     pub count: usize,
-    /// 0 where no item is NULL.
+    /// 0 if no item is NULL, and 1 otherwise.
     pub has_null: u32,
 }
 
-/// A builder of no items, after room for a head of so many bytes.
+/// Returns a builder without items, after room for a header of `width` bytes.
 #[inline(always)]
 pub(crate) fn empty_builder(width: usize) -> Builder
     ensures { result ≡ empty_builder width }
@@ -40,7 +40,7 @@ pub(crate) fn empty_builder(width: usize) -> Builder
     }
 }
 
-/// Whether so many bytes from a place on lie within a buffer of that length.
+/// Whether `len` bytes from the offset `at` on are within a buffer of `room` bytes.
 #[inline(always)]
 fn has_room(at: usize, len: usize, room: usize) -> bool
     ensures { result ≡ has_room at len room }
@@ -48,7 +48,8 @@ fn has_room(at: usize, len: usize, room: usize) -> bool
     at <= room && len <= room - at
 }
 
-/// Writes four parts, one after another, from a place in the buffer on where there is room for them.
+/// If the buffer has room for all of four parts, writes them one after another from the offset `at`
+/// on.
 #[inline(always)]
 #[tactic(auto, using(crate::proofs::BuilderSteps::put, crate::proofs::BuilderSteps::not_put))]
 fn write_at(at: usize, first: &[u8], second: &[u8], third: &[u8], fourth: &[u8], out: &mut [u8])
@@ -68,7 +69,7 @@ fn write_at(at: usize, first: &[u8], second: &[u8], third: &[u8], fourth: &[u8],
     }
 }
 
-/// The builder goes on by an item of so many bytes where the buffer has room for it.
+/// If the buffer has room for an item of `len` bytes, counts it in the builder.
 #[inline(always)]
 fn go_on(builder: &mut Builder, len: usize, is_null: bool, room: usize)
     requires { builder.now.count < max_length }
@@ -83,7 +84,7 @@ fn go_on(builder: &mut Builder, len: usize, is_null: bool, room: usize)
     }
 }
 
-/// Pushes an item of these parts, one after another.
+/// Pushes an item: these parts, one after another. Returns the length of the item.
 #[inline(always)]
 #[tactic(auto, using(crate::proofs::PushSteps::pushed, crate::proofs::PushSteps::uncounted))]
 fn push_item(
@@ -108,7 +109,8 @@ fn push_item(
     len
 }
 
-/// Pushes an item of these parts and the cell of `len` bytes that stands after the place for them.
+/// Pushes an item: these parts, and then the cell of `len` bytes that the caller already wrote
+/// after the place for them. Returns the length of the item.
 #[inline(always)]
 fn push_written_item(
     builder: &mut Builder,
@@ -132,8 +134,8 @@ fn push_written_item(
     item_len
 }
 
-/// Writes the head of a cell that was built, and answers how many bytes the cell has. A builder that
-/// left no room for the head has no cell.
+/// Writes the header of a cell that was built and returns the length of the cell. A builder without
+/// room for the header has no cell.
 #[inline(always)]
 #[tactic(auto, using(crate::proofs::PushSteps::closed, crate::proofs::PushSteps::not_closed))]
 fn close(builder: &Builder, head: &[u8], out: &mut [u8]) -> usize

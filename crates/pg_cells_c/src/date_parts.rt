@@ -1,4 +1,5 @@
-//! The parts of dates, times of day and timestamps: days of the proleptic Gregorian calendar.
+//! The parts of dates, times of day and timestamps. Days are those of the proleptic Gregorian
+//! calendar.
 #![tactic(auto, using(crate::proofs::ReadingSteps::reads_into))]
 
 ghost use Rattle.std.specs.Prelude.{◌≡◌, ◌+ℤ◌, ◌-ℤ◌, ◌*ℤ◌, FitsSigned, MatchOption, ℤ};
@@ -15,10 +16,10 @@ use pg_base::epoch::{POSTGRES_EPOCH_DAY, POSTGRES_EPOCH_SECS};
 use pg_calendar::{Civil, Clock, DateTime};
 use pg_types::fault::Fault;
 
-/// How many microseconds a day has.
+/// The number of microseconds of a day.
 const DAY: i64 = 86_400_000_000;
 
-/// A day. The year before year 1 is 0, which PostgreSQL writes as 1 BC.
+/// A day. The year 0 is the one before year 1: PostgreSQL writes it as 1 BC.
 #[derive(Clone, Copy)]
 #[repr(C)]
 pub struct DateParts {
@@ -47,7 +48,7 @@ pub struct TimestampParts {
     pub time: TimeParts,
 }
 
-/// The day that many days after 2000-01-01; of an infinity there is none.
+/// Returns the day that is `days` days after 2000-01-01. An infinity is refused.
 #[inline(always)]
 fn date_parts(days: i32) -> Result<DateParts, Fault>
     ensures outcome { Answers (GivesParts (IsFinite w32) IsDate days) result }
@@ -62,7 +63,8 @@ fn date_parts(days: i32) -> Result<DateParts, Fault>
     Ok(DateParts { year, month, day })
 }
 
-/// The time of day that many microseconds after midnight, from 00:00:00 to 24:00:00.
+/// Returns the time of day that is `microseconds` microseconds after midnight. Times are from
+/// 00:00:00 to 24:00:00, both included; others are refused.
 #[inline(always)]
 fn time_parts(microseconds: i64) -> Result<TimeParts, Fault>
     ensures outcome { Answers (GivesParts IsOfDay IsTime microseconds) result }
@@ -81,7 +83,8 @@ fn time_parts(microseconds: i64) -> Result<TimeParts, Fault>
     })
 }
 
-/// The day and the time of day that many microseconds after 2000-01-01 00:00:00.
+/// Returns the day and the time of day that are `microseconds` microseconds after 2000-01-01
+/// 00:00:00.
 #[inline(always)]
 fn finite_parts(microseconds: i64) -> TimestampParts
     ensures { IsTimestampOf result microseconds }
@@ -101,8 +104,8 @@ fn finite_parts(microseconds: i64) -> TimestampParts
     }
 }
 
-/// The day and the time of day that many microseconds after 2000-01-01 00:00:00; of an infinity there
-/// are none.
+/// Returns the day and the time of day that are `microseconds` microseconds after 2000-01-01
+/// 00:00:00. An infinity is refused.
 #[inline(always)]
 fn timestamp_parts(microseconds: i64) -> Result<TimestampParts, Fault>
     ensures outcome { Answers (GivesParts (IsFinite w64) IsTimestampOf microseconds) result }
@@ -114,7 +117,7 @@ fn timestamp_parts(microseconds: i64) -> Result<TimestampParts, Fault>
     Ok(finite_parts(microseconds))
 }
 
-/// Reads the parts of a DATE.
+/// Splits a DATE into its parts.
 #[unsafe(no_mangle)]
 pub extern "C" fn pgc_date_parts(days: i32, parts: &mut DateParts) -> u32
     ensures { ReadsInto (GivesParts (IsFinite w32) IsDate days) parts.old parts.new result }
@@ -122,7 +125,7 @@ pub extern "C" fn pgc_date_parts(days: i32, parts: &mut DateParts) -> u32
     store(date_parts(days), parts)
 }
 
-/// Reads the parts of a TIME.
+/// Splits a TIME into its parts.
 #[unsafe(no_mangle)]
 pub extern "C" fn pgc_time_parts(microseconds: i64, parts: &mut TimeParts) -> u32
     ensures { ReadsInto (GivesParts IsOfDay IsTime microseconds) parts.old parts.new result }
@@ -130,7 +133,7 @@ pub extern "C" fn pgc_time_parts(microseconds: i64, parts: &mut TimeParts) -> u3
     store(time_parts(microseconds), parts)
 }
 
-/// Reads the parts of a TIMESTAMP or TIMESTAMPTZ.
+/// Splits a TIMESTAMP or TIMESTAMPTZ into its parts.
 #[unsafe(no_mangle)]
 pub extern "C" fn pgc_timestamp_parts(microseconds: i64, parts: &mut TimestampParts) -> u32
     ensures { ReadsInto (GivesParts (IsFinite w64) IsTimestampOf microseconds) parts.old parts.new result }
@@ -138,8 +141,8 @@ pub extern "C" fn pgc_timestamp_parts(microseconds: i64, parts: &mut TimestampPa
     store(timestamp_parts(microseconds), parts)
 }
 
-/// How many days after 1970-01-01 the day is; `None` where there is none, or the number leaves 64
-/// bits.
+/// Returns the number of days from 1970-01-01 to the day. It is `None` if there is no such day, or
+/// the number does not fit in an `i64`.
 #[inline(always)]
 fn day_of(date: &DateParts) -> Option<i64>
     ensures { MatchOption result (IsDay date.now.year date.now.month date.now.day
@@ -151,8 +154,8 @@ fn day_of(date: &DateParts) -> Option<i64>
     Civil { year, month, day }.to_day()
 }
 
-/// The days from 2000-01-01 to a day, which is told in days from 1970-01-01; `None` where they leave 32
-/// bits.
+/// Returns the number of days from 2000-01-01 to a day, which is given as days from 1970-01-01. It
+/// is `None` if the number does not fit in an `i32`.
 #[inline(always)]
 fn days_from_epoch(day: i64) -> Option<i32>
     ensures { MatchOption result (¬ (FitsSigned w32 (day -ℤ base_day))) (λ n. n ≡ day -ℤ base_day) }
@@ -160,7 +163,7 @@ fn days_from_epoch(day: i64) -> Option<i32>
     i32::try_from(i128::from(day) - i128::from(POSTGRES_EPOCH_DAY)).ok()
 }
 
-/// The same; `None` where they are no finite DATE.
+/// Returns the same number, or `None` if it is not that of a finite DATE.
 #[inline(always)]
 fn finite_days(day: i64) -> Option<i32>
     ensures { MatchOption result ((z : ℤ) → IsFinite w32 z → z ≡ day -ℤ base_day → ⊥)
@@ -173,7 +176,7 @@ fn finite_days(day: i64) -> Option<i32>
     Some(days)
 }
 
-/// How many days after 2000-01-01 the day is.
+/// Returns the number of days from 2000-01-01 to the day.
 #[inline(always)]
 fn days_of(date: &DateParts) -> Result<i32, Fault>
     ensures outcome { Answers (GivesNumber (IsFinite w32) IsDate date.now) result }
@@ -188,7 +191,7 @@ fn days_of(date: &DateParts) -> Result<i32, Fault>
     }
 }
 
-/// Finds the DATE of a day.
+/// Makes the DATE of a day.
 #[unsafe(no_mangle)]
 pub extern "C" fn pgc_date_of_parts(parts: &DateParts, days: &mut i32) -> u32
     ensures { ReadsInto (GivesNumber (IsFinite w32) IsDate parts.now) days.old days.new result }
@@ -196,7 +199,8 @@ pub extern "C" fn pgc_date_of_parts(parts: &DateParts, days: &mut i32) -> u32
     store(days_of(parts), days)
 }
 
-/// How many microseconds after midnight the time of day is; `None` where there is no such time.
+/// Returns the number of microseconds from midnight to the time of day, or `None` if there is no
+/// such time.
 #[inline(always)]
 fn micros_of(time: &TimeParts) -> Option<i64>
     ensures { MatchOption result ((z : ℤ) → IsOfDay z → IsTime time.now z → ⊥)
@@ -219,7 +223,7 @@ fn micros_of(time: &TimeParts) -> Option<i64>
     Some(micros)
 }
 
-/// How many microseconds after midnight the time of day is.
+/// Returns the number of microseconds from midnight to the time of day.
 #[inline(always)]
 fn time_micros(time: &TimeParts) -> Result<i64, Fault>
     ensures outcome { Answers (GivesNumber IsOfDay IsTime time.now) result }
@@ -231,7 +235,7 @@ fn time_micros(time: &TimeParts) -> Result<i64, Fault>
     }
 }
 
-/// Finds the TIME of a time of day.
+/// Makes the TIME of a time of day.
 #[unsafe(no_mangle)]
 pub extern "C" fn pgc_time_of_parts(parts: &TimeParts, microseconds: &mut i64) -> u32
     ensures { ReadsInto (GivesNumber IsOfDay IsTime parts.now) microseconds.old microseconds.new result }
@@ -239,8 +243,9 @@ pub extern "C" fn pgc_time_of_parts(parts: &TimeParts, microseconds: &mut i64) -
     store(time_micros(parts), microseconds)
 }
 
-/// The microseconds from 2000-01-01 00:00:00 to so many after midnight of a day, which is told in days
-/// from 1970-01-01; `None` where they leave 64 bits.
+/// Returns the number of microseconds from 2000-01-01 00:00:00 to `time` microseconds after
+/// midnight of a day, which is given as days from 1970-01-01. It is `None` if the number does not
+/// fit in an `i64`.
 #[inline(always)]
 fn micros_from_epoch(day: i64, time: i64) -> Option<i64>
     ensures { MatchOption result (¬ (FitsSigned w64 ((day -ℤ base_day) *ℤ micros_per_day +ℤ time)))
@@ -250,7 +255,7 @@ fn micros_from_epoch(day: i64, time: i64) -> Option<i64>
     i64::try_from(days * 86_400_000_000 + i128::from(time)).ok()
 }
 
-/// The same; `None` where they are no finite TIMESTAMP.
+/// Returns the same number, or `None` if it is not that of a finite TIMESTAMP.
 #[inline(always)]
 fn finite_micros(day: i64, time: i64) -> Option<i64>
     ensures { MatchOption result
@@ -264,7 +269,7 @@ fn finite_micros(day: i64, time: i64) -> Option<i64>
     Some(micros)
 }
 
-/// How many microseconds after 2000-01-01 00:00:00 the timestamp is.
+/// Returns the number of microseconds from 2000-01-01 00:00:00 to the timestamp.
 #[inline(always)]
 fn timestamp_micros(parts: &TimestampParts) -> Result<i64, Fault>
     ensures outcome { Answers (GivesNumber (IsFinite w64) IsTimestampOf parts.now) result }
@@ -276,7 +281,7 @@ fn timestamp_micros(parts: &TimestampParts) -> Result<i64, Fault>
     let Some(time) = micros_of(&parts.time) else {
         return Err(Fault::Transmit);
     };
-    // Where it is 24:00:00 the next day has begun.
+    // At 24:00:00 the next day begins.
     if time == DAY {
         return Err(Fault::Transmit);
     }
@@ -286,7 +291,7 @@ fn timestamp_micros(parts: &TimestampParts) -> Result<i64, Fault>
     }
 }
 
-/// Finds the TIMESTAMP or TIMESTAMPTZ of a day and a time of day.
+/// Makes the TIMESTAMP or TIMESTAMPTZ of a day and a time of day.
 #[unsafe(no_mangle)]
 pub extern "C" fn pgc_timestamp_of_parts(parts: &TimestampParts, microseconds: &mut i64) -> u32
     ensures { ReadsInto (GivesNumber (IsFinite w64) IsTimestampOf parts.now)

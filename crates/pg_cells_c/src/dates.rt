@@ -17,8 +17,8 @@ use crate::store::store;
 use pg_base::protocol::{date_from_sql, interval_from_sql, time_from_sql, timestamp_from_sql};
 use pg_types::fault::Fault;
 
-/// A date: its days from 2000-01-01, and which infinity they stand for: 1 for `infinity`, -1 for
-/// `-infinity`, and else 0.
+/// A date: its days from 2000-01-01, and whether they are an infinity: 1 for `infinity`, -1 for
+/// `-infinity`, and 0 for any other date.
 #[derive(Clone, Copy)]
 #[repr(C)]
 pub struct Date {
@@ -26,7 +26,7 @@ pub struct Date {
     pub infinity: i32,
 }
 
-/// A timestamp: its microseconds from 2000-01-01 00:00:00, and which infinity they stand for, as in
+/// A timestamp: its microseconds from 2000-01-01 00:00:00, and whether they are an infinity, as in
 /// [`Date`].
 #[derive(Clone, Copy)]
 #[repr(C)]
@@ -44,7 +44,7 @@ pub struct Interval {
     pub months: i32,
 }
 
-/// The date of these days.
+/// Returns the date of these days.
 fn date_of(days: i32) -> Date
     ensures days { result.days ≡ days }
     ensures infinity { result.infinity ≡ infinity_of w32 days }
@@ -57,7 +57,7 @@ fn date_of(days: i32) -> Date
     Date { days, infinity }
 }
 
-/// The timestamp of these microseconds.
+/// Returns the timestamp of these microseconds.
 fn timestamp_of(microseconds: i64) -> Timestamp
     ensures microseconds { result.microseconds ≡ microseconds }
     ensures infinity { result.infinity ≡ infinity_of w64 microseconds }
@@ -73,7 +73,7 @@ fn timestamp_of(microseconds: i64) -> Timestamp
     }
 }
 
-/// The date of a cell.
+/// Reads the date of a cell.
 fn date_in(cell: &[u8]) -> Result<Date, Fault>
     ensures outcome { Answers (Decodes FormDateParts (first_fault_number 4) cell.now) result }
     ensures never_memory { NeverMemory result }
@@ -81,7 +81,7 @@ fn date_in(cell: &[u8]) -> Result<Date, Fault>
     Ok(date_of(date_from_sql(cell)?))
 }
 
-/// The timestamp of a cell.
+/// Reads the timestamp of a cell.
 fn timestamp_in(cell: &[u8]) -> Result<Timestamp, Fault>
     ensures outcome { Answers (Decodes FormTimestampParts (first_fault_number 8) cell.now) result }
     ensures never_memory { NeverMemory result }
@@ -89,7 +89,7 @@ fn timestamp_in(cell: &[u8]) -> Result<Timestamp, Fault>
     Ok(timestamp_of(timestamp_from_sql(cell)?))
 }
 
-/// The parts of an interval's cell.
+/// Reads the parts of an interval.
 fn interval_in(cell: &[u8]) -> Result<Interval, Fault>
     ensures outcome { Answers (Decodes FormIntervalParts (first_fault_number interval_width) cell.now) result }
     ensures never_memory { NeverMemory result }
@@ -102,7 +102,7 @@ fn interval_in(cell: &[u8]) -> Result<Interval, Fault>
     })
 }
 
-/// Reads DATE.
+/// Reads DATE (`date_recv`).
 #[unsafe(no_mangle)]
 pub extern "C" fn pgc_date_read(cell: &[u8], date: &mut Date) -> u32
     ensures { ReadsInto (Decodes FormDateParts (first_fault_number 4) cell.now) date.old date.new result }
@@ -110,7 +110,7 @@ pub extern "C" fn pgc_date_read(cell: &[u8], date: &mut Date) -> u32
     store(date_in(cell), date)
 }
 
-/// Writes DATE: the days from 2000-01-01.
+/// Writes DATE (`date_send`): the days from 2000-01-01.
 #[unsafe(no_mangle)]
 pub extern "C" fn pgc_date_write(days: i32, out: &mut [u8]) -> usize
     ensures { WritesInto (be w32 days) out.old out.new result }
@@ -118,7 +118,7 @@ pub extern "C" fn pgc_date_write(days: i32, out: &mut [u8]) -> usize
     write(&days.to_be_bytes(), out)
 }
 
-/// Reads TIME: the microseconds from midnight.
+/// Reads TIME (`time_recv`): the microseconds from midnight.
 #[unsafe(no_mangle)]
 pub extern "C" fn pgc_time_read(cell: &[u8], microseconds: &mut i64) -> u32
     ensures { ReadsInto (Decodes (FormSigned w64) (first_fault_number 8) cell.now)
@@ -127,7 +127,7 @@ pub extern "C" fn pgc_time_read(cell: &[u8], microseconds: &mut i64) -> u32
     store(time_from_sql(cell), microseconds)
 }
 
-/// Writes TIME: the microseconds from midnight.
+/// Writes TIME (`time_send`): the microseconds from midnight.
 #[unsafe(no_mangle)]
 pub extern "C" fn pgc_time_write(microseconds: i64, out: &mut [u8]) -> usize
     ensures { WritesInto (be w64 microseconds) out.old out.new result }
@@ -135,7 +135,7 @@ pub extern "C" fn pgc_time_write(microseconds: i64, out: &mut [u8]) -> usize
     write(&microseconds.to_be_bytes(), out)
 }
 
-/// Reads TIMESTAMP and TIMESTAMPTZ.
+/// Reads TIMESTAMP and TIMESTAMPTZ (`timestamp_recv`, `timestamptz_recv`).
 #[unsafe(no_mangle)]
 pub extern "C" fn pgc_timestamp_read(cell: &[u8], timestamp: &mut Timestamp) -> u32
     ensures { ReadsInto (Decodes FormTimestampParts (first_fault_number 8) cell.now)
@@ -144,7 +144,8 @@ pub extern "C" fn pgc_timestamp_read(cell: &[u8], timestamp: &mut Timestamp) -> 
     store(timestamp_in(cell), timestamp)
 }
 
-/// Writes TIMESTAMP and TIMESTAMPTZ: the microseconds from 2000-01-01 00:00:00.
+/// Writes TIMESTAMP and TIMESTAMPTZ (`timestamp_send`, `timestamptz_send`): the microseconds from
+/// 2000-01-01 00:00:00.
 #[unsafe(no_mangle)]
 pub extern "C" fn pgc_timestamp_write(microseconds: i64, out: &mut [u8]) -> usize
     ensures { WritesInto (be w64 microseconds) out.old out.new result }
@@ -152,7 +153,7 @@ pub extern "C" fn pgc_timestamp_write(microseconds: i64, out: &mut [u8]) -> usiz
     write(&microseconds.to_be_bytes(), out)
 }
 
-/// Reads INTERVAL.
+/// Reads INTERVAL (`interval_recv`).
 #[unsafe(no_mangle)]
 pub extern "C" fn pgc_interval_read(cell: &[u8], interval: &mut Interval) -> u32
     ensures { ReadsInto (Decodes FormIntervalParts (first_fault_number interval_width) cell.now)
@@ -161,7 +162,7 @@ pub extern "C" fn pgc_interval_read(cell: &[u8], interval: &mut Interval) -> u32
     store(interval_in(cell), interval)
 }
 
-/// Writes INTERVAL.
+/// Writes INTERVAL (`interval_send`).
 #[unsafe(no_mangle)]
 pub extern "C" fn pgc_interval_write(
     microseconds: i64,

@@ -5,7 +5,7 @@ ghost use Rattle.pg_cells_c.specs.Writings.{WritesInto};
 
 use crate::buffers::write;
 
-/// The text of the fault of that number, and a zero at its end.
+/// Returns the text of the fault with that number, with a zero byte at its end.
 fn text_of(fault: u32) -> &'static str
     ensures { result.now ≡ fault_text fault }
 {
@@ -38,7 +38,7 @@ fn text_of(fault: u32) -> &'static str
     }
 }
 
-/// Writes the text of a fault, and a zero at its end.
+/// Writes the text of a fault, with a zero byte at its end.
 #[unsafe(no_mangle)]
 pub extern "C" fn pgc_fault_text(fault: u32, out: &mut [u8]) -> usize
     ensures { WritesInto (fault_text fault) out.old out.new result }

@@ -1,19 +1,19 @@
-//! Prefixes of 4 bytes, the cells after lengths, and frames.
+//! Length prefixes of 4 bytes, the cells that follow them, and frames: a prefix and its cell.
 ghost use Rattle.std.specs.Prelude.{◌≡◌, ◌∷◌, [], Some, drop, negsuc};
 ghost use Rattle.std.specs.Int.{w32};
 ghost use Rattle.pg_base.specs.Appending.{wire_of};
-ghost use Rattle.pg_base.specs.Cells.{IsBe, IsBeUnsigned, Spells, be, cell_of, frame};
-ghost use Rattle.pg_base.specs.Counts.{StartsWith, cell_checks, has_number};
+ghost use Rattle.pg_base.specs.Cells.{IsBeUnsigned, be, cell_of, frame};
+ghost use Rattle.pg_base.specs.Counts.{StartsWith, has_number};
 ghost use Rattle.pg_base.specs.Formats.{Decodes, first_fault_of};
 ghost use Rattle.pg_base.specs.Hstore.{SpellsText, value_checks};
 ghost use Rattle.pg_cells_c.specs.Writings.{WritesCell, WritesInto};
 ghost use Rattle.pg_types.specs.Faults.{Answers, NeverMemory, size};
 
 use crate::buffers::{NO_CELL, write, write_parts};
-use pg_base::protocol::{MAX_LEN, int4_from_sql, oid_from_sql};
+use pg_base::protocol::{MAX_LEN, oid_from_sql, split_cell};
 use pg_types::fault::Fault;
 
-/// The bytes from a place in a cell on.
+/// Returns the bytes of a cell from an offset on.
 #[inline(always)]
 pub(crate) fn bytes_from(cell: &[u8], offset: usize) -> &[u8]
     ensures { result.now ≡ drop offset cell.now }
@@ -21,21 +21,7 @@ pub(crate) fn bytes_from(cell: &[u8], offset: usize) -> &[u8]
     cell.get(offset..).unwrap_or(&[])
 }
 
-/// The prefix, and the bytes after it.
-#[inline(always)]
-pub(crate) fn split_number(bytes: &[u8]) -> Result<(i32, &[u8]), Fault>
-    ensures outcome { Answers (Decodes (StartsWith (IsBe w32))
-        (λ s. first_fault_of ((has_number s, size) ∷ [])) bytes.now) result }
-    ensures never_memory { NeverMemory result }
-{
-    if bytes.len() < 4 {
-        return Err(Fault::Size);
-    }
-    let (head, bytes) = bytes.split_at(4);
-    Ok((int4_from_sql(head)?, bytes))
-}
-
-/// The OID at the front of a record's field, and the bytes after it.
+/// Returns the OID at the front of a field of a record, and the bytes after it.
 #[inline(always)]
 pub(crate) fn split_oid(field: &[u8]) -> Result<(u32, &[u8]), Fault>
     ensures outcome { Answers (Decodes (StartsWith (IsBeUnsigned w32))
@@ -49,26 +35,7 @@ pub(crate) fn split_oid(field: &[u8]) -> Result<(u32, &[u8]), Fault>
     Ok((oid_from_sql(oid)?, rest))
 }
 
-/// The first cell, of which every negative length is NULL, and the bytes after its frame.
-#[inline(always)]
-pub(crate) fn split_cell(bytes: &[u8]) -> Result<(Option<&[u8]>, &[u8]), Fault>
-    ensures outcome { Answers (Decodes (StartsWith (λ s cell. Spells s (cell_of cell)))
-        (λ s. first_fault_of (cell_checks s)) bytes.now) result }
-    ensures never_memory { NeverMemory result }
-{
-    let (len, bytes) = split_number(bytes)?;
-    if len < 0 {
-        return Ok((None, bytes));
-    }
-    let len = len as usize;
-    if bytes.len() < len {
-        return Err(Fault::Size);
-    }
-    let (cell, bytes) = bytes.split_at(len);
-    Ok((Some(cell), bytes))
-}
-
-/// The first text, of which every negative length is NULL, and the bytes after it.
+/// Returns the first text, and the bytes after it. Any negative length is NULL.
 #[inline(always)]
 #[tactic(auto, using(pg_base::proofs::TextLemmas::text_refused))]
 pub(crate) fn split_text(bytes: &[u8]) -> Result<(Option<&[u8]>, &[u8]), Fault>
@@ -86,7 +53,8 @@ pub(crate) fn split_text(bytes: &[u8]) -> Result<(Option<&[u8]>, &[u8]), Fault>
     }
 }
 
-/// Writes the frame of a cell. A cell of more than 2,147,483,647 bytes has none.
+/// Writes the frame of a cell: its length and the cell. A cell of more than 2,147,483,647 bytes has
+/// no frame.
 #[unsafe(no_mangle)]
 pub extern "C" fn pgc_frame_write(cell: &[u8], out: &mut [u8]) -> usize
     ensures { WritesCell (wire_of (frame (Some cell.now))) out.old out.new result }

@@ -1,4 +1,4 @@
-//! Walks over the entries of an hstore.
+//! Reading the entries of an hstore one after another.
 ghost use Rattle.std.specs.Prelude.{drop};
 ghost use Rattle.pg_base.specs.Counts.{TakesNext, count_checks};
 ghost use Rattle.pg_base.specs.Formats.{Decodes, first_fault_of};
@@ -12,7 +12,7 @@ use crate::spans::Span;
 use crate::store::store;
 use pg_types::fault::Fault;
 
-/// An entry: a key, and its value or NULL.
+/// An entry: a key, and its value, which may be NULL.
 #[derive(Clone, Copy)]
 #[repr(C)]
 pub struct Entry {
@@ -39,7 +39,7 @@ impl Item for Entry {
     }
 }
 
-/// Reads the count of an hstore.
+/// Reads the number of entries of an hstore (`hstore_recv`).
 #[unsafe(no_mangle)]
 #[tactic(auto, using(crate::proofs::ReadingSteps::reads_into))]
 pub extern "C" fn pgc_hstore_begin(cell: &[u8], walk: &mut Walk) -> u32

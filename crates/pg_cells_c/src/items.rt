@@ -1,4 +1,4 @@
-//! Walks over what a cell has many of.
+//! Reading the items of a cell one after another.
 ghost use Rattle.std.specs.Prelude.{◌≡◌, ◌≤◌, IfSome, List, drop, length, ℕ};
 ghost use Rattle.pg_base.specs.Counts.{TakesNext, cell_checks, count_checks};
 ghost use Rattle.pg_base.specs.Formats.{Checks, Decodes, first_fault_of};
@@ -6,15 +6,16 @@ ghost use Rattle.pg_base.specs.Hstore.{SpellsCount};
 ghost use Rattle.pg_cells_c.specs.Walks.{SpellsElement, StartsItem, StepsInto, Tells, element_of, to_read};
 ghost use Rattle.pg_types.specs.Faults.{Answers, NeverMemory};
 
-use crate::frames::{bytes_from, split_cell, split_number};
+use crate::frames::bytes_from;
 use crate::spans::Span;
 use crate::store::store;
+use pg_base::protocol::{split_cell, split_number};
 use pg_types::fault::Fault;
 
-/// The answer where there is no further item.
+/// The result if there are no more items.
 const NO_ITEM: u32 = u32::MAX;
 
-/// Where a walk is: how many items are still to come, and where the next one begins.
+/// The position among the items: how many are left, and the offset of the next one.
 #[derive(Clone, Copy)]
 #[repr(C)]
 pub struct Walk {
@@ -22,7 +23,7 @@ pub struct Walk {
     pub offset: usize,
 }
 
-/// An element: a part of the cell, or NULL where `is_null` is not 0.
+/// An element: a part of the cell, or NULL if `is_null` is not 0.
 #[derive(Clone, Copy)]
 #[repr(C)]
 pub struct Element {
@@ -30,22 +31,22 @@ pub struct Element {
     pub bytes: Span,
 }
 
-/// What a walk goes over.
+/// An item of a cell that has many.
 pub(crate) trait Item: Copy {
-    /// The bytes spell the item, of that cell.
+    /// The bytes are those of the item in the cell.
     ghost spells: { List ℕ → List ℕ → Self → Type 0 };
 
     /// The checks of the first item.
     ghost checks: { List ℕ → Checks };
 
-    /// The item that begins at a place in the cell, and where the next one does.
+    /// Reads the item at an offset in the cell, and returns it with the offset of the next one.
     fn at(cell: &[u8], offset: usize) -> Result<(Self, usize), Fault>
         ensures outcome { Answers (Decodes (StartsItem (spells cell.now) cell.now)
             (λ s. first_fault_of (checks s)) (drop offset cell.now)) result }
         ensures never_memory { NeverMemory result };
 }
 
-/// The element whose bytes stand right before a place, or NULL.
+/// Returns the element whose bytes end right before an offset, or NULL.
 #[inline(always)]
 pub(crate) fn element_before(bytes: Option<&[u8]>, next: usize) -> Element
     requires { IfSome bytes (λ it. length it.now ≤ next) }
@@ -83,8 +84,9 @@ impl Item for Element {
     }
 }
 
-/// The next item, or the fault of the first check that it fails. Where bytes are left after the
-/// last item it is `Size`. After a fault, and after the last item, there is none, for good.
+/// Reads the next item. It is refused with the fault of the first check that it fails. Bytes that
+/// follow the last item are refused with `Size`. After a fault, and after the last item, every
+/// further call returns `None`.
 #[inline(always)]
 fn next_item<T: Item>(cell: &[u8], walk: &mut Walk) -> Option<Result<T, Fault>>
     ensures { TakesNext (T.spells cell.now) T.checks (to_read cell.now walk.old) result (to_read cell.now walk.new) }
@@ -111,7 +113,7 @@ fn next_item<T: Item>(cell: &[u8], walk: &mut Walk) -> Option<Result<T, Fault>>
     }
 }
 
-/// Where the items after a count begin, and how many there are.
+/// Returns the position of the first item after a number of items.
 #[inline(always)]
 pub(crate) fn count_in(cell: &[u8]) -> Result<Walk, Fault>
     ensures outcome { Answers (Decodes (λ b walk. SpellsCount b (to_read b walk))
@@ -128,8 +130,7 @@ pub(crate) fn count_in(cell: &[u8]) -> Result<Walk, Fault>
     })
 }
 
-/// Stores the item that was read and answers 0, or answers the fault's number, or that there is no
-/// item.
+/// Stores the item that was read and returns 0, or returns the number of the fault, or [`NO_ITEM`].
 #[inline(always)]
 fn tell<T: Copy>(read: Option<Result<T, Fault>>, item: &mut T) -> u32
     ensures { Tells read item.old item.new result }
@@ -140,7 +141,8 @@ fn tell<T: Copy>(read: Option<Result<T, Fault>>, item: &mut T) -> u32
     }
 }
 
-/// Reads the next item into a variable, and answers 0, the fault's number, or that there is no item.
+/// Reads the next item into a variable and returns 0, or returns the number of the fault, or
+/// [`NO_ITEM`].
 #[inline(always)]
 pub(crate) fn step<T: Item>(cell: &[u8], walk: &mut Walk, item: &mut T) -> u32
     ensures { StepsInto (λ answer. TakesNext (T.spells cell.now) T.checks (to_read cell.now walk.old) answer

@@ -1,13 +1,13 @@
-//! PostgreSQL's binary cells for C: `include/pg_cells.h` declares what is exported here, and says
-//! what each call does.
+//! PostgreSQL's binary cells for C. `include/pg_cells.h` declares the functions that are exported
+//! here and describes each of them.
 //!
-//! A reader answers 0 and stores the value that the cell spells; or it answers the number of the
-//! fault of the first check that the cell fails, and stores nothing. A writer answers how many bytes
-//! the cell has, and writes them to the caller's buffer where there is room for them. A walk stores
-//! one item after another, by their places in the cell. No call allocates.
+//! A reader stores the value of the cell and returns 0; or it returns the number of the fault of
+//! the first check that the cell fails, and stores nothing. A writer returns the length of the
+//! cell, and writes it to the caller's buffer if there is room for all of it. The items of a cell
+//! are read one after another, as offsets and lengths in the cell. No function allocates.
 //!
-//! The library is to be linked without an allocator. So no call of it may have the code left that
-//! drops any [`Fault`](pg_types::fault::Fault), and what answers one is inlined.
+//! The library can be linked without an allocator. So no function may contain the code that drops a
+//! [`Fault`](pg_types::fault::Fault), and every function that returns one is inlined.
 #![tactic(auto)]
 
 mod arrays;

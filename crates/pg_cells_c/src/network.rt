@@ -19,14 +19,14 @@ use pg_base::protocol::inet_from_sql;
 use pg_types::fault::Fault;
 use std::net::{IpAddr, Ipv4Addr, Ipv6Addr};
 
-/// The number of the family of IPv4 addresses.
+/// The address family of IPv4.
 const IPV4: u8 = 2;
 
-/// The number of the family of IPv6 addresses.
+/// The address family of IPv6.
 const IPV6: u8 = 3;
 
-/// An address and the length of its netmask. An address of IPv4 has the first 4 octets, and zeros
-/// come after them.
+/// An address and the length of its netmask. An IPv4 address is in the first 4 octets; the others
+/// are 0.
 #[derive(Clone, Copy)]
 #[repr(C)]
 pub struct Inet {
@@ -35,7 +35,7 @@ pub struct Inet {
     pub octets: [u8; 16],
 }
 
-/// The address with a netmask of that length.
+/// Returns the address with a netmask of that length.
 fn inet_of(addr: IpAddr, netmask: u8) -> Inet
     ensures { IsNetwork result (with_netmask addr netmask) }
 {
@@ -56,7 +56,7 @@ fn inet_of(addr: IpAddr, netmask: u8) -> Inet
     }
 }
 
-/// The address of a cell, with its netmask.
+/// Reads the address of a cell, with its netmask.
 fn inet_in(cell: &[u8]) -> Result<Inet, Fault>
     ensures outcome { Answers (Decodes FormInetParts first_fault_inet cell.now) result }
     ensures never_memory { NeverMemory result }
@@ -65,7 +65,7 @@ fn inet_in(cell: &[u8]) -> Result<Inet, Fault>
     Ok(inet_of(inet.addr(), inet.netmask()))
 }
 
-/// The network of a cell.
+/// Reads the network of a cell.
 fn cidr_in(cell: &[u8]) -> Result<Inet, Fault>
     ensures outcome { Answers (Decodes FormCidrParts first_fault_cidr cell.now) result }
     ensures never_memory { NeverMemory result }
@@ -75,7 +75,7 @@ fn cidr_in(cell: &[u8]) -> Result<Inet, Fault>
     Ok(inet_of(cidr.first_address(), cidr.network_length()))
 }
 
-/// Reads INET.
+/// Reads INET (`inet_recv`).
 #[unsafe(no_mangle)]
 pub extern "C" fn pgc_inet_read(cell: &[u8], inet: &mut Inet) -> u32
     ensures { ReadsInto (Decodes FormInetParts first_fault_inet cell.now) inet.old inet.new result }
@@ -83,8 +83,8 @@ pub extern "C" fn pgc_inet_read(cell: &[u8], inet: &mut Inet) -> u32
     store(inet_in(cell), inet)
 }
 
-/// How many octets the address has. Where its family is neither IPv4 nor IPv6, or the netmask is
-/// longer than the address, there is none.
+/// Returns the number of octets of the address. It is `None` if the family is neither IPv4 nor
+/// IPv6, or the netmask is longer than the address.
 fn octet_count(inet: &Inet) -> Option<u8>
     ensures { MatchOption result (is_inet inet.now ≡ false)
         (λ count. (is_inet inet.now ≡ true) × (count ≡ family_len inet.now.family)) }
@@ -100,8 +100,8 @@ fn octet_count(inet: &Inet) -> Option<u8>
     Some(count)
 }
 
-/// Writes INET. Where the family is neither IPv4 nor IPv6, or the netmask is longer than the
-/// address, there is no cell.
+/// Writes INET (`inet_send`). There is no cell if the family is neither IPv4 nor IPv6, or the
+/// netmask is longer than the address.
 #[unsafe(no_mangle)]
 pub extern "C" fn pgc_inet_write(inet: &Inet, out: &mut [u8]) -> usize
     ensures { WritesCell (wire_inet_parts inet.now) out.old out.new result }
@@ -113,7 +113,7 @@ pub extern "C" fn pgc_inet_write(inet: &Inet, out: &mut [u8]) -> usize
     write_parts(&head, &inet.octets[..usize::from(count)], &[], out)
 }
 
-/// Reads CIDR.
+/// Reads CIDR (`cidr_recv`).
 #[unsafe(no_mangle)]
 pub extern "C" fn pgc_cidr_read(cell: &[u8], cidr: &mut Inet) -> u32
     ensures { ReadsInto (Decodes FormCidrParts first_fault_cidr cell.now) cidr.old cidr.new result }
@@ -121,7 +121,7 @@ pub extern "C" fn pgc_cidr_read(cell: &[u8], cidr: &mut Inet) -> u32
     store(cidr_in(cell), cidr)
 }
 
-/// The IPv6 address of these octets.
+/// Returns the IPv6 address of these octets.
 #[tactic(auto, using(pg_base::proofs::Octets::octets_back))]
 fn v6_of(octets: &[u8; 16]) -> Ipv6Addr
     ensures { ipv6_octets result ≡ octets.now }
@@ -129,7 +129,7 @@ fn v6_of(octets: &[u8; 16]) -> Ipv6Addr
     Ipv6Addr::from_octets(*octets)
 }
 
-/// The address without its netmask.
+/// Returns the address without its netmask.
 #[tactic(auto, using(crate::proofs::NetworkSteps::v6_octets))]
 fn address_of(inet: &Inet) -> IpAddr
     ensures { is_inet inet.now ≡ true
@@ -143,15 +143,15 @@ fn address_of(inet: &Inet) -> IpAddr
     }
 }
 
-/// Whether no bit of the address after the netmask is 1.
+/// Whether every bit of the address after the netmask is 0.
 fn is_network(inet: &Inet) -> bool
     ensures { is_inet inet.now ≡ true → result ≡ (host_part (octets_in inet.now) inet.now.netmask == 0) }
 {
     IpCidr::new(address_of(inet), inet.netmask).is_ok()
 }
 
-/// Writes CIDR. Where [`pgc_inet_write`] has no cell, or a bit of the address after the netmask is
-/// 1, there is none.
+/// Writes CIDR (`cidr_send`). There is no cell if [`pgc_inet_write`] has none, or a bit of the
+/// address after the netmask is 1.
 #[unsafe(no_mangle)]
 pub extern "C" fn pgc_cidr_write(cidr: &Inet, out: &mut [u8]) -> usize
     ensures { WritesCell (wire_cidr_parts cidr.now) out.old out.new result }

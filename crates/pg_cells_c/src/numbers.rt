@@ -1,4 +1,4 @@
-//! Integers, booleans and log positions.
+//! Integers, booleans and log sequence numbers.
 #![tactic(auto, using(crate::proofs::ReadingSteps::reads_into))]
 
 ghost use Rattle.std.specs.Prelude.{◌∷◌, [], if◌then◌else◌};
@@ -16,7 +16,7 @@ use pg_base::protocol::{
     oid_from_sql,
 };
 
-/// Reads BOOL.
+/// Reads BOOL (`boolrecv`).
 #[unsafe(no_mangle)]
 pub extern "C" fn pgc_bool_read(cell: &[u8], value: &mut bool) -> u32
     ensures { ReadsInto (Decodes FormBool (first_fault_number 1) cell.now) value.old value.new result }
@@ -24,7 +24,7 @@ pub extern "C" fn pgc_bool_read(cell: &[u8], value: &mut bool) -> u32
     store(bool_from_sql(cell), value)
 }
 
-/// Writes BOOL.
+/// Writes BOOL (`boolsend`).
 #[unsafe(no_mangle)]
 pub extern "C" fn pgc_bool_write(value: bool, out: &mut [u8]) -> usize
     ensures { WritesInto ((if value then 1 else 0) ∷ []) out.old out.new result }
@@ -32,7 +32,7 @@ pub extern "C" fn pgc_bool_write(value: bool, out: &mut [u8]) -> usize
     write(&[value.into()], out)
 }
 
-/// Reads CHAR.
+/// Reads CHAR, the one-byte type `"char"` (`charrecv`).
 #[unsafe(no_mangle)]
 pub extern "C" fn pgc_char_read(cell: &[u8], value: &mut i8) -> u32
     ensures { ReadsInto (Decodes (FormSigned w8) (first_fault_number 1) cell.now) value.old value.new result }
@@ -40,7 +40,7 @@ pub extern "C" fn pgc_char_read(cell: &[u8], value: &mut i8) -> u32
     store(char_from_sql(cell), value)
 }
 
-/// Writes CHAR.
+/// Writes CHAR, the one-byte type `"char"` (`charsend`).
 #[unsafe(no_mangle)]
 pub extern "C" fn pgc_char_write(value: i8, out: &mut [u8]) -> usize
     ensures { WritesInto (be w8 value) out.old out.new result }
@@ -48,7 +48,7 @@ pub extern "C" fn pgc_char_write(value: i8, out: &mut [u8]) -> usize
     write(&value.to_be_bytes(), out)
 }
 
-/// Reads INT2.
+/// Reads INT2 (`int2recv`).
 #[unsafe(no_mangle)]
 pub extern "C" fn pgc_int2_read(cell: &[u8], value: &mut i16) -> u32
     ensures { ReadsInto (Decodes (FormSigned w16) (first_fault_number 2) cell.now) value.old value.new result }
@@ -56,7 +56,7 @@ pub extern "C" fn pgc_int2_read(cell: &[u8], value: &mut i16) -> u32
     store(int2_from_sql(cell), value)
 }
 
-/// Writes INT2.
+/// Writes INT2 (`int2send`).
 #[unsafe(no_mangle)]
 pub extern "C" fn pgc_int2_write(value: i16, out: &mut [u8]) -> usize
     ensures { WritesInto (be w16 value) out.old out.new result }
@@ -64,7 +64,7 @@ pub extern "C" fn pgc_int2_write(value: i16, out: &mut [u8]) -> usize
     write(&value.to_be_bytes(), out)
 }
 
-/// Reads INT4.
+/// Reads INT4 (`int4recv`).
 #[unsafe(no_mangle)]
 pub extern "C" fn pgc_int4_read(cell: &[u8], value: &mut i32) -> u32
     ensures { ReadsInto (Decodes (FormSigned w32) (first_fault_number 4) cell.now) value.old value.new result }
@@ -72,7 +72,7 @@ pub extern "C" fn pgc_int4_read(cell: &[u8], value: &mut i32) -> u32
     store(int4_from_sql(cell), value)
 }
 
-/// Writes INT4.
+/// Writes INT4 (`int4send`).
 #[unsafe(no_mangle)]
 pub extern "C" fn pgc_int4_write(value: i32, out: &mut [u8]) -> usize
     ensures { WritesInto (be w32 value) out.old out.new result }
@@ -80,7 +80,7 @@ pub extern "C" fn pgc_int4_write(value: i32, out: &mut [u8]) -> usize
     write(&value.to_be_bytes(), out)
 }
 
-/// Reads INT8.
+/// Reads INT8 (`int8recv`).
 #[unsafe(no_mangle)]
 pub extern "C" fn pgc_int8_read(cell: &[u8], value: &mut i64) -> u32
     ensures { ReadsInto (Decodes (FormSigned w64) (first_fault_number 8) cell.now) value.old value.new result }
@@ -88,7 +88,7 @@ pub extern "C" fn pgc_int8_read(cell: &[u8], value: &mut i64) -> u32
     store(int8_from_sql(cell), value)
 }
 
-/// Writes INT8.
+/// Writes INT8 (`int8send`).
 #[unsafe(no_mangle)]
 pub extern "C" fn pgc_int8_write(value: i64, out: &mut [u8]) -> usize
     ensures { WritesInto (be w64 value) out.old out.new result }
@@ -96,7 +96,7 @@ pub extern "C" fn pgc_int8_write(value: i64, out: &mut [u8]) -> usize
     write(&value.to_be_bytes(), out)
 }
 
-/// Reads OID.
+/// Reads OID (`oidrecv`).
 #[unsafe(no_mangle)]
 pub extern "C" fn pgc_oid_read(cell: &[u8], value: &mut u32) -> u32
     ensures { ReadsInto (Decodes (FormUnsigned w32) (first_fault_number 4) cell.now) value.old value.new result }
@@ -104,7 +104,7 @@ pub extern "C" fn pgc_oid_read(cell: &[u8], value: &mut u32) -> u32
     store(oid_from_sql(cell), value)
 }
 
-/// Writes OID.
+/// Writes OID (`oidsend`).
 #[unsafe(no_mangle)]
 pub extern "C" fn pgc_oid_write(oid: u32, out: &mut [u8]) -> usize
     ensures { WritesInto (to_be_bytes w32 oid) out.old out.new result }
@@ -112,7 +112,7 @@ pub extern "C" fn pgc_oid_write(oid: u32, out: &mut [u8]) -> usize
     write(&oid.to_be_bytes(), out)
 }
 
-/// Reads PG_LSN.
+/// Reads PG_LSN (`pg_lsn_recv`).
 #[unsafe(no_mangle)]
 pub extern "C" fn pgc_lsn_read(cell: &[u8], value: &mut u64) -> u32
     ensures { ReadsInto (Decodes (FormUnsigned w64) (first_fault_number 8) cell.now) value.old value.new result }
@@ -120,7 +120,7 @@ pub extern "C" fn pgc_lsn_read(cell: &[u8], value: &mut u64) -> u32
     store(lsn_from_sql(cell), value)
 }
 
-/// Writes PG_LSN.
+/// Writes PG_LSN (`pg_lsn_send`).
 #[unsafe(no_mangle)]
 pub extern "C" fn pgc_lsn_write(lsn: u64, out: &mut [u8]) -> usize
     ensures { WritesInto (to_be_bytes w64 lsn) out.old out.new result }

@@ -1,4 +1,4 @@
-//! Walks over the fields of a record, and over the columns of a row.
+//! Reading the fields of a record, and the columns of a row, one after another.
 ghost use Rattle.std.specs.Prelude.{drop};
 ghost use Rattle.pg_base.specs.Counts.{TakesNext, count_checks};
 ghost use Rattle.pg_base.specs.Formats.{Decodes, first_fault_of};
@@ -8,13 +8,13 @@ ghost use Rattle.pg_cells_c.specs.Records.{SpellsFieldAt, SpellsRow, field_check
 ghost use Rattle.pg_cells_c.specs.Walks.{StepsInto, to_read};
 ghost use Rattle.pg_types.specs.Faults.{Answers, NeverMemory};
 
-use crate::frames::{bytes_from, split_cell, split_oid};
+use crate::frames::{bytes_from, split_oid};
 use crate::items::{Element, Item, Walk, count_in, element_before, step};
 use crate::store::store;
-use pg_base::protocol::int2_from_sql;
+use pg_base::protocol::{int2_from_sql, split_cell};
 use pg_types::fault::Fault;
 
-/// A field: the OID of its type, and its value or NULL.
+/// A field: the OID of its type, and its value, which may be NULL.
 #[derive(Clone, Copy)]
 #[repr(C)]
 pub struct Field {
@@ -37,7 +37,7 @@ impl Item for Field {
     }
 }
 
-/// Reads the number of a record's fields.
+/// Reads the number of fields of a record (`record_recv`).
 #[unsafe(no_mangle)]
 #[tactic(auto, using(crate::proofs::ReadingSteps::reads_into))]
 pub extern "C" fn pgc_record_begin(cell: &[u8], walk: &mut Walk) -> u32
@@ -56,7 +56,7 @@ pub extern "C" fn pgc_record_next(cell: &[u8], walk: &mut Walk, field: &mut Fiel
     step(cell, walk, field)
 }
 
-/// Where the columns of a row begin, and how many there are.
+/// Returns the position of the first column of a row.
 #[inline(always)]
 fn row_in(body: &[u8]) -> Result<Walk, Fault>
     ensures outcome { Answers (Decodes (λ b walk. SpellsRow b (to_read b walk))
@@ -77,7 +77,7 @@ fn row_in(body: &[u8]) -> Result<Walk, Fault>
     })
 }
 
-/// Reads the number of a row's columns.
+/// Reads the number of columns of a row (documentation, "Message Formats", DataRow).
 #[unsafe(no_mangle)]
 #[tactic(auto, using(crate::proofs::ReadingSteps::reads_into))]
 pub extern "C" fn pgc_row_begin(body: &[u8], walk: &mut Walk) -> u32

@@ -12,11 +12,11 @@ use cells::rewrite_cell;
 use kinds::kind_of;
 use std::alloc::Global;
 
-/// The number of the fault of a type that is not rewritten, which is `WrongType`.
+/// The number of `WrongType`, the fault of a type whose cells are not rewritten.
 const WRONG_TYPE: u32 = 3;
 
-/// Rewrites a cell of the type with that OID: answers how many bytes the new cell has, and writes
-/// them where there is room for them; or answers the number of the fault.
+/// Rewrites a cell of the type with that OID: returns the length of the new cell, and writes it if
+/// the buffer has room for all of it; or returns the number of the fault.
 fn rewrite(alloc: Global, oid: u32, cell: &[u8], out: &mut [u8]) -> Result<usize, u32>
     ensures { WritesByRow (row_among (array_rows ++ rewritten_rows) oid) cell.now out.old out.new result }
 {
@@ -32,8 +32,8 @@ fn rewrite(alloc: Global, oid: u32, cell: &[u8], out: &mut [u8]) -> Result<usize
     }
 }
 
-/// Rewrites a cell of the type with that OID. For C the first parameter is none, since it has no
-/// bytes.
+/// Rewrites a cell of the type with that OID, and stores the length of the new cell. `alloc` has no
+/// size, so that C passes no argument for it.
 #[unsafe(no_mangle)]
 pub extern "C" fn pgc_rewrite(
     alloc: Global,

@@ -2,7 +2,7 @@
 ghost use Rattle.std.specs.Prelude.{◌≡◌, ◌≤◌, length};
 ghost use Rattle.pg_cells_c.specs.Spans.{EndsWith};
 
-/// A part of a cell: `len` bytes from the place `offset` on.
+/// A part of a cell: `len` bytes from `offset` on.
 #[derive(Clone, Copy)]
 #[repr(C)]
 pub struct Span {
@@ -10,7 +10,7 @@ pub struct Span {
     pub len: usize,
 }
 
-/// The last `len` bytes of a cell.
+/// Returns the last `len` bytes of a cell.
 #[inline(always)]
 pub(crate) fn last_bytes(cell: &[u8], len: usize) -> Span
     requires { len ≤ length cell.now }

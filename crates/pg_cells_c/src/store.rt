@@ -1,9 +1,9 @@
-//! How a value goes out.
+//! Results of readers.
 ghost use Rattle.pg_cells_c.specs.Readings.{Stores};
 
 use pg_types::fault::Fault;
 
-/// Stores what was read and answers 0, or answers the number of the fault.
+/// Stores what was read and returns 0, or returns the number of the fault.
 #[inline(always)]
 pub(crate) fn store<T: Copy>(read: Result<T, Fault>, value: &mut T) -> u32
     ensures { Stores read value.old value.new result }

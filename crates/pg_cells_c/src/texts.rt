@@ -1,4 +1,4 @@
-//! Texts and bytes, which stay where they are in the cell.
+//! Texts and bytes. They are not copied: they are a part of the cell.
 #![tactic(auto, using(crate::proofs::ReadingSteps::reads_into))]
 
 ghost use Rattle.std.specs.Prelude.{◌≡◌, true, false};
@@ -15,13 +15,13 @@ use crate::store::store;
 use pg_base::protocol::bytea_from_sql;
 use pg_types::fault::Fault;
 
-/// The first byte of the cells that have a version.
+/// The first byte of a cell that has a version.
 const VERSION: u8 = 1;
 
-/// Where the text of a cell lies.
+/// Returns where the text of a cell is.
 ///
-/// This is `text_from_sql` of `pg_base`, which is not inlined here: with a call of it the library
-/// would have the code that drops any fault, and so need an allocator.
+/// This is `text_from_sql` of `pg_base`, which is not called here because it is not inlined: with a
+/// call of it, the library would contain the code that drops a fault, and so need an allocator.
 #[inline(always)]
 #[tactic(auto, using(pg_base::proofs::TextLemmas::text_refused))]
 fn text_span(cell: &[u8]) -> Result<Span, Fault>
@@ -34,7 +34,7 @@ fn text_span(cell: &[u8]) -> Result<Span, Fault>
     }
 }
 
-/// Where the text lies of a cell that begins with a version.
+/// Returns where the text of a cell that begins with a version is.
 fn versioned_span(cell: &[u8]) -> Result<Span, Fault>
     ensures outcome { Answers (Decodes (FormTextSpan true) (first_fault_text true) cell.now) result }
     ensures never_memory { NeverMemory result }
@@ -48,7 +48,7 @@ fn versioned_span(cell: &[u8]) -> Result<Span, Fault>
     }
 }
 
-/// Reads a text: VARCHAR, TEXT, BPCHAR, NAME, UNKNOWN, and citext.
+/// Reads a text: VARCHAR, TEXT, BPCHAR, NAME, UNKNOWN and citext (`textrecv` and its like).
 #[unsafe(no_mangle)]
 pub extern "C" fn pgc_text_read(cell: &[u8], text: &mut Span) -> u32
     ensures { ReadsInto (Decodes (FormTextSpan false) (first_fault_text false) cell.now) text.old text.new result }
@@ -56,7 +56,7 @@ pub extern "C" fn pgc_text_read(cell: &[u8], text: &mut Span) -> u32
     store(text_span(cell), text)
 }
 
-/// Writes a text. What is not UTF-8 has no cell.
+/// Writes a text (`textsend` and its like). Bytes that are not UTF-8 have no cell.
 #[unsafe(no_mangle)]
 pub extern "C" fn pgc_text_write(text: &[u8], out: &mut [u8]) -> usize
     ensures { WritesCell (wire_text false text.now) out.old out.new result }
@@ -67,7 +67,7 @@ pub extern "C" fn pgc_text_write(text: &[u8], out: &mut [u8]) -> usize
     }
 }
 
-/// Reads ltree, lquery and ltxtquery.
+/// Reads ltree, lquery and ltxtquery (`ltree_recv`, `lquery_recv`, `ltxtq_recv`).
 #[unsafe(no_mangle)]
 pub extern "C" fn pgc_ltree_read(cell: &[u8], text: &mut Span) -> u32
     ensures { ReadsInto (Decodes (FormTextSpan true) (first_fault_text true) cell.now) text.old text.new result }
@@ -75,7 +75,8 @@ pub extern "C" fn pgc_ltree_read(cell: &[u8], text: &mut Span) -> u32
     store(versioned_span(cell), text)
 }
 
-/// Writes ltree, lquery and ltxtquery. What is not UTF-8 has no cell.
+/// Writes ltree, lquery and ltxtquery (`ltree_send`, `lquery_send`, `ltxtq_send`). Bytes that are
+/// not UTF-8 have no cell.
 #[unsafe(no_mangle)]
 pub extern "C" fn pgc_ltree_write(text: &[u8], out: &mut [u8]) -> usize
     ensures { WritesCell (wire_text true text.now) out.old out.new result }
@@ -86,7 +87,7 @@ pub extern "C" fn pgc_ltree_write(text: &[u8], out: &mut [u8]) -> usize
     }
 }
 
-/// Reads BYTEA, which is never refused.
+/// Reads BYTEA (`bytearecv`). No cell is refused.
 #[unsafe(no_mangle)]
 pub extern "C" fn pgc_bytea_read(cell: &[u8], bytes: &mut Span) -> u32
     ensures whole { FormWhole cell.now bytes.new }
@@ -96,7 +97,7 @@ pub extern "C" fn pgc_bytea_read(cell: &[u8], bytes: &mut Span) -> u32
     0
 }
 
-/// Writes BYTEA.
+/// Writes BYTEA (`byteasend`).
 #[unsafe(no_mangle)]
 pub extern "C" fn pgc_bytea_write(bytes: &[u8], out: &mut [u8]) -> usize
     ensures { WritesInto bytes.now out.old out.new result }

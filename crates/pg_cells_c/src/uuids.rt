@@ -27,7 +27,7 @@ pub struct Macaddr {
     pub bytes: [u8; 6],
 }
 
-/// The UUID of a cell.
+/// Reads the UUID of a cell.
 fn uuid_in(cell: &[u8]) -> Result<Uuid, Fault>
     ensures outcome { Answers (Decodes (λ b v. FormFixedBytes 16 b v.bytes) (first_fault_number 16) cell.now) result }
     ensures never_memory { NeverMemory result }
@@ -37,7 +37,7 @@ fn uuid_in(cell: &[u8]) -> Result<Uuid, Fault>
     })
 }
 
-/// The MAC address of a cell.
+/// Reads the MAC address of a cell.
 fn macaddr_in(cell: &[u8]) -> Result<Macaddr, Fault>
     ensures outcome { Answers (Decodes (λ b v. FormFixedBytes 6 b v.bytes) (first_fault_number 6) cell.now) result }
     ensures never_memory { NeverMemory result }
@@ -47,7 +47,7 @@ fn macaddr_in(cell: &[u8]) -> Result<Macaddr, Fault>
     })
 }
 
-/// Reads UUID.
+/// Reads UUID (`uuid_recv`).
 #[unsafe(no_mangle)]
 pub extern "C" fn pgc_uuid_read(cell: &[u8], uuid: &mut Uuid) -> u32
     ensures { ReadsInto (Decodes (λ b v. FormFixedBytes 16 b v.bytes) (first_fault_number 16) cell.now)
@@ -56,7 +56,7 @@ pub extern "C" fn pgc_uuid_read(cell: &[u8], uuid: &mut Uuid) -> u32
     store(uuid_in(cell), uuid)
 }
 
-/// Writes UUID.
+/// Writes UUID (`uuid_send`).
 #[unsafe(no_mangle)]
 pub extern "C" fn pgc_uuid_write(uuid: &Uuid, out: &mut [u8]) -> usize
     ensures { WritesInto uuid.now.bytes out.old out.new result }
@@ -64,7 +64,7 @@ pub extern "C" fn pgc_uuid_write(uuid: &Uuid, out: &mut [u8]) -> usize
     write(&uuid.bytes, out)
 }
 
-/// Reads MACADDR.
+/// Reads MACADDR (`macaddr_recv`).
 #[unsafe(no_mangle)]
 pub extern "C" fn pgc_macaddr_read(cell: &[u8], macaddr: &mut Macaddr) -> u32
     ensures { ReadsInto (Decodes (λ b v. FormFixedBytes 6 b v.bytes) (first_fault_number 6) cell.now)
@@ -73,7 +73,7 @@ pub extern "C" fn pgc_macaddr_read(cell: &[u8], macaddr: &mut Macaddr) -> u32
     store(macaddr_in(cell), macaddr)
 }
 
-/// Writes MACADDR.
+/// Writes MACADDR (`macaddr_send`).
 #[unsafe(no_mangle)]
 pub extern "C" fn pgc_macaddr_write(macaddr: &Macaddr, out: &mut [u8]) -> usize
     ensures { WritesInto macaddr.now.bytes out.old out.new result }

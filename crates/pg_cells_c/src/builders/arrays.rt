@@ -1,4 +1,4 @@
-//! Building arrays; their elements are pushed as parameters are.
+//! Building arrays. Their elements are pushed as parameters are.
 ghost use Rattle.std.specs.Prelude.{◌≡◌, Some, None, true, false};
 ghost use Rattle.pg_base.specs.Cells.{frame};
 ghost use Rattle.pg_cells_c.specs.Builders.{Closes, Pushes, PushesWritten, array_head_in, array_width, empty_builder};
@@ -7,7 +7,7 @@ use super::{Builder, close, empty_builder, push_item, push_written_item};
 use crate::buffers::NO_CELL;
 use pg_base::protocol::MAX_LEN;
 
-/// How many bytes the head of an array of one dimension has.
+/// The length of the header of an array with one dimension.
 const HEAD_LEN: usize = 20;
 
 /// Begins an array (`array_send`).
@@ -18,8 +18,8 @@ pub extern "C" fn pgc_array_open(builder: &mut Builder)
     *builder = empty_builder(HEAD_LEN);
 }
 
-/// Pushes the frame of an element's or a parameter's cell. A cell of more than 2,147,483,647 bytes
-/// has none.
+/// Pushes the frame of an element or a parameter: the length of its cell, and the cell. A cell of
+/// more than 2,147,483,647 bytes is not pushed.
 #[unsafe(no_mangle)]
 #[tactic(auto, using(crate::proofs::PushSteps::pushed_frame, crate::proofs::PushSteps::no_frame))]
 pub extern "C" fn pgc_push(builder: &mut Builder, cell: &[u8], out: &mut [u8]) -> usize
@@ -40,7 +40,8 @@ pub extern "C" fn pgc_push_null(builder: &mut Builder, out: &mut [u8]) -> usize
     push_item(builder, &(-1i32).to_be_bytes(), &[], &[], &[], true, out)
 }
 
-/// Pushes the frame of the cell of `len` bytes that stands 4 bytes after the end of what was built.
+/// Pushes the frame of a cell of `len` bytes that the caller already wrote, 4 bytes after the end
+/// of what was built.
 #[unsafe(no_mangle)]
 pub extern "C" fn pgc_push_written(builder: &mut Builder, len: usize, out: &mut [u8]) -> usize
     ensures { PushesWritten (λ cell. frame (Some cell)) 4 len builder.old builder.new out.old out.new result }
@@ -51,8 +52,8 @@ pub extern "C" fn pgc_push_written(builder: &mut Builder, len: usize, out: &mut 
     push_written_item(builder, &(len as i32).to_be_bytes(), &[], len, out)
 }
 
-/// Writes the head of an array, of that element type. Of more than 2,147,483,647 elements there is no
-/// cell.
+/// Writes the header of an array with that element type. There is no cell of more than
+/// 2,147,483,647 elements.
 #[unsafe(no_mangle)]
 #[tactic(auto, using(crate::proofs::PushSteps::no_array))]
 pub extern "C" fn pgc_array_close(builder: &Builder, element_oid: u32, out: &mut [u8]) -> usize

@@ -1,4 +1,4 @@
-//! Building hstores.
+//! Building values of hstore.
 ghost use Rattle.std.specs.Prelude.{◌≡◌, ◌≤◌, ◌++◌, MatchOption, Some, None, length, true, false};
 ghost use Rattle.pg_base.specs.Cells.{max_length};
 ghost use Rattle.pg_base.specs.Counts.{count_bytes};
@@ -17,7 +17,8 @@ pub extern "C" fn pgc_hstore_open(builder: &mut Builder)
     *builder = empty_builder(HEAD_LEN);
 }
 
-/// The prefix of a text's frame. What is not UTF-8, or has more than 2,147,483,647 bytes, has none.
+/// Returns the length prefix of a text. There is none if the text is not UTF-8 or has more than
+/// 2,147,483,647 bytes.
 #[inline(always)]
 #[tactic(auto, using(crate::proofs::PushSteps::text_framed, crate::proofs::PushSteps::no_text_frame))]
 fn text_prefix(text: &[u8]) -> Option<[u8; 4]>
@@ -33,8 +34,8 @@ fn text_prefix(text: &[u8]) -> Option<[u8; 4]>
     }
 }
 
-/// Pushes an entry: the frames of its key and its value. What is not UTF-8, or has more than
-/// 2,147,483,647 bytes, has none.
+/// Pushes an entry: the frames of its key and its value. The entry is not pushed if one of them is
+/// not UTF-8 or has more than 2,147,483,647 bytes.
 #[unsafe(no_mangle)]
 #[tactic(auto, using(crate::proofs::PushSteps::no_value, crate::proofs::PushSteps::entry_pushed))]
 pub extern "C" fn pgc_push_entry(
@@ -54,8 +55,8 @@ pub extern "C" fn pgc_push_entry(
     push_item(builder, &key_len, key, &value_len, value, false, out)
 }
 
-/// Pushes an entry whose value is NULL: the frame of its key, and that of NULL. A key that is not
-/// UTF-8, or has more than 2,147,483,647 bytes, has none.
+/// Pushes an entry whose value is NULL: the frame of its key, and the frame of NULL. The entry is
+/// not pushed if the key is not UTF-8 or has more than 2,147,483,647 bytes.
 #[unsafe(no_mangle)]
 #[tactic(auto, using(crate::proofs::PushSteps::null_entry_pushed))]
 pub extern "C" fn pgc_push_null_entry(builder: &mut Builder, key: &[u8], out: &mut [u8]) -> usize
@@ -75,7 +76,7 @@ pub extern "C" fn pgc_push_null_entry(builder: &mut Builder, key: &[u8], out: &m
     )
 }
 
-/// Writes the count of an hstore. Of more than 2,147,483,647 entries there is no cell.
+/// Writes the number of entries of an hstore. There is no cell of more than 2,147,483,647 entries.
 #[unsafe(no_mangle)]
 pub extern "C" fn pgc_hstore_close(builder: &Builder, out: &mut [u8]) -> usize
     ensures { Closes count_width (count_bytes builder.now.count) builder.now out.old out.new result }

@@ -1,14 +1,14 @@
-//! Building the list of a Bind message's parameters.
+//! Building the parameters of a Bind message.
 ghost use Rattle.std.specs.Prelude.{◌≡◌};
 ghost use Rattle.pg_cells_c.specs.Builders.{Closes, empty_builder, params_head, params_width};
 
 use super::{Builder, close, empty_builder};
 use crate::buffers::NO_CELL;
 
-/// How many bytes the number of parameters has.
+/// The length of the number of parameters, in bytes.
 const HEAD_LEN: usize = 2;
 
-/// The most parameters of a message.
+/// The greatest number of parameters of a message.
 const MAX_PARAMS: usize = 65_535;
 
 /// Begins a list of parameters (documentation, "Message Formats", Bind).
@@ -19,7 +19,7 @@ pub extern "C" fn pgc_params_open(builder: &mut Builder)
     *builder = empty_builder(HEAD_LEN);
 }
 
-/// Writes the number of parameters. Of more than 65,535 there is no list.
+/// Writes the number of parameters. There is no list of more than 65,535 parameters.
 #[unsafe(no_mangle)]
 #[tactic(auto, using(crate::proofs::PushSteps::no_params))]
 pub extern "C" fn pgc_params_close(builder: &Builder, out: &mut [u8]) -> usize

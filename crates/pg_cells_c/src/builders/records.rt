@@ -1,4 +1,4 @@
-//! Building records, and what begins with a count.
+//! Building records, and cells that begin with a number of items.
 ghost use Rattle.std.specs.Prelude.{◌≡◌, Some, None, true, false};
 ghost use Rattle.pg_base.specs.Counts.{count_bytes};
 ghost use Rattle.pg_cells_c.specs.Builders.{Closes, Pushes, PushesWritten, count_width, field_bytes, empty_builder};
@@ -7,7 +7,7 @@ use super::{Builder, close, empty_builder, push_item, push_written_item};
 use crate::buffers::NO_CELL;
 use pg_base::protocol::MAX_LEN;
 
-/// How many bytes a count has.
+/// The length of a number of items, in bytes.
 pub(super) const HEAD_LEN: usize = 4;
 
 /// Begins a record (`record_send`).
@@ -18,8 +18,8 @@ pub extern "C" fn pgc_record_open(builder: &mut Builder)
     *builder = empty_builder(HEAD_LEN);
 }
 
-/// Pushes a field: the OID of its type, and the frame of its cell. A cell of more than 2,147,483,647
-/// bytes has none.
+/// Pushes a field: the OID of its type, and the frame of its cell. A cell of more than
+/// 2,147,483,647 bytes is not pushed.
 #[unsafe(no_mangle)]
 #[tactic(auto, using(crate::proofs::PushSteps::no_field))]
 pub extern "C" fn pgc_push_field(
@@ -46,7 +46,8 @@ pub extern "C" fn pgc_push_null_field(builder: &mut Builder, oid: u32, out: &mut
     push_item(builder, &oid.to_be_bytes(), &len, &[], &[], true, out)
 }
 
-/// Pushes a field whose cell of `len` bytes stands 8 bytes after the end of what was built.
+/// Pushes a field whose cell of `len` bytes the caller already wrote, 8 bytes after the end of what
+/// was built.
 #[unsafe(no_mangle)]
 pub extern "C" fn pgc_push_written_field(
     builder: &mut Builder,
@@ -64,7 +65,7 @@ pub extern "C" fn pgc_push_written_field(
     push_written_item(builder, &oid.to_be_bytes(), &prefix, len, out)
 }
 
-/// Writes the count of the items. Of more than 2,147,483,647 there is no cell.
+/// Writes the number of items. There is no cell of more than 2,147,483,647 items.
 #[inline(always)]
 #[tactic(auto, using(crate::proofs::PushSteps::no_count))]
 pub(super) fn close_count(builder: &Builder, out: &mut [u8]) -> usize
@@ -76,7 +77,7 @@ pub(super) fn close_count(builder: &Builder, out: &mut [u8]) -> usize
     close(builder, &(builder.count as i32).to_be_bytes(), out)
 }
 
-/// Writes the number of a record's fields. Of more than 2,147,483,647 there is no cell.
+/// Writes the number of fields of a record. There is no cell of more than 2,147,483,647 fields.
 #[unsafe(no_mangle)]
 pub extern "C" fn pgc_record_close(builder: &Builder, out: &mut [u8]) -> usize
     ensures { Closes count_width (count_bytes builder.now.count) builder.now out.old out.new result }

@@ -1,6 +1,7 @@
-//! Arrays, rewritten.
+//! Rewriting arrays.
 //!
-//! A fault is answered by its number, so that none is left to drop; see the comment of the crate.
+//! A fault is returned as its number, so that no `Fault` has to be dropped: see the comment of the
+//! crate.
 ghost use Rattle.std.specs.Prelude.{◌≡◌, ◌≤◌, IfOk, length, not};
 ghost use Rattle.pg_base.specs.Cells.{max_length};
 ghost use Rattle.pg_cells_c.specs.ArrayRewriting.{WritesArray, WritesElements, array_at, head_of};
@@ -11,21 +12,21 @@ use crate::buffers::write_parts;
 use pg_base::protocol::array_from_sql;
 use std::alloc::Global;
 
-/// The length of the head of an array of one dimension.
+/// The length of the header of an array with one dimension.
 const HEAD_LEN: usize = 20;
 
-/// How many bytes of the head stand before what it says of the dimension.
+/// The offset of the fields of the dimension in the header.
 const DIMENSION_AT: usize = 12;
 
-/// A type of arrays: the OID of the type of its elements, and whether it is one of the vectors, which
-/// number their elements from 0 and have no NULL.
+/// An array type: the OID of its elements' type, and whether it is `int2vector` or `oidvector`. The
+/// elements of a vector are numbered from 0, and none of them is NULL.
 #[derive(Clone, Copy)]
 pub(super) struct ArrayType {
     pub element: u32,
     pub is_vector: bool,
 }
 
-/// The type of arrays with that OID, whose elements have a format.
+/// Returns the array type with that OID, if cells of its elements are rewritten.
 pub(super) fn array_of(oid: u32) -> Option<ArrayType>
     ensures { result ≡ array_at oid }
 {
@@ -60,7 +61,7 @@ pub(super) fn array_of(oid: u32) -> Option<ArrayType>
     Some(ArrayType { element, is_vector })
 }
 
-/// Writes the head of an array that has these frames.
+/// Writes the header of an array with these frames.
 fn write_head(array: ArrayType, frames: Frames, head: &mut [u8])
     requires few { frames.count ≤ max_length }
     requires whole { length head.old ≡ HEAD_LEN }
@@ -101,9 +102,9 @@ fn array_elements(
     }
 }
 
-/// Rewrites an array, as [`rewrite_cell`](super::cells::rewrite_cell) does a cell of one value. The
-/// elements are gone over twice, since nothing may be written before it is known that they are
-/// sound, and how many bytes they have.
+/// Rewrites an array, as [`rewrite_cell`](super::cells::rewrite_cell) rewrites a cell of one value.
+/// The elements are read twice: all of them have to be checked and measured before anything is
+/// written.
 pub(super) fn rewrite_array(
     alloc: Global,
     array: ArrayType,

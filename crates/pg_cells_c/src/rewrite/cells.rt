@@ -1,6 +1,7 @@
-//! Cells of one value, rewritten.
+//! Rewriting cells of one value.
 //!
-//! A fault is answered by its number, so that none is left to drop; see the comment of the crate.
+//! A fault is returned as its number, so that no `Fault` has to be dropped: see the comment of the
+//! crate.
 ghost use Rattle.std.specs.Prelude.{◌≤◌, length};
 ghost use Rattle.pg_cells_c.specs.Kinds.{WritesOutcome, rewritten, without_flag};
 ghost use Rattle.pg_cells_c.specs.Writings.{WritesInto};
@@ -34,7 +35,7 @@ fn rewrite_text(cell: &[u8], out: &mut [u8]) -> Result<usize, u32>
     }
 }
 
-/// Rewrites a cell of so many bytes.
+/// Rewrites a cell of `width` bytes.
 fn rewrite_fixed(width: usize, cell: &[u8], out: &mut [u8]) -> Result<usize, u32>
     ensures { WritesOutcome (rewritten (kind.Fixed width) cell.now) out.old out.new result }
 {
@@ -54,14 +55,14 @@ fn rewrite_bits(cell: &[u8], out: &mut [u8]) -> Result<usize, u32>
     }
 }
 
-/// What a variable holds before an address is read to it.
+/// The value of a variable before an address is read into it.
 const NO_ADDRESS: Inet = Inet {
     family: 0,
     netmask: 0,
     octets: [0; 16],
 };
 
-/// Writes the cell of an address with the flag 0.
+/// Writes the cell of an address, with the flag 0.
 fn write_without_flag(cell: &[u8], out: &mut [u8]) -> usize
     requires { 4 ≤ length cell.now }
     ensures { WritesInto (without_flag cell.now) out.old out.new result }
@@ -93,8 +94,9 @@ fn rewrite_cidr(cell: &[u8], out: &mut [u8]) -> Result<usize, u32>
     Ok(write_without_flag(cell, out))
 }
 
-/// Rewrites a cell of that format: answers how many bytes the new cell has, and writes them where
-/// there is room for them; or answers the number of the fault of the first check that it fails.
+/// Rewrites a cell of that format: returns the length of the new cell, and writes it if the buffer
+/// has room for all of it; or returns the number of the fault of the first check that the cell
+/// fails.
 pub(crate) fn rewrite_cell(kind: Kind, cell: &[u8], out: &mut [u8]) -> Result<usize, u32>
     ensures { WritesOutcome (rewritten kind cell.now) out.old out.new result }
 {

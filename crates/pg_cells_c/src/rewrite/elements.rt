@@ -1,6 +1,7 @@
-//! Elements of arrays, rewritten one after another.
+//! Rewriting the elements of arrays, one after another.
 //!
-//! A fault is answered by its number, so that none is left to drop; see the comment of the crate.
+//! A fault is returned as its number, so that no `Fault` has to be dropped: see the comment of the
+//! crate.
 ghost use Rattle.std.specs.Prelude.{◌<◌, ◌≤◌, ◌^◌, IfOk, IfSome, Some, length, true};
 ghost use Rattle.pg_base.specs.Cells.{cell_of, max_length};
 ghost use Rattle.pg_cells_c.specs.Elements.{WritesFrame, WritesFrames, rewritten_cell, rewritten_cells};
@@ -12,18 +13,18 @@ use crate::frames::pgc_null_write;
 use pg_base::protocol::ArrayCells;
 use pg_types::fault::Fault;
 
-/// The length of a length prefix.
+/// The length of a length prefix, in bytes.
 const PREFIX_LEN: usize = 4;
 
-/// What the elements of an array are: the format of their cells, and whether one may be NULL.
+/// How elements are rewritten: the format of their cells, and whether an element may be NULL.
 #[derive(Clone, Copy)]
 pub(super) struct Elements {
     pub kind: Kind,
     pub nullable: bool,
 }
 
-/// The frames that elements are rewritten to: how many there are, how many bytes they have, and
-/// whether one of them is that of NULL.
+/// The frames of rewritten elements: their number, their length in bytes, and whether one of them
+/// is that of NULL.
 #[derive(Clone, Copy)]
 pub(super) struct Frames {
     pub count: usize,
@@ -31,8 +32,8 @@ pub(super) struct Frames {
     pub has_null: bool,
 }
 
-/// Rewrites the cell of an element, and puts its frame into the buffer where there is room for it.
-/// The answer is how many bytes the frame has.
+/// Rewrites the cell of an element, and writes its frame if the buffer has room for all of it.
+/// Returns the length of the frame.
 fn rewrite_frame(kind: Kind, cell: &[u8], out: &mut [u8]) -> Result<usize, u32>
     requires { length cell.now ≤ max_length }
     ensures { WritesFrame (rewritten_cell kind true (Some cell.now)) out.old out.new result }
@@ -44,8 +45,8 @@ fn rewrite_frame(kind: Kind, cell: &[u8], out: &mut [u8]) -> Result<usize, u32>
     Ok(PREFIX_LEN + len)
 }
 
-/// Rewrites an element, as [`rewrite_frame`] does. Where NULL is none of the elements, it is
-/// refused with `WasNull`.
+/// Rewrites an element, as [`rewrite_frame`] does. NULL is refused with `WasNull` if no element may
+/// be NULL.
 fn rewrite_element(elements: Elements, cell: Option<&[u8]>, out: &mut [u8]) -> Result<usize, u32>
     requires { IfSome cell (λ it. length it.now ≤ max_length) }
     ensures { WritesFrame (rewritten_cell elements.kind elements.nullable (cell_of cell.entry))
@@ -58,8 +59,8 @@ fn rewrite_element(elements: Elements, cell: Option<&[u8]>, out: &mut [u8]) -> R
     }
 }
 
-/// Rewrites the elements that are to be read, and puts their frames into the buffer where there is
-/// room for all of them; else it may have any content. The bytes that are left after the elements
+/// Rewrites the elements that are left, and writes their frames if the buffer has room for all of
+/// them. If it has not, its content afterwards is not specified. Bytes that follow the last element
 /// are refused.
 pub(super) fn rewrite_elements(
     mut cells: ArrayCells<'_>,

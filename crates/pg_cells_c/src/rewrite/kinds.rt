@@ -1,28 +1,28 @@
-//! The built-in types, by the format of their cells.
+//! The built-in types, by the formats of their cells.
 ghost use Rattle.std.specs.Prelude.{◌≡◌};
 ghost use Rattle.pg_cells_c.specs.Kinds.{kind_at};
 
-/// A format that cells of built-in types have.
+/// A format of the cells of built-in types.
 #[derive(Clone, Copy)]
 pub(crate) enum Kind {
-    /// One byte, which is 0 or 1 where it is written.
+    /// One byte. Any byte but 0 is read as true; the byte that is written is 0 or 1.
     Bool,
     /// Any bytes.
     Bytea,
     /// A text in UTF-8.
     Text,
-    /// So many bytes, of any value.
+    /// This number of bytes, each with any value.
     Fixed(usize),
-    /// A number of bits, and as many bytes as they take.
+    /// A number of bits, and the bytes of the bits.
     Bits,
     /// An address with its netmask.
     Inet,
-    /// The same, without host bits.
+    /// A network: an address with its netmask, whose bits after the netmask are 0.
     Cidr,
 }
 
-/// The format of the cells of the type with that OID. There is none where the type is an array, a
-/// document or not a built-in one.
+/// Returns the format of the cells of the type with that OID. It is `None` for arrays, for JSON
+/// documents and for types that are not built in.
 pub(crate) fn kind_of(oid: u32) -> Option<Kind>
     ensures { result ≡ kind_at oid }
 {
