@@ -16,7 +16,7 @@ zero_units (negsuc weight) scale =
     let none : 0 * 10 ^ scale ≡ 0 = omega arith in
     rw none (div-eq_of_lt {n = 0} {m = 10 ^ (4 * (weight + 1))} (one-le-pow (4 * (weight + 1)) 10 (omega arith)))
 
-shown_of : (x scale count power : ℕ) → power ≡ 10 ^ scale * 10 ^ count → x * 10 ^ scale / power ≡ x / 10 ^ count
+pub shown_of : (x scale count power : ℕ) → power ≡ 10 ^ scale * 10 ^ count → x * 10 ^ scale / power ≡ x / 10 ^ count
 shown_of x scale count power e =
     let some : 0 < 10 ^ scale = one-le-pow scale 10 (omega arith) in
     ap (λ p. x * 10 ^ scale / p) e ∙ sym (div-div-eq-div-mul (x * 10 ^ scale) (10 ^ scale) (10 ^ count))

@@ -1,4 +1,4 @@
--- Types of PostgreSQL's own catalog that the library has no row for.
+-- Types of PostgreSQL's catalog for which the library has no row.
 use Rattle.std.specs.Prelude.{ℕ, ◌==◌, ◌&&◌, List, Bool, true, false, codes}
 use Rattle.std.specs.Cmp.Lexicographic.{pointwise}
 use Rattle.pg_base.specs.Texts.{is_named}

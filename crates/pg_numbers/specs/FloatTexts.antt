@@ -8,7 +8,7 @@ use Rattle.std.specs.List.{list_any}
 use Rattle.std.specs.Option.{option_and_then}
 use Rattle.std.specs.Fmt.{sign_text}
 
--- the text of a value that is no finite number, or zero
+-- the text of a value that is NaN, an infinity or zero
 abbrev pub word_of : Float → Option (List ℕ)
 word_of nan = Some (codes "NaN")
 word_of (inf negative) = Some (sign_text negative ++ codes "Infinity")
@@ -25,11 +25,11 @@ is_nonzero digit = not (digit == 48)
 abbrev pub has_nonzero : Parts → Bool
 has_nonzero p = list_any is_nonzero p.whole || list_any is_nonzero p.fraction
 
--- a numeral that is read as an infinity, or as zero though it is not zero, is out of range
+-- a numeral is out of range if it is read as an infinity, or as zero though it is not zero
 abbrev pub is_out_of_range : Parts → Float → Bool
 is_out_of_range p x = has_digits p && (float_is_infinite x || (eq x float_zero && has_nonzero p))
 
--- the value of the text: that of the numeral or word which all of it is, unless it is out of range
+-- the value of the text: that of the numeral or the word that the whole text is, unless it is out of range
 abbrev pub float_of : Format → List ℕ → Option Float
 float_of f s =
     option_and_then (λ x. if is_out_of_range (scan_numeral (without_sign s)) x then None else Some x) (parse_float f s)

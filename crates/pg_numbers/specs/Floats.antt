@@ -14,11 +14,11 @@ is_float4 = is_catalog_type (codes "float4") 700
 abbrev pub is_float8 : Content → Bool
 is_float8 = is_catalog_type (codes "float8") 701
 
--- the number of these bits; NaN is none
+-- the number of these bits, if it is not NaN
 abbrev pub number_of : Format → ℕ → Option Float
 number_of f bits = if is_nan (from_bits f bits) then None else Some (from_bits f bits)
 
--- the order of two values (float8_cmp_internal): that of their numbers, where -0 equals 0; NaN equals NaN, and is greater
--- than each number
+-- the order of two values (float8_cmp_internal): that of their numbers, where -0 equals 0; NaN equals NaN, and is
+-- greater than each number
 abbrev pub float_cmp : Format → ℕ → ℕ → Ordering
 float_cmp f v w = nan_last_cmp (from_bits f v) (from_bits f w)

@@ -6,3 +6,4 @@ pub mod Laws
 pub mod Numeric
 pub mod NumericCells
 pub mod NumericOrder
+pub mod NumericTexts

@@ -1,5 +1,5 @@
--- Cells of NUMERIC (numeric_send, numeric_recv): in two bytes each, big-endian, how many digits there are, the weight of
--- the first, the sign and the scale, and then the digits.
+-- Cells of NUMERIC (numeric_send, numeric_recv): the number of digits, the weight of the first, the sign, the scale and
+-- the digits, each in 2 bytes, big-endian.
 use Rattle.std.specs.Prelude.{◌≡◌, ℕ, ◌*◌, suc, ◌==◌, ◌||◌, ℤ, pos, List, [], ◌∷◌, ◌++◌, length, drop, slice_index}
 use Rattle.std.specs.Prelude.{Bool, true}
 use Rattle.std.specs.Prelude.{false, nat_le, if◌then◌else◌, Option, Some, None, Ok, Err, codes}
@@ -16,12 +16,12 @@ use Rattle.pg_numbers.specs.Numeric.{Parts, parts, canonical, is_number, are_dig
 use Rattle.pg_numbers.specs.declared.numeric.Numeric.{Numeric}
 use Rattle.pg_numbers.specs.declared.numeric.Numeric.TheVariants.{NaN, Infinity, NegativeInfinity, Finite}
 
--- how many bytes stand before the digits
+-- the length of the header, which is before the digits
 abbrev pub head_len : ℕ
 head_len = 8
 
--- the signs: of a number that is not negative, of one that is, of NaN and of the infinities (NUMERIC_POS, NUMERIC_NEG,
--- NUMERIC_NAN, NUMERIC_PINF, NUMERIC_NINF)
+-- the signs: of a number that is not negative, of a negative one, of NaN and of the infinities (NUMERIC_POS,
+-- NUMERIC_NEG, NUMERIC_NAN, NUMERIC_PINF, NUMERIC_NINF)
 abbrev pub positive_sign : ℕ
 positive_sign = 0
 
@@ -37,17 +37,17 @@ infinity_sign = 0xD000
 abbrev pub negative_infinity_sign : ℕ
 negative_infinity_sign = 0xF000
 
--- the scale that the cells of the infinities are written with, which is not looked at in reading
+-- the scale of the cells in which infinities are written; in reading it is ignored
 abbrev pub infinity_scale : ℕ
 infinity_scale = 32
 
 -- ---- what a cell states
 
--- the number without a sign that two bytes spell
+-- the unsigned number of two bytes
 abbrev pub number_at : List ℕ → ℕ → ℕ
 number_at b at = from_be_bytes w16 (slice_index b at ∷ slice_index b (suc at) ∷ [])
 
--- the numbers that bytes spell, two bytes each
+-- the unsigned numbers of bytes, two bytes each
 abbrev pub numbers_in : List ℕ → List ℕ
 numbers_in [] = []
 numbers_in (_ ∷ []) = []
@@ -68,11 +68,11 @@ scale_in b = number_at b 6
 abbrev pub digits_in : List ℕ → List ℕ
 digits_in b = numbers_in (drop head_len b)
 
--- the parts of a cell of that sign
+-- the parts of a cell
 abbrev pub stated : List ℕ → Parts
 stated b = parts (sign_in b == negative_sign) (weight_in b) (scale_in b) (digits_in b)
 
--- the value of a sign and parts: the parts count for a number alone
+-- the value of a sign and parts; the parts of NaN and the infinities are ignored
 abbrev pub value_of : ℕ → Parts → Numeric
 value_of sign p =
     if sign == nan_sign then NaN else if sign == infinity_sign then Infinity
@@ -84,12 +84,13 @@ is_sign sign =
     sign == positive_sign || sign == negative_sign || sign == nan_sign || sign == infinity_sign
     || sign == negative_infinity_sign
 
--- the fault of a sign that numeric_recv refuses
+-- the fault with which numeric_recv refuses a sign
 abbrev pub invalid_sign : Refusal
 invalid_sign = user (codes "invalid sign in external numeric value")
 
--- the checks of NUMERIC: fewer than eight bytes are Size; then another sign than the five, and a scale of more than
--- 16,383, is User; another number of bytes than the digits take is Size; and a digit of more than 9,999 is User
+-- the checks of NUMERIC: fewer than 8 bytes are refused with Size; then another sign than the five, and a scale greater
+-- than 16,383, with User; a length that does not fit the number of digits with Size; and a digit greater than 9,999
+-- with User
 abbrev pub numeric_checks : List ℕ → Checks
 numeric_checks b =
     (nat_le head_len (length b), size)
@@ -102,7 +103,7 @@ numeric_checks b =
 abbrev pub first_fault_numeric : List ℕ → Option Refusal
 first_fault_numeric b = first_fault_of (numeric_checks b)
 
--- NUMERIC: the bytes pass the checks, and the value is the one of what they state
+-- NUMERIC: the bytes pass the checks, and the value is that of their sign and parts
 abbrev pub FormNumeric : List ℕ → Numeric → Type 0
 FormNumeric b v = (first_fault_numeric b ≡ None) × (v ≡ value_of (sign_in b) (stated b))
 
@@ -117,7 +118,7 @@ abbrev pub digit_bytes : List ℕ → List ℕ
 digit_bytes [] = []
 digit_bytes (digit ∷ digits) = to_be_bytes w16 digit ++ digit_bytes digits
 
--- the bytes before the digits
+-- the header
 abbrev pub head_bytes : ℕ → ℤ → ℕ → ℕ → List ℕ
 head_bytes count weight sign scale =
     to_be_bytes w16 count ++ (be w16 weight ++ (to_be_bytes w16 sign ++ to_be_bytes w16 scale))
@@ -138,14 +139,14 @@ numeric_bytes Infinity = head_bytes 0 (pos 0) infinity_sign infinity_scale
 numeric_bytes NegativeInfinity = head_bytes 0 (pos 0) negative_infinity_sign infinity_scale
 numeric_bytes (Finite p) = number_bytes p
 
--- whether a value is one of a `Numeric`
+-- whether a value is one that a `Numeric` can have
 abbrev pub is_numeric : Numeric → Bool
 is_numeric NaN = true
 is_numeric Infinity = true
 is_numeric NegativeInfinity = true
 is_numeric (Finite p) = is_number p
 
--- the cell of a value: its bytes, or Transmit where the parts are not those of a number, which a `Numeric` never holds
+-- the cell of a value: its bytes; or Transmit if the parts are not those of a number, which is never so for a `Numeric`
 abbrev pub wire_numeric : Numeric → Wire
 wire_numeric v = if is_numeric v then Ok (Some (numeric_bytes v)) else Err transmit
 
@@ -153,7 +154,7 @@ wire_numeric v = if is_numeric v then Ok (Some (numeric_bytes v)) else Err trans
 abbrev pub accepted_numeric : Content → Bool
 accepted_numeric = is_catalog_type (codes "numeric") 1700
 
--- the number of a value has the scale of the parts, and counts for as many units
+-- the number of a value has the scale and the value of the parts
 abbrev pub CountsAsStated : Parts → Numeric → Type 0
 CountsAsStated p NaN = Unit {0}
 CountsAsStated p Infinity = Unit {0}

@@ -1,7 +1,8 @@
 //! FLOAT4 and FLOAT8.
 //!
-//! A value is the bits of an IEEE 754 number, in 32 or 64 bits, and every bit pattern is a value: both zeros, both
-//! infinities, and each NaN with its sign and payload, so that what is read is written back byte for byte.
+//! A value is the bits of an IEEE 754 number, in 32 or 64 bits. Every bit pattern is a value: both
+//! zeros, both infinities, and each NaN with its sign and payload. So what is read is written back
+//! byte for byte.
 
 mod decimal;
 mod float4;

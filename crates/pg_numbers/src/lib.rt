@@ -1,5 +1,5 @@
-//! NUMERIC, FLOAT4 and FLOAT8, as types of a user's own: made by `Type::new`, with the traits and the laws of the
-//! library.
+//! NUMERIC, FLOAT4 and FLOAT8, as types that a user adds: each Postgres type is made by
+//! `Type::new`, and each Rust type has the traits and the laws of the library.
 #![tactic(auto)]
 
 mod catalog;

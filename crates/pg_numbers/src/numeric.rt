@@ -25,23 +25,23 @@ const BASE: u16 = 10_000;
 /// The greatest scale of a number.
 pub const MAX_SCALE: u16 = 16_383;
 
-/// The most digits of a number, as a cell states it.
+/// The greatest number of digits that a cell can have.
 const MAX_DIGITS: usize = 65_535;
 
 /// A value of NUMERIC.
 #[derive(Debug, Drop)]
 pub enum Numeric {
-    /// No number. It equals itself, and is greater than every other value.
+    /// Not a number. It equals itself, and is greater than every other value.
     NaN,
     /// `Infinity`, which is greater than every number.
     Infinity,
     /// `-Infinity`, which is less than every number.
     NegativeInfinity,
-    /// A number.
+    /// A finite number.
     Finite(Decimal),
 }
 
-/// A decimal number, and how many of its decimals are shown.
+/// A decimal number, with a scale: the number of digits after the decimal point.
 #[derive(Debug, Drop)]
 pub struct Decimal {
     negative: bool,
@@ -50,7 +50,7 @@ pub struct Decimal {
     digits: Vec<u16>,
 }
 
-/// Contracts see the parts.
+/// In contracts, a value is its parts.
 impl Model for Decimal {
     ghost use Rattle.std.specs.Prelude.{◌≡◌, true};
     ghost use Rattle.pg_numbers.specs.Numeric.{Parts, is_number, parts};
@@ -63,12 +63,15 @@ impl Model for Decimal {
 }
 
 impl Decimal {
-    /// The number of these parts: the digits to the base 10,000, of which the first counts for 10,000
-    /// to the power `weight`, and so many decimals that are shown. Without digits it is 0.
+    /// Creates the number of a sign, a weight, a scale and base-10,000 digits. A digit is worth its
+    /// value times 10,000 to a power, which is `weight` for the first digit and one less for each
+    /// further one. `scale` is the number of decimal digits after the point. Without digits the
+    /// number is 0.
     ///
-    /// A scale of more than 16,383 is `User`, more than 65,535 digits are `Transmit`, and a digit of
-    /// more than 9,999 is `User`. As in a cell, decimals that the scale does not show are left out,
-    /// and zeros before the first digit and after the last one.
+    /// A scale greater than 16,383 is refused with `User`, then more than 65,535 digits with
+    /// `Transmit`, and then a digit greater than 9,999 with `User`. As in a cell, decimal digits
+    /// that exceed the scale are truncated, and zeros before the first digit and after the last one
+    /// are removed.
     pub fn new(
         alloc: Global,
         negative: bool,
@@ -91,8 +94,8 @@ impl Decimal {
         Ok(Decimal::from_parts(negative, weight, scale, digits))
     }
 
-    /// The number with these digits, of which the first has that weight, without the decimals that the
-    /// scale does not show.
+    /// Returns the number of these digits, of which the first has that weight. Decimal digits that
+    /// exceed the scale are truncated.
     fn from_parts(negative: bool, weight: i16, scale: u16, mut digits: Vec<u16>) -> Decimal
         requires digits { are_digits digits.items ≡ true }
         requires short { length digits.items ≤ max_digits }
@@ -103,8 +106,8 @@ impl Decimal {
         Decimal::from_digits(negative, i32::from(weight) - zeros as i32, scale, digits)
     }
 
-    /// The number with these digits, of which the first is not 0, without the decimals that the
-    /// scale does not show.
+    /// Returns the number of these digits, of which the first is not 0. Decimal digits that exceed
+    /// the scale are truncated.
     fn from_digits(negative: bool, weight: i32, scale: u16, mut digits: Vec<u16>) -> Decimal
         requires digits { are_digits digits.items ≡ true }
         requires short { length digits.items ≤ max_digits }
@@ -140,22 +143,21 @@ impl Decimal {
         self.negative
     }
 
-    /// The power of 10,000 for which the first digit counts.
+    /// Returns the weight: the power of 10,000 that the first digit is multiplied by.
     pub fn weight(&self) -> i16
         ensures { result ≡ self.now.weight }
     {
         self.weight
     }
 
-    /// How many decimals are shown after the point.
+    /// Returns the scale: the number of decimal digits after the point.
     pub fn scale(&self) -> u16
         ensures { result ≡ self.now.scale }
     {
         self.scale
     }
 
-    /// The digits to the base 10,000, of which neither the first nor the last is 0. The number 0 has
-    /// none.
+    /// Returns the base-10,000 digits. Neither the first nor the last is 0. The number 0 has none.
     pub fn digits(&self) -> &[u16]
         ensures digits { result.now ≡ self.now.digits }
         ensures number { is_number self.now ≡ true }
@@ -164,28 +166,28 @@ impl Decimal {
     }
 }
 
-/// The fault of a scale of more than 16,383.
+/// Returns the fault of a scale greater than 16,383.
 fn invalid_scale() -> Fault
     ensures { refusal_of result ≡ Some invalid_scale }
 {
     Fault::user("invalid scale in external numeric value")
 }
 
-/// The fault of a digit of more than 9,999.
+/// Returns the fault of a digit greater than 9,999.
 fn invalid_digit() -> Fault
     ensures { refusal_of result ≡ Some invalid_digit }
 {
     Fault::user("invalid digit in external numeric value")
 }
 
-/// Whether each is a digit to the base 10,000.
+/// Whether each is a base-10,000 digit.
 fn are_digits(digits: &[u16]) -> bool
     ensures { result ≡ are_digits digits.now }
 {
     digits.iter().all(|digit| *digit < BASE)
 }
 
-/// Removes the zeros at the front, and answers how many they were.
+/// Removes the zeros at the front and returns how many there were.
 fn trim_start(digits: &mut Vec<u16>) -> usize
     ensures zeros { result ≡ leading_zeros digits.old.items }
     ensures digits { digits.new.items ≡ drop result digits.old.items }
@@ -195,7 +197,7 @@ fn trim_start(digits: &mut Vec<u16>) -> usize
     zeros
 }
 
-/// Replaces the decimals that the scale does not show by zeros.
+/// Replaces the decimal digits that exceed the scale by zeros.
 fn hide(weight: i32, scale: u16, digits: &mut [u16])
     requires digits { are_digits digits.old ≡ true }
     requires short { length digits.old ≤ max_digits }
@@ -207,7 +209,7 @@ fn hide(weight: i32, scale: u16, digits: &mut [u16])
     }
 }
 
-/// How many decimals of a digit of that weight lie after the last one that the scale shows.
+/// Returns how many of the decimal digits of a base-10,000 digit of that weight exceed the scale.
 fn hidden(weight: i32, scale: u16) -> u32
     requires { negsuc 300000 ≤ℤ weight }
     ensures { result ≡ hidden weight scale }
@@ -219,7 +221,7 @@ fn hidden(weight: i32, scale: u16) -> u32
     decimals.saturating_sub(scale.into())
 }
 
-/// The digit without its last decimals, so many of them.
+/// Returns the digit with its last `count` decimal digits replaced by zeros.
 fn without_decimals(digit: u16, count: u32) -> u16
     requires { digit < base }
     ensures { result ≡ without_decimals count digit }

@@ -1,4 +1,4 @@
-//! The Postgres types of NUMERIC, FLOAT4 and FLOAT8, and of their arrays, as a server's catalog has them.
+//! The Postgres types of NUMERIC, FLOAT4 and FLOAT8 and of their arrays, as in a server's catalog.
 ghost use Rattle.std.specs.Prelude.{◌≡◌, IfOk, codes};
 ghost use Rattle.pg_types.specs.Content.{ArrayKind, SimpleKind, content};
 ghost use Rattle.pg_numbers.specs.CatalogTypes.{catalog_type};
@@ -7,28 +7,28 @@ use crate::catalog::catalog_type;
 use postgres_types::{Fault, Kind, Type};
 use std::alloc::Global;
 
-/// NUMERIC.
+/// Creates the type NUMERIC.
 pub fn numeric_type(alloc: Global) -> Result<Type, Fault>
     ensures { IfOk result (λ ty. content ty ≡ catalog_type (codes "numeric") 1700 SimpleKind) }
 {
     catalog_type(alloc, "numeric", 1700, Kind::Simple)
 }
 
-/// FLOAT4.
+/// Creates the type FLOAT4.
 pub fn float4_type(alloc: Global) -> Result<Type, Fault>
     ensures { IfOk result (λ ty. content ty ≡ catalog_type (codes "float4") 700 SimpleKind) }
 {
     catalog_type(alloc, "float4", 700, Kind::Simple)
 }
 
-/// FLOAT8.
+/// Creates the type FLOAT8.
 pub fn float8_type(alloc: Global) -> Result<Type, Fault>
     ensures { IfOk result (λ ty. content ty ≡ catalog_type (codes "float8") 701 SimpleKind) }
 {
     catalog_type(alloc, "float8", 701, Kind::Simple)
 }
 
-/// Arrays of NUMERIC.
+/// Creates the type of arrays of NUMERIC.
 pub fn numeric_array_type(alloc: Global) -> Result<Type, Fault>
     ensures { IfOk result (λ ty. content ty
         ≡ catalog_type (codes "_numeric") 1231 (ArrayKind (catalog_type (codes "numeric") 1700 SimpleKind))) }
@@ -37,7 +37,7 @@ pub fn numeric_array_type(alloc: Global) -> Result<Type, Fault>
     catalog_type(alloc, "_numeric", 1231, Kind::Array(numeric))
 }
 
-/// Arrays of FLOAT4.
+/// Creates the type of arrays of FLOAT4.
 pub fn float4_array_type(alloc: Global) -> Result<Type, Fault>
     ensures { IfOk result (λ ty. content ty
         ≡ catalog_type (codes "_float4") 1021 (ArrayKind (catalog_type (codes "float4") 700 SimpleKind))) }
@@ -46,7 +46,7 @@ pub fn float4_array_type(alloc: Global) -> Result<Type, Fault>
     catalog_type(alloc, "_float4", 1021, Kind::Array(float4))
 }
 
-/// Arrays of FLOAT8.
+/// Creates the type of arrays of FLOAT8.
 pub fn float8_array_type(alloc: Global) -> Result<Type, Fault>
     ensures { IfOk result (λ ty. content ty
         ≡ catalog_type (codes "_float8") 1022 (ArrayKind (catalog_type (codes "float8") 701 SimpleKind))) }

@@ -26,7 +26,7 @@ use Rattle.pg_numbers.specs.declared.numeric.Numeric.{Numeric}
 use Rattle.pg_numbers.specs.declared.numeric.Numeric.TheVariants.{NaN, Infinity, NegativeInfinity, Finite}
 
 -- ---- checks
--- what bytes that pass the other checks have for a fault
+-- the fault of bytes that pass all checks but that of the digits
 pub checks_of : (b : List ℕ) → head_len ≤ length b → is_sign (sign_in b) ≡ true → scale_in b ≤ max_scale
     → length (drop head_len b) ≡ 2 * count_in b
     → first_fault_numeric b ≡ (if are_digits (digits_in b) then None else Some invalid_digit)
@@ -38,7 +38,7 @@ checks_of b long sign scale whole =
       eq-eqb (length (drop head_len b)) (2 * count_in b) whole,
     ) refl
 
--- bytes that pass each check
+-- bytes that pass each check have no fault
 pub passes_checks : (b : List ℕ) → head_len ≤ length b → is_sign (sign_in b) ≡ true → scale_in b ≤ max_scale
     → length (drop head_len b) ≡ 2 * count_in b → are_digits (digits_in b) ≡ true → first_fault_numeric b ≡ None
 passes_checks b long sign scale whole digits = checks_of b long sign scale whole ∙ rw digits refl
@@ -116,7 +116,7 @@ sign_negative : (negative : Bool) → (sign_of negative == negative_sign) ≡ ne
 sign_negative true = refl
 sign_negative false = refl
 
--- the bytes of a number spell it
+-- the bytes of a number are a cell of it
 number_spelled : (p : Parts) → IsNumber p → FormNumeric (number_bytes p) (Finite p)
 number_spelled p h =
     let b = number_bytes p in

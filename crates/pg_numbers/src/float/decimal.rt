@@ -1,7 +1,8 @@
-//! The shortest decimal of a number, as PostgreSQL picks it.
+//! The shortest decimal of a number, as PostgreSQL chooses it.
 //!
-//! `ryu` gives the shortest that reads back as the number. PostgreSQL makes no use of a decimal that is halfway between
-//! two numbers, which reads back by the rule of a tie: it writes `9.999999999999999e+22` where `ryu` writes `1e23`.
+//! `ryu` gives the shortest decimal that reads back as the number. That decimal may lie halfway
+//! between two numbers: then the rule for ties reads it back. PostgreSQL does not use such a
+//! decimal: it writes `9.999999999999999e+22` if `ryu` writes `1e23`.
 ghost use Rattle.std.specs.Float.{NotNan};
 
 use ryu::Float;
@@ -13,14 +14,15 @@ pub(crate) struct Decimal {
     pub(crate) exponent: i32,
 }
 
-/// The number `significand * 2 ^ exponent`, where that is a whole one.
+/// The number `significand * 2 ^ exponent`, where that is an integer.
 #[derive(Clone, Copy)]
 pub(crate) struct Binary {
     significand: u64,
     exponent: u64,
 }
 
-/// The decimal of a numeral, without its sign, whose digits end in no 0; those of zero are one 0.
+/// Returns the decimal of a numeral, without its sign. The last digit is not 0, except if the
+/// number is zero: then the digits are one 0.
 pub(crate) fn decimal_of(numeral: &str) -> Decimal {
     let (number, exponent) = numeral.split_once('e').unwrap_or((numeral, "0"));
     let mut digits = 0u64;
@@ -39,7 +41,7 @@ pub(crate) fn decimal_of(numeral: &str) -> Decimal {
     without_zeros(Decimal { digits, exponent })
 }
 
-/// The same number, whose digits end in no 0.
+/// Returns the same number without zeros at the end of its digits.
 fn without_zeros(decimal: Decimal) -> Decimal {
     let Decimal {
         mut digits,
@@ -61,7 +63,7 @@ fn without_zeros(decimal: Decimal) -> Decimal {
     Decimal { digits, exponent }
 }
 
-/// The significand and the exponent of a number, without its sign.
+/// Returns the significand and the exponent of a number, without its sign.
 pub(crate) fn size_of<F: Float>(x: F) -> Binary
     requires { NotNan (F.value x) }
 {
@@ -73,9 +75,10 @@ pub(crate) fn size_of<F: Float>(x: F) -> Binary
     }
 }
 
-/// The shortest decimal that is nearer to the number than to another one, given the shortest that reads back as it.
+/// Given the shortest decimal that reads back as the number, returns the shortest one that is
+/// nearer to it than to any other number.
 ///
-/// The two differ only where the number is whole, and the decimal has fewer digits than it.
+/// The two differ only where the number is an integer, and the decimal has fewer digits than it.
 pub(crate) fn nearer(decimal: Decimal, number: Binary) -> Decimal {
     let Some(is_above) = halfway(decimal, number) else {
         return decimal;
@@ -83,7 +86,7 @@ pub(crate) fn nearer(decimal: Decimal, number: Binary) -> Decimal {
     let twos = decimal.digits.trailing_zeros();
     let zeros = decimal.exponent.unsigned_abs();
     for more in 1..=zeros {
-        // With `more` digits more, the number is so far from the decimal.
+        // This is the distance of the number from the decimal if that has `more` digits more.
         let numerator = 1u128.checked_shl(twos + more).unwrap_or(0);
         let distance = nearest(numerator, 5u128.saturating_pow(zeros - more));
         if distance != 0 {
@@ -101,9 +104,10 @@ pub(crate) fn nearer(decimal: Decimal, number: Binary) -> Decimal {
     decimal
 }
 
-/// Whether the decimal is halfway to the next number, and then whether that is above.
+/// If the decimal is halfway to an adjacent number, returns whether it is above the number.
 ///
-/// Then it is `(2 * significand + 1) * 2 ^ (exponent - 1)`, or the same with `- 1`.
+/// Then it is `(2 * significand + 1) * 2 ^ (exponent - 1)` if it is above, and the same with `- 1`
+/// if it is below.
 fn halfway(decimal: Decimal, number: Binary) -> Option<bool> {
     let fives = 5u64.checked_pow(u32::try_from(decimal.exponent).ok()?)?;
     let twos = decimal.digits.trailing_zeros();
@@ -121,7 +125,7 @@ fn halfway(decimal: Decimal, number: Binary) -> Option<bool> {
     }
 }
 
-/// The whole number nearest to a fraction.
+/// The integer nearest to a fraction.
 fn nearest(numerator: u128, denominator: u128) -> u64 {
     let half_up = numerator.saturating_mul(2).saturating_add(denominator);
     match half_up.checked_div(denominator.saturating_mul(2)) {

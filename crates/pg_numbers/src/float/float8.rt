@@ -6,7 +6,7 @@ ghost use Rattle.pg_base.proofs.LsnLaws.{lsn_grammar};
 ghost use Rattle.pg_base.specs.Numbers.{FormUnsigned, ReadsUnsigned, first_fault_number, wire_unsigned};
 ghost use Rattle.pg_numbers.specs.Floats.{is_float8, number_of};
 ghost use Rattle.postgres_types.specs.Conversion.{BackKept, EveryCell, codes, equal_equivalence, plain_single, refl};
-ghost use Rattle.postgres_types.specs.Laws.FormatBack.{unsigned_lawful};
+ghost use Rattle.postgres_types.specs.Laws.NumberBack.{unsigned_lawful};
 
 use crate::catalog::is_catalog_type;
 use postgres_types::private::BytesMut;
@@ -16,7 +16,7 @@ use std::alloc::Global;
 use std::marker::Model;
 use std::num::{f64_from_bits_with_nan, f64_to_bits_with_nan};
 
-/// A value of FLOAT8: the bits of an IEEE 754 number of 64 bits, each NaN with its sign and payload.
+/// A value of FLOAT8: the 64 bits of an IEEE 754 number. A NaN has a sign and a payload.
 #[derive(Clone, Copy)]
 pub struct Float8(u64);
 
@@ -29,28 +29,29 @@ impl Model for Float8 {
 }
 
 impl Float8 {
-    /// The value of these bits: the sign, the exponent and the fraction, from the most significant bit on.
+    /// Returns the value of these bits: from the most significant bit on, the sign, the exponent
+    /// and the fraction.
     pub fn from_bits(bits: u64) -> Float8
         ensures { result ≡ bits }
     {
         Float8(bits)
     }
 
-    /// The bits of the value.
+    /// Returns the bits of the value.
     pub fn to_bits(self) -> u64
         ensures { result ≡ self }
     {
         self.0
     }
 
-    /// Whether the value is NaN, of either sign and any payload.
+    /// Whether the value is NaN, with any sign and payload.
     pub fn is_nan(self) -> bool
         ensures { result ≡ is_nan (from_bits binary64 self) }
     {
         f64_from_bits_with_nan(self.0).is_nan()
     }
 
-    /// The number, which may be an infinity; NaN is `None`.
+    /// Returns the number, which may be an infinity, or `None` if the value is NaN.
     pub fn get(self) -> Option<f64>
         ensures { result ≡ number_of binary64 self }
     {
@@ -59,8 +60,8 @@ impl Float8 {
     }
 }
 
-/// The bits of the number; NaN, which has no sign and no payload in Rattle, is the quiet NaN of a clear sign, as
-/// PostgreSQL writes it.
+/// Creates the value of the number. A NaN of Rattle has no sign and no payload: it becomes the
+/// quiet NaN whose sign bit is clear, as PostgreSQL writes it.
 impl From<f64> for Float8 {
     ghost from_gives = { λ x v. v ≡ to_bits binary64 x };
 
@@ -69,7 +70,7 @@ impl From<f64> for Float8 {
     }
 }
 
-/// The number of these bits; a NaN loses its sign and payload.
+/// Creates the number of the value. A NaN loses its sign and payload.
 impl From<Float8> for f64 {
     ghost from_gives = { λ v x. x ≡ from_bits binary64 v };
 
@@ -78,9 +79,10 @@ impl From<Float8> for f64 {
     }
 }
 
-/// FLOAT8: 8 bytes, the bits big-endian (`float8recv`). Any other length is `Size`, and NULL is `WasNull`.
+/// Reads FLOAT8: 8 bytes, the bits of the number, big-endian (`float8recv`). Any other length is
+/// refused with `Size`, and NULL with `WasNull`.
 ///
-/// It accepts the type named `float8` in the schema `pg_catalog`, with the OID 701, of kind Simple.
+/// It accepts the simple type `float8` in the schema `pg_catalog`, with the OID 701.
 impl<'a> FromSql<'a> for Float8 {
     ghost same = { λ v w. v ≡ w };
 
@@ -107,7 +109,7 @@ impl<'a> FromSql<'a> for Float8 {
     }
 }
 
-/// The same type: 8 bytes, the bits big-endian (`float8send`).
+/// Writes FLOAT8: 8 bytes, the bits of the number, big-endian (`float8send`).
 impl ToSql for Float8 {
     ghost accepted = { is_float8 };
 

@@ -1,4 +1,5 @@
-//! Equality and order, as PostgreSQL's: -0 equals 0, NaN equals NaN, and NaN is greater than each number.
+//! The equality and the order of PostgreSQL: -0 equals 0, NaN equals NaN, and NaN is greater than
+//! each number.
 ghost use Rattle.std.specs.Prelude.{◌≡◌, Some, from_bits};
 ghost use Rattle.std.specs.Cmp.{eq_by_cmp_equiv, on_total, partial_equiv_from_equiv, partial_order_from_total};
 ghost use Rattle.std.specs.Float.{binary32, binary64, float_key};
@@ -13,7 +14,7 @@ use super::{Float4, Float8};
 use std::cmp::{OrderedFloat, Ordering};
 use std::hash::{Hash, Hasher};
 
-/// Equal numbers, and NaN and NaN, are equal (`float4eq`).
+/// Values are equal if their numbers are, and NaN equals NaN (`float4eq`).
 impl PartialEq for Float4 {
     ghost eq = { λ v w. is_eq (float_cmp binary32 v w) };
 
@@ -38,7 +39,7 @@ impl PartialOrd for Float4 {
     }
 }
 
-/// The order of a B-tree index (`btfloat4cmp`): that of the numbers, and then NaN.
+/// The order of a B-tree index (`btfloat4cmp`): the numbers in their order, and then NaN.
 impl Ord for Float4 {
     ghost cmp = { float_cmp binary32 };
 
@@ -53,7 +54,7 @@ impl Ord for Float4 {
     }
 }
 
-/// Equal values have one hash.
+/// Equal values have the same hash.
 impl Hash for Float4 {
     ghost hash_input = { λ v. fed.u32 (float_key binary32 (from_bits binary32 v)) };
 
@@ -64,7 +65,7 @@ impl Hash for Float4 {
     }
 }
 
-/// Equal numbers, and NaN and NaN, are equal (`float8eq`).
+/// Values are equal if their numbers are, and NaN equals NaN (`float8eq`).
 impl PartialEq for Float8 {
     ghost eq = { λ v w. is_eq (float_cmp binary64 v w) };
 
@@ -89,7 +90,7 @@ impl PartialOrd for Float8 {
     }
 }
 
-/// The order of a B-tree index (`btfloat8cmp`): that of the numbers, and then NaN.
+/// The order of a B-tree index (`btfloat8cmp`): the numbers in their order, and then NaN.
 impl Ord for Float8 {
     ghost cmp = { float_cmp binary64 };
 
@@ -104,7 +105,7 @@ impl Ord for Float8 {
     }
 }
 
-/// Equal values have one hash.
+/// Equal values have the same hash.
 impl Hash for Float8 {
     ghost hash_input = { λ v. fed.u64 (float_key binary64 (from_bits binary64 v)) };
 

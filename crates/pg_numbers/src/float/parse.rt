@@ -1,4 +1,4 @@
-//! FLOAT4 and FLOAT8 from texts.
+//! Parsing of FLOAT4 and FLOAT8.
 ghost use Rattle.std.specs.Prelude.{◌≡◌, option_map, to_bits};
 ghost use Rattle.std.specs.Float.{binary32, binary64, float_zero};
 ghost use Rattle.std.specs.Float.Ieee.{eq};
@@ -12,13 +12,14 @@ use super::{Float4, Float8};
 use fast_float::Numeral;
 use std::str::FromStr;
 
-/// A text that is no value of the type.
+/// The error of a text that is not a value of the type.
 #[derive(Debug, Drop)]
 pub struct ParseFloatError(());
 
-/// Parses a numeral, which is rounded to the nearest number, or `NaN`, `inf` or `infinity` in any case, each after a sign
-/// or none (`float4in`). As there, a numeral is refused that is rounded to an infinity, or to zero though it is not zero.
-/// NaN is the quiet NaN of a clear sign. Unlike `float4in` it takes no white space, no hexadecimal numeral and no payload.
+/// Parses a numeral, which is rounded to the nearest number, or `NaN`, `inf` or `infinity` in any
+/// case, each after a sign or none (`float4in`). As there, a numeral is refused that is rounded to an
+/// infinity, or to zero though it is not zero. NaN is the quiet NaN of a clear sign. Unlike
+/// `float4in` it takes no white space, no hexadecimal numeral and no payload.
 impl FromStr for Float4 {
     type Err = ParseFloatError;
 
@@ -31,7 +32,7 @@ impl FromStr for Float4 {
     }
 }
 
-/// Parses a text as that of a [`Float4`] (`float8in`).
+/// Parses a text as [`Float4`] does, with the range of FLOAT8 (`float8in`).
 impl FromStr for Float8 {
     type Err = ParseFloatError;
 
@@ -44,7 +45,7 @@ impl FromStr for Float8 {
     }
 }
 
-/// The FLOAT4 of a text.
+/// Returns the FLOAT4 of a text.
 fn float4_of(text: &[u8]) -> Option<f32>
     ensures { result ≡ float_of binary32 text.now }
 {
@@ -55,7 +56,7 @@ fn float4_of(text: &[u8]) -> Option<f32>
     Some(x)
 }
 
-/// The FLOAT8 of a text.
+/// Returns the FLOAT8 of a text.
 fn float8_of(text: &[u8]) -> Option<f64>
     ensures { result ≡ float_of binary64 text.now }
 {
@@ -66,28 +67,29 @@ fn float8_of(text: &[u8]) -> Option<f64>
     Some(x)
 }
 
-/// Whether the number is zero, of either sign.
+/// Whether the number is 0 or -0.
 pub(super) fn is_zero_f32(x: f32) -> bool
     ensures { result ≡ eq x float_zero }
 {
     x == 0.0
 }
 
-/// Whether the number is zero, of either sign.
+/// Whether the number is 0 or -0.
 pub(super) fn is_zero_f64(x: f64) -> bool
     ensures { result ≡ eq x float_zero }
 {
     x == 0.0
 }
 
-/// Whether the text, after its sign, is a numeral, where it is a numeral or a word.
+/// Whether the text, after its sign, is a numeral and not a word. The text is known to be one of
+/// them.
 fn has_digits(text: &[u8]) -> bool
     ensures { result ≡ has_digits (scan_numeral (without_sign text.now)) }
 {
     Numeral::scan(without_sign(text)).has_digits()
 }
 
-/// Whether a digit of the numeral, before its exponent, is not 0.
+/// Whether a digit of the numeral is not 0, without the exponent.
 fn has_nonzero(text: &[u8]) -> bool
     ensures { result ≡ has_nonzero (scan_numeral (without_sign text.now)) }
 {
@@ -95,14 +97,14 @@ fn has_nonzero(text: &[u8]) -> bool
     any_nonzero(numeral.whole()) || any_nonzero(numeral.fraction())
 }
 
-/// Whether a digit is not 0.
+/// Whether one of the digits is not 0.
 fn any_nonzero(digits: &[u8]) -> bool
     ensures { result ≡ list_any is_nonzero digits.now }
 {
     digits.iter().any(|digit| *digit != b'0')
 }
 
-/// The text after its sign, if it has one.
+/// Returns the text after its sign, if it has one.
 fn without_sign(text: &[u8]) -> &[u8]
     ensures { result.now ≡ without_sign text.now }
 {

@@ -14,15 +14,15 @@ use std::fmt;
 use std::fmt::Write;
 use std::num::{f32_from_bits_with_nan, f64_from_bits_with_nan};
 
-/// How many bytes a text has at most.
+/// The greatest length in bytes of a text.
 pub const TEXT_LEN: usize = 32;
 
-/// The text of a value, which takes no memory.
+/// The text of a value. It is on the stack: making it does not allocate.
 pub type FloatText = ArrayString<TEXT_LEN>;
 
 impl Float4 {
-    /// The text of the value, as `float4out` writes it where `extra_float_digits` is 1 or more, which is the default:
-    /// as that of [`Float8`], with an exponent from 10^6 on.
+    /// Returns the text of the value, as `float4out` writes it if `extra_float_digits` is 1 or
+    /// more, which is the default. It is as that of [`Float8`], but with an exponent from 10^6 on.
     pub fn text(self) -> FloatText
         ensures reads { float_of binary32 result.bytes ≡ Some (from_bits binary32 self) }
         ensures words { IfSome (word_of (from_bits binary32 self)) (λ word. result.bytes ≡ word) }
@@ -32,9 +32,10 @@ impl Float4 {
 }
 
 impl Float8 {
-    /// The text of the value, as `float8out` writes it where `extra_float_digits` is 1 or more, which is the default:
-    /// the shortest decimal that is nearer to the number than to any other one, with an exponent of two digits at
-    /// least below 10^-4 and from 10^15 on; or `NaN`, `Infinity` or `-Infinity`.
+    /// Returns the text of the value, as `float8out` writes it if `extra_float_digits` is 1 or
+    /// more, which is the default: the shortest decimal that is nearer to the number than to any
+    /// other one, or `NaN`, `Infinity` or `-Infinity`. Below 10^-4 and from 10^15 on, the decimal
+    /// has an exponent, of at least two digits.
     pub fn text(self) -> FloatText
         ensures reads { float_of binary64 result.bytes ≡ Some (from_bits binary64 self) }
         ensures words { IfSome (word_of (from_bits binary64 self)) (λ word. result.bytes ≡ word) }
@@ -43,14 +44,14 @@ impl Float8 {
     }
 }
 
-/// The text of the value.
+/// Writes the text of the value.
 impl fmt::Display for Float4 {
     fn fmt<W: fmt::Write>(&self, f: &mut fmt::Formatter<W>) -> fmt::Result {
         f.pad(self.text().as_str())
     }
 }
 
-/// The text of the value.
+/// Writes the text of the value.
 impl fmt::Display for Float8 {
     fn fmt<W: fmt::Write>(&self, f: &mut fmt::Formatter<W>) -> fmt::Result {
         f.pad(self.text().as_str())
@@ -69,7 +70,7 @@ impl fmt::Debug for Float8 {
     }
 }
 
-/// The text of a FLOAT4 of these bits.
+/// Returns the text of a FLOAT4 of these bits.
 #[tactic(auto, using(crate::proofs::FloatWords::float_texts))]
 fn float4_text(bits: u32) -> FloatText
     ensures reads { float_of binary32 result.bytes ≡ Some (from_bits binary32 bits) }
@@ -87,7 +88,7 @@ fn float4_text(bits: u32) -> FloatText
     }
 }
 
-/// The text of a FLOAT8 of these bits.
+/// Returns the text of a FLOAT8 of these bits.
 #[tactic(auto, using(crate::proofs::FloatWords::float_texts))]
 fn float8_text(bits: u64) -> FloatText
     ensures reads { float_of binary64 result.bytes ≡ Some (from_bits binary64 bits) }
@@ -105,7 +106,7 @@ fn float8_text(bits: u64) -> FloatText
     }
 }
 
-/// The text of a word after a sign or none.
+/// Returns a word, after `-` if it is negative.
 fn word(is_negative: bool, word: &'static str) -> FloatText
     requires { length word.now < TEXT_LEN }
     ensures { result.bytes ≡ sign_text is_negative ++ word.now }
@@ -118,10 +119,11 @@ fn word(is_negative: bool, word: &'static str) -> FloatText
     text
 }
 
-/// The text of a finite number, with an exponent where more than `whole_digits` digits would stand before the point, or
-/// more than 3 zeros after it.
+/// Returns the text of a finite number. It has an exponent if there would be more than
+/// `whole_digits` digits before the point, or more than 3 zeros after it.
 ///
-/// Where what is laid out does not read as the number, of which no case is known, it is the text that `ryu` writes.
+/// If the text that is laid out does not read as the number, of which no case is known, it is the
+/// text of `ryu`.
 #[tactic(auto, using(ryu::proofs::Signs::finite_number))]
 fn finite_text<F: Float>(x: F, whole_digits: i64) -> FloatText
     requires { IsTrue (float_is_finite (F.value x)) }
@@ -148,7 +150,7 @@ fn reads_as<F: Float>(text: &str, x: F) -> bool
     }
 }
 
-/// The decimal with a sign and with a point or an exponent.
+/// Returns the text of a decimal with a sign.
 fn lay_out(is_negative: bool, decimal: Decimal, whole_digits: i64) -> Option<FloatText> {
     let mut digits = ArrayString::<20>::new();
     write!(digits, "{}", decimal.digits).ok()?;
@@ -166,7 +168,8 @@ fn lay_out(is_negative: bool, decimal: Decimal, whole_digits: i64) -> Option<Flo
     Some(text)
 }
 
-/// Appends digits with a point after the first, if there are others, and an exponent, as `1.5e+20`.
+/// Appends the digits, with a point after the first one if there are more, and the exponent, as in
+/// `1.5e+20`.
 fn write_scientific(digits: &str, exponent: i64, text: &mut FloatText) -> fmt::Result {
     let first = digits.get(..1).unwrap_or("");
     let others = digits.get(1..).unwrap_or("");
@@ -174,7 +177,8 @@ fn write_scientific(digits: &str, exponent: i64, text: &mut FloatText) -> fmt::R
     write!(text, "{first}{point}{others}e{exponent:+03}")
 }
 
-/// Appends digits with the point at that place, if a fraction follows it, as `150.25`, `0.0015` and `1500`.
+/// Appends the digits, with a point at that place if a digit follows it, as in `150.25`, `0.0015`
+/// and `1500`.
 fn write_fixed(digits: &str, point: i64, text: &mut FloatText) -> fmt::Result {
     if point <= 0 {
         let zeros = "000".get(..point.unsigned_abs() as usize).unwrap_or("");

@@ -1,5 +1,5 @@
-//! The cells of NUMERIC: in two bytes each, big-endian, how many digits there are, the weight of the
-//! first, the sign and the scale, and then the digits.
+//! The cells of NUMERIC: the number of digits, the weight of the first, the sign, the scale and the
+//! digits, each in 2 bytes, big-endian.
 ghost use Rattle.std.specs.Prelude.{◌≡◌, ◌≤◌, ◌+◌, ◌*◌, ◌++◌, None, Some, IfOk, IfErr, drop, length, pos, true};
 ghost use Rattle.pg_types.specs.declared.fault.Fault.TheVariants.{Memory};
 ghost use Rattle.pg_types.specs.Faults.{Answers, NeverMemory};
@@ -24,16 +24,16 @@ const NEGATIVE: u16 = 0x4000;
 /// The sign of NaN.
 const NAN: u16 = 0xC000;
 
-/// The sign of the infinity.
+/// The sign of `Infinity`.
 const INFINITY: u16 = 0xD000;
 
-/// The sign of the negative infinity.
+/// The sign of `-Infinity`.
 const NEGATIVE_INFINITY: u16 = 0xF000;
 
-/// The scale that the cells of the infinities are written with.
+/// The scale of the cells in which infinities are written.
 const INFINITY_SCALE: u16 = 32;
 
-/// What a cell states.
+/// The fields of a cell, after its number of digits.
 #[derive(Debug, Clone, Copy)]
 struct Stated<'a> {
     sign: u16,
@@ -45,13 +45,14 @@ struct Stated<'a> {
 
 /// Reads NUMERIC (`numeric_recv`).
 ///
-/// Fewer than 8 bytes are `Size`. Then another sign than those of a number, 0 and 0x4000, of NaN,
-/// 0xC000, and of the infinities, 0xD000 and 0xF000, and a scale of more than 16,383, is `User`;
-/// another number of bytes than the digits take is `Size`; and a digit of more than 9,999 is `User`.
-/// The weight is looked at for a number alone, and so are the scale and the digits once they passed.
+/// The checks, in this order: fewer than 8 bytes are refused with `Size`; a sign other than 0 and
+/// 0x4000 (numbers), 0xC000 (NaN), 0xD000 and 0xF000 (infinities) with `User`; a scale greater than
+/// 16,383 with `User`; a length that does not fit the number of digits with `Size`; and a digit
+/// greater than 9,999 with `User`. The values of NaN and the infinities do not depend on the other
+/// fields.
 ///
-/// As the server does, it reads a number without the decimals that its scale does not show, and
-/// without zeros before its first digit and after its last one; a negative zero is zero.
+/// As in the server, decimal digits that exceed the scale are truncated, zeros before the first
+/// digit and after the last one are removed, and a negative zero is zero.
 pub(super) fn numeric_from_sql(alloc: Global, raw: &[u8]) -> Result<Numeric, Fault>
     ensures { Answers (Decodes FormNumeric first_fault_numeric raw.now) result }
 {
@@ -72,7 +73,7 @@ pub(super) fn numeric_from_sql(alloc: Global, raw: &[u8]) -> Result<Numeric, Fau
     }
 }
 
-/// What the cell states, which passes every check.
+/// Returns the fields of the cell, after all checks.
 fn check(raw: &[u8]) -> Result<Stated<'_>, Fault>
     ensures outcome { Answers (Decodes (λ b s. (first_fault_numeric b ≡ None) × (s.sign ≡ sign_in b)
         × (s.weight ≡ weight_in b) × (s.scale ≡ scale_in b) × (s.digits.now ≡ drop head_len b))
@@ -115,7 +116,7 @@ fn is_sign(sign: u16) -> bool
     )
 }
 
-/// Whether each two bytes are a digit.
+/// Whether each pair of bytes is a base-10,000 digit.
 #[tactic(auto, using(crate::proofs::CellBytes::numbers_more, crate::proofs::CellBytes::numbers_end))]
 fn are_digits(bytes: &[u8]) -> bool
     ensures { result ≡ are_digits (numbers_in bytes.now) }
@@ -130,7 +131,7 @@ fn are_digits(bytes: &[u8]) -> bool
     true
 }
 
-/// The digits of the bytes, two bytes each.
+/// Returns the digits of the bytes, two bytes each.
 #[tactic(auto, using(crate::proofs::CellBytes::numbers_more, crate::proofs::CellBytes::numbers_end))]
 fn digits_of(alloc: Global, bytes: &[u8]) -> Result<Vec<u16>, Fault>
     ensures ok { IfOk result (λ digits. digits.items ≡ numbers_in bytes.now) }
@@ -145,11 +146,11 @@ fn digits_of(alloc: Global, bytes: &[u8]) -> Result<Vec<u16>, Fault>
     Ok(digits)
 }
 
-/// Appends NUMERIC (`numeric_send`). NaN and the infinities have no digits and the weight 0; the scale
-/// of NaN is 0, and that of the infinities 32, as the server's cells have it.
+/// Appends NUMERIC (`numeric_send`). NaN and the infinities have no digits and the weight 0. As in
+/// the server, the scale of NaN is 0, and that of the infinities is 32.
 pub(super) fn numeric_to_sql(v: &Numeric, out: &mut BytesMut) -> Result<(), Fault>
     ensures appends { Appends (Some (numeric_bytes v.now)) out.old out.new result }
-    // For the writer: a written form asks that the parts are those of a number.
+    // The writer uses this: in the specification, only such a value has a cell.
     ensures numeric { is_numeric v.now ≡ true }
 {
     match v {
@@ -181,14 +182,14 @@ fn decimal_to_sql(v: &Decimal, out: &mut BytesMut) -> Result<(), Fault>
     Ok(())
 }
 
-/// The sign of a number.
+/// Returns the sign of a number.
 fn sign_of(negative: bool) -> u16
     ensures { result ≡ sign_of negative }
 {
     if negative { NEGATIVE } else { POSITIVE }
 }
 
-/// The bytes before the digits.
+/// Returns the header: the bytes before the digits.
 fn head(count: u16, weight: i16, sign: u16, scale: u16) -> [u8; 8]
     ensures { result ≡ head_bytes count weight sign scale }
 {

@@ -1,4 +1,4 @@
-//! Reading NUMERIC, and writing it.
+//! Reading and writing NUMERIC.
 ghost use Rattle.std.specs.Prelude.{◌≡◌, true};
 ghost use Rattle.pg_types.specs.Content.{content};
 ghost use Rattle.postgres_types.specs.Conversion.{BackKept, NullAlone, codes, equal_equivalence, refl};
@@ -12,25 +12,24 @@ use postgres_types::private::BytesMut;
 use postgres_types::{Fault, Format, FromSql, IsNull, Paired, ToSql, Type, check_type};
 use std::alloc::Global;
 
-/// Whether it is the type numeric: the simple one of that name in the schema `pg_catalog`, with the
-/// OID 1700.
+/// Whether the type is the simple type `numeric` in the schema `pg_catalog`, with the OID 1700.
 fn is_numeric(ty: &Type) -> bool
     ensures { result ≡ accepted_numeric (content ty.now) }
 {
     is_catalog_type("numeric", 1700, ty)
 }
 
-/// NUMERIC: in two bytes each, big-endian, the number of digits, the weight of the first, the sign and
-/// the scale, and then the digits to the base 10,000 (`numeric_recv`).
+/// Reads NUMERIC: the number of digits, the weight of the first, the sign, the scale and the
+/// base-10,000 digits, each in 2 bytes, big-endian (`numeric_recv`).
 ///
-/// Fewer than 8 bytes are `Size`. Then another sign than those of a number, 0 and 0x4000, of NaN,
-/// 0xC000, and of the infinities, 0xD000 and 0xF000, and a scale of more than 16,383, is `User`;
-/// another number of bytes than the digits take is `Size`; and a digit of more than 9,999 is `User`.
-/// NULL is `WasNull`.
+/// The checks, in this order: fewer than 8 bytes are refused with `Size`; a sign other than 0 and
+/// 0x4000 (numbers), 0xC000 (NaN), 0xD000 and 0xF000 (infinities) with `User`; a scale greater than
+/// 16,383 with `User`; a length that does not fit the number of digits with `Size`; and a digit
+/// greater than 9,999 with `User`. NULL is refused with `WasNull`.
 ///
-/// As the server does, it reads a number without the decimals that its scale does not show, and
-/// without zeros before its first digit and after its last one; a negative zero is zero. Of NaN and
-/// the infinities the other parts are not kept.
+/// As in the server, decimal digits that exceed the scale are truncated, zeros before the first
+/// digit and after the last one are removed, and a negative zero is zero. The values of NaN and the
+/// infinities do not depend on the other fields.
 impl<'a> FromSql<'a> for Numeric {
     ghost same = { λ v w. v ≡ w };
 
@@ -57,9 +56,9 @@ impl<'a> FromSql<'a> for Numeric {
     }
 }
 
-/// NUMERIC: in two bytes each, big-endian, the number of digits, the weight of the first, the sign and
-/// the scale, and then the digits to the base 10,000 (`numeric_send`). NaN and the infinities have no
-/// digits and the weight 0; the scale of NaN is 0, and that of the infinities 32.
+/// Writes NUMERIC: the number of digits, the weight of the first, the sign, the scale and the
+/// base-10,000 digits, each in 2 bytes, big-endian (`numeric_send`). NaN and the infinities have no
+/// digits and the weight 0. The scale of NaN is 0, and that of the infinities is 32.
 impl ToSql for Numeric {
     ghost accepted = { accepted_numeric };
 

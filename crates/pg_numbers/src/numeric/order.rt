@@ -1,4 +1,4 @@
-//! Equality and order, by value.
+//! Equality and order by value.
 ghost use Rattle.std.specs.Prelude.{◌≡◌};
 ghost use Rattle.std.proofs.Common.{rules};
 ghost use Rattle.std.specs.Cmp.{partial_equiv_from_equiv, partial_order_from_total};
@@ -11,7 +11,7 @@ ghost use Rattle.pg_numbers.specs.NumericOrder.{magnitude_cmp, number_cmp, numer
 use super::{Decimal, Numeric};
 use std::cmp::Ordering;
 
-/// Equal where their values are: their scales are not compared.
+/// Numbers are equal if their values are: the scales are not compared.
 impl PartialEq for Decimal {
     ghost eq = { eq_by_cmp number_cmp };
 
@@ -26,7 +26,7 @@ impl Eq for Decimal {
     ghost laws = { eq_by_cmp_equiv number_total };
 }
 
-/// By value: scales are not compared.
+/// The order is by value: the scales are not compared.
 impl Ord for Decimal {
     ghost cmp = { number_cmp };
 
@@ -55,7 +55,7 @@ impl PartialOrd for Decimal {
     }
 }
 
-/// The rank of a number's sign.
+/// Returns the rank of a number's sign.
 fn sign_rank(v: &Decimal) -> u8
     ensures { result ≡ sign_rank v.now }
 {
@@ -75,7 +75,7 @@ fn magnitude_cmp(a: &Decimal, b: &Decimal) -> Ordering
     a.weight().cmp(&b.weight()).then(a.digits().cmp(b.digits()))
 }
 
-/// Equal where their values are: the scales of numbers are not compared, and NaN equals itself.
+/// Numbers are equal if their values are: the scales are not compared. NaN equals itself.
 impl PartialEq for Numeric {
     ghost eq = { eq_by_cmp numeric_cmp };
 
@@ -90,7 +90,7 @@ impl Eq for Numeric {
     ghost laws = { eq_by_cmp_equiv numeric_total };
 }
 
-/// `-Infinity`, the numbers by value, `Infinity`, and NaN (`cmp_numerics`).
+/// The order is `-Infinity`, the numbers by value, `Infinity`, NaN (`cmp_numerics`).
 impl Ord for Numeric {
     ghost cmp = { numeric_cmp };
 
@@ -118,7 +118,7 @@ impl PartialOrd for Numeric {
     }
 }
 
-/// The rank of a value.
+/// Returns the rank of a value.
 fn value_rank(v: &Numeric) -> u8
     ensures { result ≡ value_rank v.now }
 {

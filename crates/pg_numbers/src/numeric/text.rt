@@ -1,13 +1,30 @@
 //! The texts of NUMERIC.
-ghost use Rattle.std.specs.Prelude.{◌+◌, ◌*◌, ◌≤◌, ◌≤ℤ◌, negsuc, pos};
+ghost use Rattle.std.specs.Prelude.{◌≡◌, ◌^◌, ◌+◌, ◌*◌, ◌<◌, ◌≤◌, ◌≤ℤ◌, ◌∷◌, ◌++◌, [], IfErr, IfOk, Some};
+ghost use Rattle.std.specs.Prelude.{length, negsuc, pos, true};
+ghost use Rattle.std.specs.Char.{digit_value, is_ascii_digit};
+ghost use Rattle.std.specs.Fmt.{WritesOnOk};
+ghost use Rattle.std.specs.List.{list_all};
+ghost use Rattle.std.specs.Str.Parse.{digits_value, starts_with_minus, without_leading_sign};
+ghost use Rattle.pg_calendar.specs.Texts.{padded_text};
+ghost use Rattle.pg_types.specs.Faults.{Answers};
+ghost use Rattle.pg_types.specs.declared.fault.Fault.TheVariants.{Memory};
+ghost use Rattle.pg_numbers.specs.NumericTexts.{ParsesNumber, ReadsNumeral, base_digits, decimal_zeros, decimals_of};
+ghost use Rattle.pg_numbers.specs.NumericTexts.{decimals_text, digit_of, digits_text, first_decimals, first_weight, front_group};
+ghost use Rattle.pg_numbers.specs.NumericTexts.{grouped, integer_of, integer_text, is_numeral, number_text};
+ghost use Rattle.pg_numbers.specs.NumericTexts.{numeric_text, point_of, without_leading_zeros};
 
 use super::{Decimal, MAX_SCALE, Numeric};
 use postgres_types::Fault;
 use std::alloc::Global;
 use std::fmt;
 
-/// `NaN`, `Infinity`, `-Infinity`, or the number (`numeric_out`).
+/// The most digits of a number before the point.
+const MAX_INTEGER: usize = 131_072;
+
+/// Writes `NaN`, `Infinity`, `-Infinity`, or the number (`numeric_out`).
 impl fmt::Display for Numeric {
+    ghost output = { λ v. Some (numeric_text v) };
+
     fn fmt<W: fmt::Write>(&self, f: &mut fmt::Formatter<W>) -> fmt::Result {
         match self {
             Numeric::NaN => f.write_str("NaN"),
@@ -18,9 +35,11 @@ impl fmt::Display for Numeric {
     }
 }
 
-/// The integral part, and where the scale is not 0, a point and as many decimals as it says, after `-`
-/// where the number is negative (`numeric_out`).
+/// Writes `-` if the number is negative, the integral part and, if the scale is not 0, a point and
+/// as many decimal digits as the scale (`numeric_out`).
 impl fmt::Display for Decimal {
+    ghost output = { λ v. Some (number_text v) };
+
     fn fmt<W: fmt::Write>(&self, f: &mut fmt::Formatter<W>) -> fmt::Result {
         if self.is_negative() {
             f.write_str("-")?;
@@ -34,10 +53,11 @@ impl fmt::Display for Decimal {
     }
 }
 
-/// The digit of that weight.
+/// Returns the digit of that weight.
 fn digit_of(v: &Decimal, weight: i32) -> u16
-    requires low { negsuc 20000 ≤ℤ weight }
+    requires low { negsuc 100000 ≤ℤ weight }
     requires high { weight ≤ℤ pos 32767 }
+    ensures { result ≡ digit_of v.now weight }
 {
     let at = i32::from(v.weight()) - weight;
     match usize::try_from(at) {
@@ -46,25 +66,70 @@ fn digit_of(v: &Decimal, weight: i32) -> u16
     }
 }
 
+/// The weight of the first digit before the point.
+#[tactic(auto, using(crate::proofs::WrittenDigits::first_negative, crate::proofs::WrittenDigits::first_positive))]
+fn first_weight(v: &Decimal) -> u16
+    ensures first { result ≡ first_weight v.now.weight }
+    ensures small { result < 2 ^ 15 }
+{
+    let weight = v.weight();
+    if weight < 0 { 0 } else { weight as u16 }
+}
+
 /// Writes the integral part.
-fn write_integer<W: fmt::Write>(v: &Decimal, f: &mut fmt::Formatter<W>) -> fmt::Result {
-    let first = u16::try_from(v.weight()).unwrap_or(0);
+fn write_integer<W: fmt::Write>(v: &Decimal, f: &mut fmt::Formatter<W>) -> fmt::Result
+    ensures { WritesOnOk W.write_str_gives f.old result (integer_text v.now) f.new }
+{
+    let first = first_weight(v);
     write!(f, "{}", digit_of(v, first.into()))?;
-    for weight in (0..first).rev() {
-        write!(f, "{:04}", digit_of(v, weight.into()))?;
+    write_digits(v, i32::from(first) - 1, first, f)
+}
+
+/// Writes so many digits from that weight down, in four decimals each.
+fn write_digits<W: fmt::Write>(
+    v: &Decimal,
+    weight: i32,
+    count: u16,
+    f: &mut fmt::Formatter<W>,
+) -> fmt::Result
+    requires low { negsuc 0 ≤ℤ weight }
+    requires high { weight ≤ℤ pos 32767 }
+    ensures { WritesOnOk W.write_str_gives f.old result (digits_text v.now weight count) f.new }
+{
+    for place in 0..count {
+        write_digit(v, weight - i32::from(place), f)?;
     }
     Ok(())
 }
 
-/// Writes the decimals, four of each digit.
-fn write_decimals<W: fmt::Write>(v: &Decimal, f: &mut fmt::Formatter<W>) -> fmt::Result {
-    let whole = v.scale() / 4;
-    for place in 0..whole {
-        write!(f, "{:04}", digit_of(v, -1 - i32::from(place)))?;
-    }
-    let digit = digit_of(v, -1 - i32::from(whole));
-    match v.scale() % 4 {
-        1 => write!(f, "{}", digit / 1000),
+/// Writes the digit of that weight in four decimals.
+#[tactic(auto, using(pg_calendar::proofs::Padding::padded_hole))]
+fn write_digit<W: fmt::Write>(v: &Decimal, weight: i32, f: &mut fmt::Formatter<W>) -> fmt::Result
+    requires low { negsuc 100000 ≤ℤ weight }
+    requires high { weight ≤ℤ pos 32767 }
+    ensures { WritesOnOk W.write_str_gives f.old result (padded_text 4 (digit_of v.now weight)) f.new }
+{
+    let digit = digit_of(v, weight);
+    write!(f, "{digit:04}")
+}
+
+/// Writes the decimal digits after the point, four for each base-10,000 digit.
+fn write_decimals<W: fmt::Write>(v: &Decimal, f: &mut fmt::Formatter<W>) -> fmt::Result
+    ensures { WritesOnOk W.write_str_gives f.old result (decimals_text v.now) f.new }
+{
+    let full = v.scale() / 4;
+    write_digits(v, -1, full, f)?;
+    write_first(digit_of(v, -1 - i32::from(full)), v.scale() % 4, f)
+}
+
+/// Writes the first decimals of a digit, so many of the four.
+#[tactic(auto, using(pg_calendar::proofs::Padding::padded_hole))]
+fn write_first<W: fmt::Write>(digit: u16, count: u16, f: &mut fmt::Formatter<W>) -> fmt::Result
+    requires { count < 4 }
+    ensures { WritesOnOk W.write_str_gives f.old result (first_decimals count digit) f.new }
+{
+    match count {
+        1 => write!(f, "{:01}", digit / 1000),
         2 => write!(f, "{:02}", digit / 100),
         3 => write!(f, "{:03}", digit / 10),
         _ => Ok(()),
@@ -72,9 +137,9 @@ fn write_decimals<W: fmt::Write>(v: &Decimal, f: &mut fmt::Formatter<W>) -> fmt:
 }
 
 impl Numeric {
-    /// Parses `NaN`, `Infinity`, `inf`, each in either case and the infinities after a sign, or a
-    /// number, as [`Decimal::parse`] does (`numeric_in`, without exponents). White space may stand
-    /// around them.
+    /// Parses `NaN`, `Infinity`, `inf`, each in any case and the infinities with or without a sign,
+    /// or a number as [`Decimal::parse`] does. This is `numeric_in` without exponents. White space
+    /// is allowed before and after.
     pub fn parse(alloc: Global, text: &str) -> Result<Numeric, Fault> {
         let text = text.as_bytes().trim_ascii();
         if text.eq_ignore_ascii_case(b"nan") {
@@ -94,18 +159,23 @@ impl Numeric {
 
 impl Decimal {
     /// Parses a sign, which may be absent, and decimal digits, one at least, of which those after a
-    /// point are the decimals, whose number is the scale.
+    /// point are the decimals, whose number is the scale (`numeric_in`, without exponents).
     ///
-    /// Any other text is `User`, and so is a number of more than 131,072 digits before the point or
-    /// more than 16,383 after it.
-    pub fn parse(alloc: Global, text: &str) -> Result<Decimal, Fault> {
+    /// Any other text is `User`, and so is a number of more than 131,072 digits before the point,
+    /// where zeros at its front do not count, or more than 16,383 after it.
+    pub fn parse(alloc: Global, text: &str) -> Result<Decimal, Fault>
+        ensures { Answers (ParsesNumber text.now) result }
+    {
         let (negative, unsigned) = split_sign(text.as_bytes());
         parse_number(alloc, negative, unsigned)
     }
 }
 
-/// Whether the text begins with `-`, and what follows the sign.
-fn split_sign(text: &[u8]) -> (bool, &[u8]) {
+/// Returns whether the text begins with `-`, and the text after the sign.
+fn split_sign(text: &[u8]) -> (bool, &[u8])
+    ensures sign { result.0 ≡ starts_with_minus text.now }
+    ensures unsigned { result.1.now ≡ without_leading_sign text.now }
+{
     match text {
         [b'-', unsigned @ ..] => (true, unsigned),
         [b'+', unsigned @ ..] => (false, unsigned),
@@ -113,104 +183,145 @@ fn split_sign(text: &[u8]) -> (bool, &[u8]) {
     }
 }
 
-/// The number of the digits, with a point or without.
-fn parse_number(alloc: Global, negative: bool, text: &[u8]) -> Result<Decimal, Fault> {
+/// Parses the digits, with a point or without.
+fn parse_number(alloc: Global, negative: bool, text: &[u8]) -> Result<Decimal, Fault>
+    ensures { Answers (ReadsNumeral negative text.now) result }
+{
     let (integer, decimals) = split_point(text);
-    if integer.is_empty() && decimals.is_empty() {
+    if !is_numeral(integer, decimals) {
         return Err(Fault::user("invalid numeric text"));
     }
     let integer = without_zeros(integer);
-    if integer.len() > 131_072 || decimals.len() > usize::from(MAX_SCALE) {
+    if integer.len() > MAX_INTEGER || decimals.len() > usize::from(MAX_SCALE) {
         return Err(Fault::user("value overflows numeric format"));
     }
-    let mut digits = Digits::new(alloc, integer.len());
-    digits.push_all(integer)?;
-    digits.push_all(decimals)?;
+    let digits = base_digits(alloc, integer, decimals)?;
     let weight = integer.len().div_ceil(4) as i32 - 1;
-    Decimal::new(
-        alloc,
-        negative,
-        weight as i16,
-        decimals.len() as u16,
-        &digits.finish()?,
-    )
+    let number = Decimal::from_parts(negative, weight as i16, decimals.len() as u16, digits);
+    // Its digits are those of a number.
+    let _ = number.digits();
+    Ok(number)
 }
 
-/// What stands before the point and after it.
-fn split_point(text: &[u8]) -> (&[u8], &[u8]) {
-    match text.iter().position(|byte| *byte == b'.') {
-        Some(point) => (&text[..point], &text[point + 1..]),
-        None => (text, &[]),
+/// How many bytes stand before the first point, if there is one.
+fn point_of(text: &[u8]) -> usize
+    ensures place { result ≡ point_of text.now }
+    ensures inside { result ≤ length text.now }
+{
+    text.iter().take_while(|byte| **byte != b'.').count()
+}
+
+/// Returns the text before the point and the text after it.
+fn split_point(text: &[u8]) -> (&[u8], &[u8])
+    ensures integer { result.0.now ≡ integer_of text.now }
+    ensures decimals { result.1.now ≡ decimals_of text.now }
+{
+    match text.split_at(point_of(text)) {
+        (integer, [_, decimals @ ..]) => (integer, decimals),
+        (integer, []) => (integer, &[]),
     }
 }
 
-/// The text without the zeros at its front.
-fn without_zeros(text: &[u8]) -> &[u8] {
-    let zeros = text.iter().take_while(|byte| **byte == b'0').count();
-    &text[zeros..]
+/// Whether these are decimal digits, one at least.
+fn is_numeral(integer: &[u8], decimals: &[u8]) -> bool
+    ensures { result ≡ is_numeral integer.now decimals.now }
+{
+    !(integer.is_empty() && decimals.is_empty()) && are_decimal(integer) && are_decimal(decimals)
 }
 
-/// Digits to the base 10,000 that are made of decimal ones.
-#[derive(Debug, Drop)]
-struct Digits {
-    digits: Vec<u16>,
-    /// The digit that is being made.
-    digit: u16,
-    /// What the next decimal digit counts for in it.
-    unit: u16,
-    ghost room: { digit + 10 * unit ≤ 10000 },
+/// Whether each byte is a decimal digit.
+fn are_decimal(text: &[u8]) -> bool
+    ensures { result ≡ list_all is_ascii_digit text.now }
+{
+    text.iter().all(|byte| byte.is_ascii_digit())
 }
 
-impl Digits {
-    /// No digits yet, before a text of which so many decimal digits stand before the point.
-    fn new(alloc: Global, integer_len: usize) -> Digits {
-        let unit = match integer_len % 4 {
-            1 => 1,
-            2 => 10,
-            3 => 100,
-            _ => 1000,
-        };
-        Digits {
-            digits: Vec::new(alloc),
-            digit: 0,
-            unit,
-        }
-    }
+/// How many zeros stand at the front of the digits.
+fn leading_zeros(digits: &[u8]) -> usize
+    ensures count { result ≡ decimal_zeros digits.now }
+    ensures inside { result ≤ length digits.now }
+{
+    digits.iter().take_while(|byte| **byte == b'0').count()
+}
 
-    /// Takes the decimal digits of the text.
-    fn push_all(&mut self, text: &[u8]) -> Result<(), Fault> {
-        for byte in text {
-            self.push(*byte)?;
-        }
-        Ok(())
-    }
+/// The digits without the zeros at their front.
+fn without_zeros(digits: &[u8]) -> &[u8]
+    ensures { result.now ≡ without_leading_zeros digits.now }
+{
+    &digits[leading_zeros(digits)..]
+}
 
-    /// Takes the decimal digit, or refuses what is none.
-    fn push(&mut self, byte: u8) -> Result<(), Fault> {
-        if !byte.is_ascii_digit() {
-            return Err(Fault::user("invalid numeric text"));
-        }
-        let digit = self.digit + u16::from(byte - b'0') * self.unit;
-        if self.unit > 1 {
-            self.digit = digit;
-            self.unit /= 10;
-            return Ok(());
-        }
-        self.digit = 0;
-        self.unit = 1000;
-        Ok(self.digits.push(digit)?)
-    }
+/// The digits to the base 10,000 of the decimal ones before the point and after it.
+#[tactic(auto, using(crate::proofs::ReadTexts::base_steps))]
+fn base_digits(alloc: Global, integer: &[u8], decimals: &[u8]) -> Result<Vec<u16>, Fault>
+    requires integer { list_all is_ascii_digit integer.now ≡ true }
+    requires decimals { list_all is_ascii_digit decimals.now ≡ true }
+    ensures ok { IfOk result (λ digits. digits.items ≡ base_digits integer.now decimals.now) }
+    ensures refused { IfErr result (λ fault. fault ≡ Memory) }
+{
+    let (first, others) = integer.split_at(integer.len() % 4);
+    let mut digits = front_group(alloc, first)?;
+    push_groups(others, &mut digits)?;
+    push_groups(decimals, &mut digits)?;
+    Ok(digits)
+}
 
-    /// The digits, of which the last one is filled with zeros.
-    fn finish(self) -> Result<Vec<u16>, Fault> {
-        let Digits {
-            mut digits,
-            digit,
-            unit,
-        } = self;
-        if unit < 1000 {
-            digits.push(digit)?;
-        }
-        Ok(digits)
+/// The digit of the first decimal ones, fewer than four, if there are any.
+#[tactic(auto, using(crate::proofs::ReadTexts::front_steps))]
+fn front_group(alloc: Global, text: &[u8]) -> Result<Vec<u16>, Fault>
+    requires digits { list_all is_ascii_digit text.now ≡ true }
+    requires short { length text.now < 4 }
+    ensures ok { IfOk result (λ digits. digits.items ≡ front_group text.now) }
+    ensures refused { IfErr result (λ fault. fault ≡ Memory) }
+{
+    let mut digits = Vec::new(alloc);
+    match text {
+        [a] => digits.push(group(b'0', b'0', b'0', *a))?,
+        [a, b] => digits.push(group(b'0', b'0', *a, *b))?,
+        [a, b, c] => digits.push(group(b'0', *a, *b, *c))?,
+        _ => {}
     }
+    Ok(digits)
+}
+
+/// Appends the digits of decimal ones, of four each, where zeros fill the last.
+#[tactic(auto, using(crate::proofs::ReadTexts::group_steps))]
+fn push_groups(text: &[u8], digits: &mut Vec<u16>) -> Result<(), Fault>
+    requires { list_all is_ascii_digit text.now ≡ true }
+    ensures ok { IfOk result (λ _. digits.new.items ≡ digits.old.items ++ grouped text.now) }
+    ensures refused { IfErr result (λ fault. fault ≡ Memory) }
+{
+    let mut left = text;
+    while let [a, b, c, d, others @ ..] = left {
+        digits.push(group(*a, *b, *c, *d))?;
+        left = others;
+    }
+    match left {
+        [a, b, c] => digits.push(group(*a, *b, *c, b'0'))?,
+        [a, b] => digits.push(group(*a, *b, b'0', b'0'))?,
+        [a] => digits.push(group(*a, b'0', b'0', b'0'))?,
+        _ => {}
+    }
+    Ok(())
+}
+
+/// The digit of four decimal ones.
+fn group(a: u8, b: u8, c: u8, d: u8) -> u16
+    requires a { is_ascii_digit a ≡ true }
+    requires b { is_ascii_digit b ≡ true }
+    requires c { is_ascii_digit c ≡ true }
+    requires d { is_ascii_digit d ≡ true }
+    ensures { result ≡ digits_value 10 (a ∷ b ∷ c ∷ d ∷ []) }
+{
+    value(a) * 1000 + value(b) * 100 + value(c) * 10 + value(d)
+}
+
+/// The value of a decimal digit.
+#[tactic(auto, using(crate::proofs::ReadTexts::ascii_range))]
+fn value(digit: u8) -> u16
+    requires { is_ascii_digit digit ≡ true }
+    ensures value { result ≡ digit_value digit }
+    ensures small { result < 10 }
+{
+    u16::from(digit - b'0')
 }

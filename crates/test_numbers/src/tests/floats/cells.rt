@@ -70,8 +70,8 @@ fn float4_has_four_bytes(rt: HostRuntime) -> Result<(), Fail> {
     refuses_odd(alloc, &Float4::from(1.0), "Float4")
 }
 
-/// Cells of FLOAT8 that `==` does not tell apart: both zeros, and NaN with each sign and other payloads; their bits, and
-/// whether they are NaN.
+/// Cells of FLOAT8 that `==` does not tell apart: both zeros, and NaN with each sign and other
+/// payloads; their bits, and whether they are NaN.
 const EXACT: [(&[u8], u64, bool); 7] = [
     (b"\0\0\0\0\0\0\0\0", 0, false),
     (b"\x80\0\0\0\0\0\0\0", 0x8000_0000_0000_0000, false),

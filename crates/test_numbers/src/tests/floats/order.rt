@@ -6,8 +6,8 @@ use std::collections::HashSet;
 use std::test::Fail;
 use test_support::same;
 
-/// -Infinity, -1, the greatest number below 0, -0 and 0, and so on up to NaN and another NaN; and the number of each among
-/// those that are told apart.
+/// -Infinity, -1, the greatest number below 0, -0 and 0, and so on up to NaN and another NaN; and the
+/// number of each among those that are told apart.
 const ASCENDING: [(u64, u32); 10] = [
     (0xfff0_0000_0000_0000, 0),
     (0xbff0_0000_0000_0000, 1),

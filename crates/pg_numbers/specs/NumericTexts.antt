@@ -1,0 +1,152 @@
+-- Texts of NUMERIC (numeric_out, numeric_in).
+use Rattle.std.specs.Prelude.{◌≡◌, ℕ, zero, suc, ◌-◌, ◌/◌, ◌%◌, ◌^◌, ◌==◌, ℤ, pos, negsuc, ◌-ℤ◌}
+use Rattle.std.specs.Prelude.{List, [], ◌∷◌, ◌++◌, codes, drop, length, not, slice_index, take, if◌then◌else◌}
+use Rattle.std.specs.Fmt.{decimal, sign_text}
+use Rattle.std.specs.List.{list_all, prefix_len}
+use Rattle.std.specs.Char.{is_ascii_digit}
+use Rattle.std.specs.Prelude.{Bool, true, ◌&&◌, nat_le, nat_lt, None, Some, Ok, Err}
+use Rattle.std.specs.Str.Parse.{digits_value, starts_with_minus, without_leading_sign}
+use Rattle.pg_calendar.specs.Texts.{padded_text}
+use Rattle.pg_base.specs.Formats.{Checks, first_fault_of}
+use Rattle.pg_types.specs.Faults.{Outcome, Refusal, user}
+use Rattle.pg_numbers.specs.Numeric.{Parts, is_number, max_scale, units_of}
+use Rattle.pg_numbers.specs.declared.numeric.Numeric.{Numeric}
+use Rattle.pg_numbers.specs.declared.numeric.Numeric.TheVariants.{NaN, Infinity, NegativeInfinity, Finite}
+
+-- ---- writing
+
+-- the digit so many places after the first, and 0 where there is none
+abbrev pub digit_at : List ℕ → ℤ → ℕ
+digit_at digits (pos place) = slice_index digits place
+digit_at digits (negsuc place) = 0
+
+-- the digit of that weight
+abbrev pub digit_of : Parts → ℤ → ℕ
+digit_of p weight = digit_at p.digits (p.weight -ℤ weight)
+
+-- so many digits from that weight down, in four decimals each
+abbrev pub digits_text : Parts → ℤ → ℕ → List ℕ
+digits_text p weight zero = []
+digits_text p weight (suc count) = digits_text p weight count ++ padded_text 4 (digit_of p (weight -ℤ pos count))
+
+-- the first decimals of a digit, so many of the four
+abbrev pub first_decimals : ℕ → ℕ → List ℕ
+first_decimals zero digit = []
+first_decimals (suc count) digit = padded_text (suc count) (digit / 10 ^ (4 - suc count))
+
+-- the weight of the first digit that stands before the point: 0 where the number is less than 1
+abbrev pub first_weight : ℤ → ℕ
+first_weight (pos weight) = weight
+first_weight (negsuc weight) = 0
+
+-- the digits before the point, without zeros at the front
+abbrev pub integer_text : Parts → List ℕ
+integer_text p =
+    decimal (digit_of p (pos (first_weight p.weight)))
+    ++ digits_text p (pos (first_weight p.weight) -ℤ pos 1) (first_weight p.weight)
+
+-- the decimals, of which the scale says how many there are
+abbrev pub decimals_text : Parts → List ℕ
+decimals_text p =
+    digits_text p (negsuc 0) (p.scale / 4) ++ first_decimals (p.scale % 4) (digit_of p (negsuc (p.scale / 4)))
+
+-- a number (numeric_out): the sign, where it is negative, the digits before the point, and, where the scale is not 0, a
+-- point and the decimals
+abbrev pub number_text : Parts → List ℕ
+number_text p =
+    sign_text p.negative ++ (integer_text p ++ (if p.scale == 0 then [] else 46 ∷ decimals_text p))
+
+-- a value (numeric_out)
+abbrev pub numeric_text : Numeric → List ℕ
+numeric_text NaN = codes "NaN"
+numeric_text Infinity = codes "Infinity"
+numeric_text NegativeInfinity = codes "-Infinity"
+numeric_text (Finite p) = number_text p
+
+-- ---- reading
+
+-- how many bytes stand before the first point, if there is one
+abbrev pub point_of : List ℕ → ℕ
+point_of text = prefix_len (λ byte. not (byte == 46)) text
+
+-- what stands before the point, and after it
+abbrev pub integer_of : List ℕ → List ℕ
+integer_of text = take (point_of text) text
+
+abbrev pub decimals_of : List ℕ → List ℕ
+decimals_of text = drop 1 (drop (point_of text) text)
+
+-- how many zeros stand at the front of digits
+abbrev pub decimal_zeros : List ℕ → ℕ
+decimal_zeros digits = prefix_len (λ byte. byte == 48) digits
+
+abbrev pub without_leading_zeros : List ℕ → List ℕ
+without_leading_zeros digits = drop (decimal_zeros digits) digits
+
+-- decimal digits as ones to the base 10,000, each of four, where zeros fill the last
+abbrev pub grouped : List ℕ → List ℕ
+grouped [] = []
+grouped (a ∷ []) = digits_value 10 (a ∷ 48 ∷ 48 ∷ 48 ∷ []) ∷ []
+grouped (a ∷ b ∷ []) = digits_value 10 (a ∷ b ∷ 48 ∷ 48 ∷ []) ∷ []
+grouped (a ∷ b ∷ c ∷ []) = digits_value 10 (a ∷ b ∷ c ∷ 48 ∷ []) ∷ []
+grouped (a ∷ b ∷ c ∷ d ∷ text) = digits_value 10 (a ∷ b ∷ c ∷ d ∷ []) ∷ grouped text
+
+-- the first decimal digits, fewer than four
+abbrev pub front_group : List ℕ → List ℕ
+front_group [] = []
+front_group (a ∷ text) = digits_value 10 (a ∷ text) ∷ []
+
+-- the digits to the base 10,000 of the decimal ones before a point and after it
+abbrev pub base_digits : List ℕ → List ℕ → List ℕ
+base_digits integer decimals =
+    front_group (take (length integer % 4) integer)
+    ++ (grouped (drop (length integer % 4) integer) ++ grouped decimals)
+
+-- ---- what is read
+
+-- the faults of other texts, and of numbers that are too long
+abbrev pub invalid_text : Refusal
+invalid_text = user (codes "invalid numeric text")
+
+abbrev pub too_long : Refusal
+too_long = user (codes "value overflows numeric format")
+
+-- the most digits before the point, without zeros at the front
+abbrev pub max_integer : ℕ
+max_integer = 131072
+
+-- whether these are decimal digits, one at least
+abbrev pub is_numeral : List ℕ → List ℕ → Bool
+is_numeral integer decimals =
+    not (length integer == 0 && length decimals == 0) && list_all is_ascii_digit integer
+    && list_all is_ascii_digit decimals
+
+-- whether they are not too many
+abbrev pub fits_numeral : List ℕ → List ℕ → Bool
+fits_numeral integer decimals =
+    nat_le (length (without_leading_zeros integer)) max_integer && nat_le (length decimals) max_scale
+
+-- the checks of a text without its sign: digits with a point or without are a number, and others are User; so are more
+-- than 131,072 digits before the point, and more than 16,383 after it
+abbrev pub numeral_checks : List ℕ → Checks
+numeral_checks text =
+    (is_numeral (integer_of text) (decimals_of text), invalid_text)
+    ∷ (fits_numeral (integer_of text) (decimals_of text), too_long)
+    ∷ []
+
+-- the number of a text: it has as many decimals, and is as many units of the last of them as the digits spell
+pub record IsSpelled (negative : Bool) (text : List ℕ) (p : Parts) : Type 0 where
+  pub number : is_number p ≡ true
+  pub scale : p.scale ≡ length (decimals_of text)
+  pub units : units_of p ≡ digits_value 10 (integer_of text ++ decimals_of text)
+  -- 0 has no sign
+  pub sign : p.negative ≡ (negative && nat_lt 0 (units_of p))
+
+-- the number that a text spells after that sign, or the fault of the first check that it fails
+abbrev pub ReadsNumeral : Bool → List ℕ → Outcome Parts → Type 0
+ReadsNumeral negative text (Ok p) = (first_fault_of (numeral_checks text) ≡ None) × IsSpelled negative text p
+ReadsNumeral negative text (Err r) = first_fault_of (numeral_checks text) ≡ Some r
+
+-- a text of a number (numeric_in, without exponents)
+abbrev pub ParsesNumber : List ℕ → Outcome Parts → Type 0
+ParsesNumber text = ReadsNumeral (starts_with_minus text) (without_leading_sign text)
