@@ -1,8 +1,8 @@
-//! Turns a binary COPY on standard input into lines of COPY's text format on standard output, or such
-//! lines into a binary COPY.
+//! Converts a binary COPY on standard input to lines in the text format of COPY on standard output,
+//! or such lines to a binary COPY.
 //!
-//! The exit status is 0 where the whole input was turned, and 1 otherwise; a message on standard error
-//! says why, and where it is a terminal, how far the COPY is.
+//! The exit status is 0 if the whole input was converted, and 1 otherwise. A message on standard
+//! error says why. If standard error is a terminal, it shows the progress of the COPY.
 #![tactic(auto)]
 
 mod progress;
@@ -19,7 +19,7 @@ use std::alloc::Global;
 use std::fmt::Write;
 use std::{env, io};
 
-/// What `--help` prints before the names of types.
+/// The text that `--help` prints before the names of types.
 const HELP: &str = "\
 copy_cells read TYPE.. reads a binary COPY of columns of these types, and writes each row as a line of COPY's text
 format:
@@ -36,7 +36,7 @@ scripts/columns t prints them too where the table has enumerated types, domains 
 
 ";
 
-/// What it prints after them.
+/// The text that `--help` prints after the names of types.
 const NOTES: &str = "\
 Names are those that format_type prints, too: integer, character varying(20), timestamp(3) with time zone.
 [] after a type says arrays of it. A domain is named by its base type, an enumerated type enum, and a composite type
@@ -46,7 +46,7 @@ is 1. Where standard error is a terminal and standard output is none, the rows a
 there.
 ";
 
-/// Which way a COPY is turned.
+/// The direction of the conversion.
 #[derive(Debug, Clone, Copy)]
 enum Direction {
     /// From a binary COPY to lines.
@@ -56,7 +56,7 @@ enum Direction {
 }
 
 impl Direction {
-    /// Turns the input.
+    /// Converts the input.
     fn copy<R: io::Read, W: io::Write>(
         self,
         alloc: Global,
@@ -87,7 +87,7 @@ fn main(rt: HostRuntime) -> Result<()> {
     Ok(outcome?)
 }
 
-/// Prints what `--help` asks for.
+/// Prints the help.
 fn help(rt: &HostRuntime) -> Result<()> {
     rt.print(HELP)?;
     let with_arrays = names(rt.alloc(), true)?;
@@ -96,7 +96,8 @@ fn help(rt: &HostRuntime) -> Result<()> {
     Ok(rt.print(NOTES)?)
 }
 
-/// The types that have arrays, or have none, on lines of some 100 bytes.
+/// Returns the names of the types that have arrays, or of those that have none, on lines of about
+/// 100 bytes.
 fn names(alloc: Global, has_arrays: bool) -> Result<String> {
     let mut names = String::new(alloc);
     let mut width: usize = 0;
@@ -115,7 +116,8 @@ fn names(alloc: Global, has_arrays: bool) -> Result<String> {
     Ok(names)
 }
 
-/// The direction and the columns that the words of a command line ask for, or `None` where they ask for help.
+/// Returns the direction and the columns that the words of a command line ask for, or `None` if
+/// they ask for help.
 fn asked(alloc: Global, words: &[String]) -> Result<Option<(Direction, Vec<Column>)>> {
     let Some((word, rest)) = words.split_first() else {
         bail!("no direction is given; --help says how");

@@ -1,4 +1,4 @@
-//! How far a COPY is, which a terminal shows.
+//! The progress of a COPY, which is shown on a terminal.
 ghost use Rattle.std.specs.Prelude.{◌≡◌};
 
 use std::cell::Cell;
@@ -11,17 +11,17 @@ use std::time::Instant;
 pub struct Progress {
     rt: HostRuntime,
     start: Instant,
-    /// When the last report was written.
+    /// The time of the last report.
     reported: Cell<Instant>,
     bytes: Cell<u64>,
     rows: Cell<u64>,
-    /// Whether a line began that no line feed ended yet.
+    /// Whether the last line has not ended yet.
     is_in_line: Cell<bool>,
 }
 
 impl Progress {
-    /// Begins to count. `None` says that nothing is to be shown: standard error is no terminal, or
-    /// standard output is one, where the lines stand.
+    /// Starts counting. Returns `None` if nothing is to be shown: standard error is not a terminal,
+    /// or standard output is one, which shows the lines.
     pub fn start(rt: HostRuntime) -> Option<Progress> {
         if !rt.stderr().is_terminal() || rt.stdout().is_terminal() {
             return None;
@@ -37,8 +37,8 @@ impl Progress {
         })
     }
 
-    /// Counts what goes through the input or the output of the COPY. Its lines are the rows where it
-    /// is the one that is text.
+    /// Counts what goes through the input or the output of the COPY. If the stream is the one with
+    /// text, its lines are counted as rows.
     pub fn count<S>(&self, stream: S, is_text: bool) -> Counted<'_, S>
         ensures { result.stream ≡ stream }
     {
@@ -49,14 +49,14 @@ impl Progress {
         }
     }
 
-    /// Shows how far the COPY came, and ends the line.
+    /// Shows the final progress, and ends the line.
     pub fn finish(&self) {
         if let Ok(now) = Instant::now(&self.rt) {
             self.report(now, "\n");
         }
     }
 
-    /// Shows how far the COPY is, where the last report is a second old.
+    /// Shows the progress if the last report is at least a second old.
     fn report_if_due(&self) {
         let Ok(now) = Instant::now(&self.rt) else {
             return;
@@ -67,14 +67,14 @@ impl Progress {
         }
     }
 
-    /// Writes a report over the last one. Where standard error cannot be written, it is left out.
+    /// Writes a report over the last one. An error of standard error is ignored.
     fn report(&self, now: Instant, end: &str) {
         let rows = Grouped(self.rows.get());
         let tenths = self.bytes.get() / 100_000;
         let (megabytes, tenth) = (Grouped(tenths / 10), tenths % 10);
         let millis = u64::try_from(now.duration_since(self.start).as_millis()).unwrap_or(u64::MAX);
         let rate = Grouped(rows.0.saturating_mul(1000) / millis.max(1));
-        // The blanks cover what is left of a report with a higher rate.
+        // The blanks overwrite the end of a longer report.
         let _ = eprint!(self.rt;
             "\r{rows} rows and {megabytes}.{tenth} MB read, {rate} rows/s        {end}"
         );
@@ -85,7 +85,8 @@ impl Progress {
         self.bytes.set(bytes.saturating_add(count as u64));
     }
 
-    /// Counts the lines that end in the text. That no text comes ends the last line too.
+    /// Counts the lines that end in the text. An empty text, at the end of the input, ends the last
+    /// line.
     fn add_lines(&self, text: &[u8]) {
         let mut lines = text.iter().filter(|byte| **byte == b'\n').count();
         let is_in_line = text.last().is_some_and(|byte| *byte != b'\n');
@@ -105,7 +106,7 @@ pub struct Counted<'a, S> {
     is_text: bool,
 }
 
-/// Each read shows how far the COPY is, at most once a second.
+/// Each read shows the progress, at most once a second.
 impl<R: Read> Read for Counted<'_, R> {
     ghost remaining = { λ s. R.remaining s.stream };
 
@@ -136,7 +137,7 @@ impl<W: Write> Write for Counted<'_, W> {
     }
 }
 
-/// A number with a comma between its groups of three digits: `1,234,567`.
+/// A number with commas between groups of three digits: `1,234,567`.
 #[derive(Clone, Copy)]
 struct Grouped(u64);
 

@@ -4,7 +4,7 @@ use Rattle.std.specs.Cmp.Lexicographic.{pointwise}
 use Rattle.named_types.specs.declared.base.Base.{Base}
 use Rattle.named_types.specs.declared.base.Base.TheVariants as base
 
--- the name of each
+-- the name of each base name
 abbrev pub base_name : Base → List ℕ
 base_name base.Addr = codes "addr"
 base_name base.Bit = codes "bit"
@@ -15,6 +15,8 @@ base_name base.Char = codes "char"
 base_name base.Cidr = codes "cidr"
 base_name base.Date = codes "date"
 base_name base.DateInf = codes "date_inf"
+base_name base.Float4 = codes "float4"
+base_name base.Float8 = codes "float8"
 base_name base.Hstore = codes "hstore"
 base_name base.Inet = codes "inet"
 base_name base.Int2 = codes "int2"
@@ -27,6 +29,7 @@ base_name base.Ltree = codes "ltree"
 base_name base.Macaddr = codes "macaddr"
 base_name base.Mood = codes "mood"
 base_name base.Name = codes "name"
+base_name base.Numeric = codes "numeric"
 base_name base.Oid = codes "oid"
 base_name base.OidVector = codes "oidvector"
 base_name base.PgLsn = codes "pg_lsn"
@@ -43,16 +46,16 @@ base_name base.Uuid = codes "uuid"
 base_name base.Varbit = codes "varbit"
 base_name base.Varchar = codes "varchar"
 
--- all of them
+-- all base names
 abbrev pub bases : List Base
-bases = base.Addr ∷ base.Bit ∷ base.Bool ∷ base.Bpchar ∷ base.Bytea ∷ base.Char ∷ base.Cidr ∷ base.Date ∷ base.DateInf ∷ base.Hstore ∷ base.Inet ∷ base.Int2 ∷ base.Int2Vector ∷ base.Int4 ∷ base.Int8 ∷ base.Interval ∷ base.Item ∷ base.Ltree ∷ base.Macaddr ∷ base.Mood ∷ base.Name ∷ base.Oid ∷ base.OidVector ∷ base.PgLsn ∷ base.Session ∷ base.Text ∷ base.Time ∷ base.Timestamp ∷ base.TimestampInf ∷ base.Timestamptz ∷ base.Unix ∷ base.UnixInf ∷ base.Unknown ∷ base.Uuid ∷ base.Varbit ∷ base.Varchar ∷ []
+bases = base.Addr ∷ base.Bit ∷ base.Bool ∷ base.Bpchar ∷ base.Bytea ∷ base.Char ∷ base.Cidr ∷ base.Date ∷ base.DateInf ∷ base.Float4 ∷ base.Float8 ∷ base.Hstore ∷ base.Inet ∷ base.Int2 ∷ base.Int2Vector ∷ base.Int4 ∷ base.Int8 ∷ base.Interval ∷ base.Item ∷ base.Ltree ∷ base.Macaddr ∷ base.Mood ∷ base.Name ∷ base.Numeric ∷ base.Oid ∷ base.OidVector ∷ base.PgLsn ∷ base.Session ∷ base.Text ∷ base.Time ∷ base.Timestamp ∷ base.TimestampInf ∷ base.Timestamptz ∷ base.Unix ∷ base.UnixInf ∷ base.Unknown ∷ base.Uuid ∷ base.Varbit ∷ base.Varchar ∷ []
 
--- the first of some base names that has that name
+-- the first of these base names that has this name
 abbrev pub named : List Base → List ℕ → Option Base
 named [] name = None
 named (first ∷ others) name = cond (pointwise ◌==◌ name (base_name first)) (Some first) (named others name)
 
--- the base name of that name
+-- the base name that has this name
 abbrev pub base_of : List ℕ → Option Base
 base_of = named bases
 

@@ -1,3 +1,3 @@
--- The words of names.
+-- Definitions of names.
 pub mod BaseNames
 pub mod Names

@@ -7,7 +7,7 @@ use Rattle.named_types.specs.declared.name.Form.{Form}
 use Rattle.named_types.specs.declared.name.Form.TheVariants.{Plain, Optional, Array, OptionalArray}
 use Rattle.named_types.specs.declared.name.Name.{Name}
 
--- the base name's bytes and the form of a name: `?`, `[]`, `?[]` or nothing stands after the base name
+-- the bytes of the base name and the form of a name: `?`, `[]`, `?[]` or nothing follows the base name
 abbrev pub form_of : List ℕ → List ℕ × Form
 form_of word =
     if ends_with nat_eq word (codes "?[]") then (take (length word - 3) word, OptionalArray)
@@ -26,7 +26,7 @@ is_array Optional = false
 is_array Array = true
 is_array OptionalArray = true
 
--- of a type and the type of its arrays, the one that a form stands for
+-- the type for a form, given a type and the type of its arrays
 abbrev pub picked : {A : Type 0} → Form → A → Option A → Option A
 picked Plain own arrays = Some own
 picked Optional own arrays = Some own

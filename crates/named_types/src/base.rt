@@ -2,11 +2,12 @@
 ghost use Rattle.std.specs.Prelude.{◌≡◌};
 ghost use Rattle.named_types.specs.BaseNames.{base_name, base_of, has_arrays};
 
-/// The table of the base names, in alphabetical order and by their first letters: of each its
-/// member of [`Base`], the name, its Rust type, its Postgres type and, where it has arrays, their
-/// Postgres type. A Postgres type is a constant of `Type`, or of a user-defined type `user`, the
-/// function of `pg_record::types` that makes it, its OID, and its name where the function is told
-/// it. `$rows` is the macro that is called with all rows, after the arguments.
+/// The table of the base names, in alphabetical order and grouped by their first letters. A row has
+/// the member of [`Base`], the name, its Rust type, its Postgres type and, if there are arrays of
+/// it, their Postgres type. A Postgres type is a constant of `Type`, or, for a user-defined type,
+/// `user` with the function of `pg_record::types` that makes it, its OID, and its name if the
+/// function takes one, or, for a type of the schema `pg_catalog`, `catalog` with the functions that
+/// make both types. The macro `$rows` is called with the arguments and then all rows.
 #[macro_export]
 macro_rules! base_names {
     ($rows:ident $args:tt) => {
@@ -27,6 +28,12 @@ macro_rules! base_names {
             b'd' {
                 Date "date" [jiff::civil::Date, DATE, DATE_ARRAY],
                 DateInf "date_inf" [postgres_types::Date<jiff::civil::Date>, DATE, DATE_ARRAY],
+            }
+            b'f' {
+                Float4 "float4"
+                    [pg_numbers::Float4, catalog(pg_numbers::types::float4_type, pg_numbers::types::float4_array_type)],
+                Float8 "float8"
+                    [pg_numbers::Float8, catalog(pg_numbers::types::float8_type, pg_numbers::types::float8_array_type)],
             }
             b'h' {
                 Hstore "hstore" [std::collections::HashMap<String, Option<String>>, user(simple_type 100_002 "hstore")],
@@ -50,6 +57,8 @@ macro_rules! base_names {
             }
             b'n' {
                 Name "name" [String, NAME, NAME_ARRAY],
+                Numeric "numeric"
+                    [pg_numbers::Numeric, catalog(pg_numbers::types::numeric_type, pg_numbers::types::numeric_array_type)],
             }
             b'o' {
                 Oid "oid" [u32, OID, OID_ARRAY],
@@ -95,6 +104,8 @@ pub enum Base {
     Cidr,
     Date,
     DateInf,
+    Float4,
+    Float8,
     Hstore,
     Inet,
     Int2,
@@ -107,6 +118,7 @@ pub enum Base {
     Macaddr,
     Mood,
     Name,
+    Numeric,
     Oid,
     OidVector,
     PgLsn,
@@ -124,7 +136,7 @@ pub enum Base {
     Varchar,
 }
 
-// The base names that begin with the first letter of the bytes are compared with them.
+// Only the base names that begin with the first letter of the bytes are compared with them.
 macro_rules! found {
     (($bytes:ident) $($letter:literal { $($base:ident $name:literal $types:tt,)* })*) => {
         match $bytes {
@@ -153,7 +165,7 @@ macro_rules! name_of {
     };
 }
 
-// Whether a base name has arrays: whether two Postgres types stand in its row.
+// Whether a base name has arrays: its row has two Postgres types.
 macro_rules! has_arrays {
     (($of:expr) $($letter:literal { $($base:ident $name:literal $types:tt,)* })*) => {
         match $of {
@@ -172,17 +184,17 @@ macro_rules! has_arrays {
 }
 
 impl Base {
-    /// All of them, in alphabetical order.
+    /// All base names, in alphabetical order.
     pub const ALL: &'static [Base] = &base_names!(all());
 
-    /// Whether it has arrays.
+    /// Whether the base name has arrays.
     pub fn has_arrays(self) -> bool
         ensures { result ≡ has_arrays self }
     {
         base_names!(has_arrays(self))
     }
 
-    /// The base name that the bytes are, or `None` where they are none.
+    /// Returns the base name that the bytes are, or `None` if they are not one.
     #[inline(never)]
     pub fn parse(bytes: &[u8]) -> Option<Base>
         ensures { result ≡ base_of bytes.now }
@@ -190,7 +202,7 @@ impl Base {
         base_names!(found(bytes))
     }
 
-    /// The name.
+    /// Returns the name.
     pub fn name(self) -> &'static str
         ensures { result.now ≡ base_name self }
     {

@@ -1,5 +1,4 @@
-//! The names of types, as they stand on a line of pgcell: a base name, and `?`, `[]` or `?[]` after
-//! it.
+//! The names of types on a line of pgcell: a base name, possibly followed by `?`, `[]` or `?[]`.
 #![tactic(auto)]
 
 mod base;

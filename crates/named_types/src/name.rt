@@ -1,23 +1,23 @@
-//! What a name is: a base name in a form.
+//! A name of a type: a base name and a form.
 ghost use Rattle.std.specs.Prelude.{◌≡◌, option_map};
 ghost use Rattle.named_types.specs.Names.{form_of, is_array as is_array_form, name_of, picked};
 
 use crate::base::Base;
 
-/// What may follow a base name.
+/// The form of a name: what follows its base name.
 #[derive(Debug, Clone, Copy, PartialEq, Eq)]
 pub enum Form {
-    /// Nothing: the base name's own types.
+    /// Nothing: the types of the base name.
     Plain,
-    /// `?`: an `Option`, of the same Postgres type.
+    /// `?`: an `Option` of the Rust type, with the same Postgres type.
     Optional,
-    /// `[]`: a `Vec`, and the Postgres type of arrays.
+    /// `[]`: a `Vec` of the Rust type, with the Postgres type of its arrays.
     Array,
-    /// `?[]`: a `Vec` of `Option`s, and the Postgres type of arrays.
+    /// `?[]`: a `Vec` of `Option`s of the Rust type, with the Postgres type of its arrays.
     OptionalArray,
 }
 
-/// A base name in a form, whether it has arrays or not.
+/// A base name and a form, which may be one of arrays even if the base name has none.
 #[derive(Debug, Clone, Copy, PartialEq, Eq)]
 pub struct Name {
     pub base: Base,
@@ -25,7 +25,7 @@ pub struct Name {
 }
 
 impl Form {
-    /// The base name's bytes, and the form that follows them.
+    /// Returns the bytes of the base name, and the form that follows them.
     fn parse(word: &[u8]) -> (&[u8], Form)
         ensures { (result.0.now, result.1) ≡ form_of word.now }
     {
@@ -40,15 +40,15 @@ impl Form {
         }
     }
 
-    /// Whether it is a form of arrays.
+    /// Whether the form is one of arrays.
     pub fn is_array(self) -> bool
         ensures { result ≡ is_array_form self }
     {
         matches!(self, Form::Array | Form::OptionalArray)
     }
 
-    /// Of a base name's type and the type of its arrays, the one that this form stands for; `None`
-    /// where it is the latter and the base name has no arrays.
+    /// Returns the type for this form, given the type of a base name and the type of its arrays.
+    /// Returns `None` if the form is one of arrays and the base name has none.
     pub fn pick<T: Drop>(self, own: T, arrays: Option<T>) -> Option<T>
         ensures { result ≡ picked self own arrays }
     {
@@ -60,7 +60,7 @@ impl Form {
 }
 
 impl Name {
-    /// The name that the word is, or `None` where it begins with no base name.
+    /// Returns the name that the word is, or `None` if it does not begin with a base name.
     pub fn parse(word: &[u8]) -> Option<Name>
         ensures { result ≡ name_of word.now }
     {

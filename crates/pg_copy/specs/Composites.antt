@@ -22,8 +22,8 @@ use Rattle.postgres_types.specs.Content.{BuiltInType}
 use Rattle.postgres_types.specs.OptionReading.{ReadsOption}
 use Rattle.postgres_types.specs.Records.{count_fault, number_checks}
 
--- whether the OID in a record stands for a field's type: it is the type's, or one of the two is no built-in type's
--- (record_recv)
+-- whether the OID in a record is accepted for the type of a field: it is that of the type, or one of the two is not
+-- assigned by hand (record_recv)
 abbrev pub fits_oid : ℕ → ℕ → Bool
 fits_oid expected found = found == expected || (nat_le 10000 found || nat_le 10000 expected)
 
@@ -36,31 +36,30 @@ type_fault ty s =
 abbrev pub field_values : Field → Values
 field_values field = in_form field.is_array (values_of field.base).0
 
--- the text of a field: nothing for NULL; otherwise that of a value which the cell is read as, in quotes where it needs
--- them
+-- the text of a field: nothing for NULL; otherwise that of a value which the cell is read as, quoted if it has to be
 abbrev pub FieldText : Field → Cell → List ℕ → Type 0
 FieldText field None text = text ≡ []
 FieldText field (Some bytes) text =
     (own : List ℕ) × ShowsCell (field_values field) (content field.ty) bytes [] own × (text ≡ field_text own)
 
--- a field's bytes in the record, and its text
+-- the bytes of a field in the record, and its text
 pub record ShowsField (field : Field) (part : List ℕ × List ℕ) : Type 0 where
   -- the OID of its type comes first
   pub oid : type_fault (content field.ty) part.0 ≡ None
-  -- and then the frame of its cell
+  -- then comes the frame of its cell
   pub cell : Cell
   pub spells : Spells (after_number part.0) cell
-  -- and this is the text
+  -- this is the text
   pub text : FieldText field cell part.1
 
--- the field at the front of the bytes is refused: the OID of its type, or else its cell
+-- the field at the front of the bytes is refused: the OID of its type, or otherwise its cell
 abbrev pub RefusesField : Field → List ℕ → Refusal → Type 0
 RefusesField field s refusal =
     (type_fault (content field.ty) s ≡ Some refusal)
     ⊎ ((type_fault (content field.ty) s ≡ None)
     × RefusesAs (field_values field) (content field.ty) (after_number s) refusal)
 
--- the bytes after the number of fields are refused: a field, before which each has a text, or trailing bytes
+-- the bytes after the number of fields are refused: a field, after fields that each have a text, or trailing bytes
 abbrev pub RefusesFields : List Field → List ℕ → Refusal → Type 0
 RefusesFields [] s refusal = first_fault_of (no_trailing s ∷ []) ≡ Some refusal
 RefusesFields (field ∷ fields) s refusal =
@@ -68,8 +67,8 @@ RefusesFields (field ∷ fields) s refusal =
     ⊎ ((part : List ℕ × List ℕ) × (rest : List ℕ) × ShowsField field part × (s ≡ part.0 ++ rest)
     × RefusesFields fields rest refusal)
 
--- a record: the number of fields and the bytes of each; its text, which was put after what was there, is that of each
--- in parentheses, with a comma between
+-- a record: the number of fields and the bytes of each; its text, which was appended, is the texts of the fields in
+-- parentheses, with commas between
 pub record ShowsRecord (fields : List Field) (bytes old new : List ℕ) : Type 0 where
   -- the bytes and the text of each field
   pub parts : List (List ℕ × List ℕ)
@@ -77,10 +76,10 @@ pub record ShowsRecord (fields : List Field) (bytes old new : List ℕ) : Type 0
   -- the bytes follow the number of fields
   pub count : count_fault (length fields) bytes ≡ None
   pub is : after_number bytes ≡ flat_map (λ part. part.0) parts
-  -- and the texts follow one another
+  -- the texts follow one another
   pub shown : new ≡ old ++ (40 ∷ (join_with_byte 44 (map (λ part. part.1) parts) ++ 41 ∷ []))
 
--- a record is refused: the number of fields, or else its fields
+-- a record is refused: the number of fields, or otherwise its fields
 abbrev pub RefusesRecord : List Field → List ℕ → Refusal → Type 0
 RefusesRecord fields bytes refusal =
     (count_fault (length fields) bytes ≡ Some refusal)
@@ -102,7 +101,7 @@ ReadsElement fields (Some s) (Err refusal) = RefusesRecord fields s.now refusal
 abbrev pub ReadsBytesOfEach : Cell → Outcome (Vec (Option (Bor (List ℕ))) Global) → Type 0
 ReadsBytesOfEach = ReadsVec (λ ty. ReadsOption (ReadsBytes (λ s. s.now))) (BuiltInType ByteaArray)
 
--- and has a text where each element has one; otherwise the first element that has none gives its fault
+-- an array has a text if each element has one; otherwise the first element that has none gives its fault
 abbrev pub ReadsRecords : List Field → Cell → Outcome (Vec (Option (Bor (List ℕ))) Global) → Type 0
 ReadsRecords fields cell (Ok records) = ReadsShown ReadsBytesOfEach cell (Ok records)
 ReadsRecords fields cell (Err refusal) =
@@ -114,7 +113,7 @@ ReadsRecords fields cell (Err refusal) =
 abbrev pub record_values : List Field → Values
 record_values fields = values {A = Bor (List ℕ)} (λ ty. ReadsBytesOf fields) (λ s. ShowsRecord fields s.now)
 
--- and of arrays of it
+-- the values of arrays of a composite type
 abbrev pub records_values : List Field → Values
 records_values fields =
     values {A = Vec (Option (Bor (List ℕ))) Global} (λ ty. ReadsRecords fields)

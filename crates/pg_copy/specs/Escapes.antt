@@ -1,7 +1,7 @@
 -- The escapes of COPY's text format (CopyAttributeOutText).
 use Rattle.std.specs.Prelude.{ℕ, ◌==◌, Bool, List, [], ◌∷◌, ◌++◌, Option, Some, None, is_none, if◌then◌else◌}
 
--- the letter that stands for a byte after a backslash, of a byte that has one
+-- the letter that stands for a byte after a backslash, if it has one
 abbrev pub letter_of : ℕ → Option ℕ
 letter_of byte =
     if byte == 8 then Some 98
@@ -13,7 +13,7 @@ letter_of byte =
     else if byte == 92 then Some 92
     else None
 
--- a letter, of which 0 is none
+-- a letter; 0 is none
 abbrev pub letter_in : ℕ → Option ℕ
 letter_in letter = if letter == 0 then None else Some letter
 

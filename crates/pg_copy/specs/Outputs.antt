@@ -1,4 +1,4 @@
--- What is written of an output, or appended to a buffer.
+-- What is written to an output, or appended to a buffer.
 use Rattle.std.specs.Prelude.{◌≡◌, ℕ, List, ◌++◌, Option, take}
 use Rattle.std.specs.Io.KnownBytes.{Appends}
 
@@ -6,7 +6,7 @@ use Rattle.std.specs.Io.KnownBytes.{Appends}
 abbrev pub WritesWhole : (List ℕ → Type 0) → Option (List ℕ) → Option (List ℕ) → Type 0
 WritesWhole Is old new = (bytes : List ℕ) × Is bytes × Appends old new bytes
 
--- a beginning of such bytes was written
+-- a prefix of such bytes was written
 abbrev pub WritesPart : (List ℕ → Type 0) → Option (List ℕ) → Option (List ℕ) → Type 0
 WritesPart Is old new = (bytes : List ℕ) × (n : ℕ) × Is bytes × Appends old new (take n bytes)
 

@@ -1,4 +1,4 @@
--- How a binary COPY is read, a part after another.
+-- How a binary COPY is read, one part after another.
 use Rattle.std.specs.Prelude.{◌≡◌, ◌≢◌, ◌<◌, ℕ, Bool, true, false, List, [], ◌∷◌, ◌++◌, length, Some, None}
 use Rattle.pg_base.specs.Cells.{Cell, SpellsAll}
 use Rattle.pg_copy.specs.Lines.{FieldOf, IsLineOf}
@@ -14,7 +14,7 @@ use Rattle.pg_copy.specs.declared.read.Place.{Place}
 use Rattle.pg_copy.specs.declared.read.Place.TheVariants.{Header, Extension, Tuples, End}
 use Rattle.pg_tuples.specs.Reading.{AwaitsExtension, EndsInHeader, EndsInTuple}
 
--- NULL has no text, and bytes have that of a value that they are read as, which was appended
+-- NULL has no text; bytes have that of a value that they are read as, and it was appended
 abbrev pub HasText : Values → Content → Cell → Bool → List ℕ → List ℕ → Type 0
 HasText own ty None has_text old new = has_text ≡ false
 HasText own ty (Some bytes) has_text old new = (has_text ≡ true) × ShowsCell own ty bytes old new
@@ -29,7 +29,7 @@ abbrev pub TakesField : Column → List ℕ → List ℕ → List ℕ → List �
 TakesField column old new lines longer =
     (cell : Cell) × SpellsAll old (cell ∷ []) new × Gains (FieldOf column cell) lines longer
 
--- the frames of a row's cells were taken, and its line appended
+-- the frames of the cells of a row were taken, and its line was appended
 abbrev pub TakesRow : List Column → List ℕ → List ℕ → List ℕ → List ℕ → Type 0
 TakesRow columns old new lines longer =
     (row : List Cell) × SpellsAll old row new × Gains (IsLineOf columns row) lines longer
@@ -38,7 +38,7 @@ TakesRow columns old new lines longer =
 abbrev pub AddsRow : List Column → List ℕ → List ℕ → List ℕ → Type 0
 AddsRow columns frames lines longer = (rest : List ℕ) × TakesRow columns frames rest lines longer
 
--- what was read so far, of so many rows, and the lines of these
+-- what was read so far, with this number of rows, and their lines
 abbrev pub HasRead : List Column → Place → ℕ → List ℕ → List ℕ → Type 0
 HasRead columns Header count s lines = (s ≡ []) × (lines ≡ []) × (count ≡ 0)
 HasRead columns (Extension len) count s lines = AwaitsExtension len s × (lines ≡ []) × (count ≡ 0)
@@ -46,7 +46,7 @@ HasRead columns Tuples count s lines =
     (rows : List (List Cell)) × BeginsWithRows columns rows s lines × (count ≡ row_count (length rows))
 HasRead columns End count s lines = IsCopyOf columns s lines
 
--- bytes were taken off the front, and the lines of their rows appended, and the next place and number of rows are
+-- bytes were taken from the front, the lines of their rows were appended, and the next place and number of rows are
 -- those after them
 abbrev pub Advances : List Column → Place → ℕ → List ℕ → List ℕ → Place → ℕ → List ℕ → List ℕ → Type 0
 Advances columns place count old lines next more_count new longer =
@@ -54,25 +54,25 @@ Advances columns place count old lines next more_count new longer =
     × ((s so_far : List ℕ) → HasRead columns place count s so_far
     → HasRead columns next more_count (s ++ t) (so_far ++ gained))
 
--- where the header is to come, the bytes end before its extension
+-- if the header is to come, the bytes end before its extension
 abbrev pub AwaitsHeader : Place → List ℕ → Type 0
 AwaitsHeader Header s = EndsInHeader s
 AwaitsHeader place s = Unit {0}
 
--- and where a part of the header extension is to come, no byte is left
+-- if a part of the header extension is to come, no byte is left
 abbrev pub AwaitsMore : Place → List ℕ → Type 0
 AwaitsMore Header s = EndsInHeader s
 AwaitsMore (Extension len) s = (0 < len) × (s ≡ [])
 AwaitsMore place s = Unit {0}
 
--- what is to come does not stand whole at the front, and nothing stands after the trailer
+-- what is to come is not complete at the front, and nothing follows the trailer
 abbrev pub Awaits : List Column → Place → List ℕ → Type 0
 Awaits columns Header s = EndsInHeader s
 Awaits columns (Extension len) s = (0 < len) × (s ≡ [])
 Awaits columns Tuples s = EndsInTuple (length columns) s
 Awaits columns End s = s ≡ []
 
--- what stands in place of what is to come, after so many rows, is refused with this fault
+-- the bytes in place of what is to come, after this number of rows, are refused with this fault
 abbrev pub StopsAt : List Column → Place → ℕ → List ℕ → CopyFault → Type 0
 StopsAt columns Header rows s fault = HeaderRefused s fault
 StopsAt columns (Extension len) rows s fault = ⊥

@@ -1,11 +1,11 @@
--- A binary COPY that is read, and the lines of its rows (documentation of the command COPY, "Binary Format").
+-- A binary COPY that is read, and the lines of its rows ("Binary Format" in the documentation of the command COPY).
 use Rattle.std.specs.Prelude.{◌≡◌, ◌⊎◌, ℕ, List, [], ◌++◌, Option, Some, None}
 use Rattle.pg_base.specs.Cells.{Cell}
 use Rattle.pg_copy.specs.Lines.{AreLinesOf}
 use Rattle.pg_copy.specs.declared.columns.Column.{Column}
 use Rattle.pg_tuples.specs.Tuples.{BeginsCopy, trailer}
 
--- a header and the tuples of these rows, whose lines these are
+-- a header and the tuples of these rows, which have these lines
 abbrev pub BeginsWithRows : List Column → List (List Cell) → List ℕ → List ℕ → Type 0
 BeginsWithRows columns rows s lines = BeginsCopy rows s × AreLinesOf columns rows lines
 
@@ -13,7 +13,7 @@ BeginsWithRows columns rows s lines = BeginsCopy rows s × AreLinesOf columns ro
 abbrev pub BeginsRows : List Column → List ℕ → List ℕ → Type 0
 BeginsRows columns s lines = (rows : List (List Cell)) × BeginsWithRows columns rows s lines
 
--- a COPY: they, and the trailer
+-- a COPY: a header, the tuples of some rows, and the trailer
 abbrev pub IsCopyOf : List Column → List ℕ → List ℕ → Type 0
 IsCopyOf columns s lines = (t : List ℕ) × BeginsRows columns t lines × (s ≡ t ++ trailer)
 
@@ -22,7 +22,7 @@ abbrev pub StartsCopyOf : List Column → List ℕ → List ℕ → Type 0
 StartsCopyOf columns s lines =
     (lines ≡ []) ⊎ ((t rest : List ℕ) × BeginsRows columns t lines × (s ≡ t ++ rest))
 
--- this holds of the bytes that a reader had, or of some where it does not tell its bytes
+-- this holds of the bytes that a reader had, or of some bytes if they are not known
 abbrev pub OfInput : Option (List ℕ) → (List ℕ → Type 0) → Type 0
 OfInput None Holds = (s : List ℕ) × Holds s
 OfInput (Some s) Holds = Holds s

@@ -1,4 +1,5 @@
--- The values of a column's cells, their texts, and what values of texts are written as, by its type.
+-- The values of the cells of a column, their texts, and what texts are written as, by the type of the column.
+use Rattle.std.specs.Float.{binary32, binary64}
 use Rattle.std.specs.Fmt.{signed_decimal}
 use Rattle.std.specs.Global.{Global}
 use Rattle.std.specs.HashMap.{HashMap}
@@ -12,6 +13,7 @@ use Rattle.pg_copy.specs.declared.types.Base.{Base}
 use Rattle.pg_copy.specs.declared.types.Base.TheVariants as base
 use Rattle.pg_base.specs.Cells.{be}
 use Rattle.pg_base.specs.Json.{ReadsJson, wire_json}
+use Rattle.pg_text.specs.Floats.{SaysFloat, ShowsFloat}
 use Rattle.pg_text.specs.Lists.{SaysArray, SaysVector, ShowsArray, vector_text}
 use Rattle.pg_text.specs.Maps.{ShowsMap}
 use Rattle.pg_text.specs.Specials.{SaysSpecial, ShowsSpecial}
@@ -53,11 +55,11 @@ use Rattle.uuid.specs.Text.{hyphenated_text, lower}
 pub data Values : Type 1 where
   values : {A : Type 0} → (Content → Cell → Outcome A → Type 0) → (A → List ℕ → List ℕ → Type 0) → Values
 
--- the values that texts say, and what they are written as
+-- the values that texts stand for, and what they are written as
 pub data TextValues : Type 1 where
   text_values : {A : Type 0} → (List ℕ → A → Type 0) → (Content → A → Wire) → TextValues
 
--- what an array's cell gives: a list of what its elements give by their type
+-- what the cell of an array gives: a list of what its elements give by their type
 abbrev pub ReadsVec : {A : Type 0} → (Content → Cell → Outcome A → Type 0) → Content → Cell → Outcome (Vec A Global)
     → Type 0
 ReadsVec reads ty = ReadsByElement (λ element. ReadsList (λ v. v.items) (reads element)) (element_of ty)
@@ -71,20 +73,20 @@ abbrev pub HasOtherBound : List ℕ → Type 0
 HasOtherBound bytes =
     (20 ≤ length bytes) × (take 4 bytes ≡ be w32 (pos 1)) × (take 4 (drop 16 bytes) ≢ be w32 (pos 1))
 
--- the bytes, which give a list, are such an array's: it has no text here, since a list does not keep the bound
+-- the bytes, which give a list, are such an array: it is refused, since a list does not keep the bound
 abbrev pub RefusesBound : {A : Type 0} → (Outcome A → Type 0) → List ℕ → Refusal → Type 0
 RefusesBound {A} gives bytes refusal =
     (list : A) × gives (Ok list) × HasOtherBound bytes
     × (refusal ≡ user (codes "array with a lower bound other than 1"))
 
--- what an array's cell gives, where one with another lower bound is refused
+-- what the cell of an array gives, if another lower bound is refused
 abbrev pub ReadsShown : {A : Type 0} → (Cell → Outcome A → Type 0) → Cell → Outcome A → Type 0
 ReadsShown reads None outcome = reads None outcome
 ReadsShown reads (Some bytes) (Ok list) = reads (Some bytes) (Ok list) × (HasOtherBound bytes → ⊥)
 ReadsShown reads (Some bytes) (Err refusal) =
     reads (Some bytes) (Err refusal) ⊎ RefusesBound (reads (Some bytes)) bytes refusal
 
--- arrays of values, of which an element may be NULL
+-- arrays of values, whose elements may be NULL
 abbrev pub arrays_of : Values → Values
 arrays_of (values reads shows) =
     values (λ ty. ReadsShown (ReadsVec (λ element. ReadsOption (reads element)) ty)) (λ v. ShowsArray shows v.items)
@@ -99,7 +101,7 @@ with_arrays own = (own, arrays_of own)
 abbrev pub texts_with_arrays : TextValues → TextValues × TextValues
 texts_with_arrays own = (own, text_arrays_of own)
 
--- of these the values, or the arrays
+-- the values, or the arrays of them
 abbrev pub in_form : {A : Type 1} → Bool → A × A → A
 in_form false forms = forms.0
 in_form true forms = forms.1
@@ -108,15 +110,15 @@ in_form true forms = forms.1
 abbrev pub plain : {A : Type 0} → (Cell → Outcome A → Type 0) → (A → List ℕ → List ℕ → Type 0) → Values × Values
 plain reads shows = with_arrays (values (λ _. reads) shows)
 
--- values of which nothing is said but what they are written as
+-- values of which only the written form is known
 abbrev pub written_by_type : {A : Type 0} → (Content → A → Wire) → TextValues × TextValues
 written_by_type wire = (text_values AnyValue wire, text_arrays_of (text_values AnyValue wire))
 
--- the same of one format, whatever the Postgres type
+-- the same for one format, whatever the Postgres type
 abbrev pub written : {A : Type 0} → (A → Wire) → TextValues × TextValues
 written wire = written_by_type (λ _. wire)
 
--- values that a text says, of one format
+-- values that a text stands for, with one format
 abbrev pub parsed : {A : Type 0} → (List ℕ → A → Type 0) → (A → Wire) → TextValues × TextValues
 parsed says wire = (text_values says (λ _. wire), text_arrays_of (text_values says (λ _. wire)))
 
@@ -124,7 +126,7 @@ parsed says wire = (text_values says (λ _. wire), text_arrays_of (text_values s
 abbrev pub Conversions : Type 1
 Conversions = (Values × Values) × (TextValues × TextValues)
 
--- texts, which are their own texts
+-- texts, which stand for themselves
 abbrev pub texts : Conversions
 texts = (
   with_arrays (values {A = Bor (List ℕ)} (λ ty. ReadsText (λ s. s.now) (has_version ty)) (Shows (λ s. s.now))),
@@ -135,7 +137,7 @@ texts = (
   ),
 )
 
--- documents
+-- JSON documents
 abbrev pub documents : Conversions
 documents = (
   with_arrays (values (λ ty. ReadsJson view (is_row Jsonb ty)) AnyText),
@@ -146,7 +148,7 @@ documents = (
 abbrev pub Map : Type 0
 Map = HashMap (String Global) (Option (String Global)) (BuildHasherDefault FoldHasher)
 
--- a composite type within another, which has no values here: every cell but NULL is refused
+-- a composite type within another, which has no values here: every cell except NULL is refused
 abbrev pub nested : Refusal
 nested = user (codes "composite type within a composite type")
 
@@ -181,6 +183,10 @@ values_of base.Date = (
   parsed (λ text v. SaysSpecial SaysDate text (date_view v)) (λ v. wire_special w32 wire_date (date_view v)),
 )
 values_of base.Enum = texts
+values_of base.Float4 =
+    (plain (ReadsUnsigned w32) (ShowsFloat binary32), parsed (SaysFloat binary32) (wire_unsigned w32))
+values_of base.Float8 =
+    (plain (ReadsUnsigned w64) (ShowsFloat binary64), parsed (SaysFloat binary64) (wire_unsigned w64))
 values_of base.Hstore = (
   plain {A = Map} ReadsHstore (λ m. ShowsMap (map owned_entry m.entries)),
   written {A = Map} (λ m. wire_hstore (map owned_entry m.entries)),
@@ -232,11 +238,11 @@ values_of base.Uuid = (
 values_of base.Varbit = (plain (ReadsBits (λ v. v)) (Shows bits_text), parsed (λ text v. text ≡ bits_text v) wire_bits)
 values_of base.Varchar = texts
 
--- the text of a value that the cell's bytes are read as was put after what was there
+-- the text of a value that the bytes of the cell are read as was appended
 abbrev pub ShowsCell : Values → Content → List ℕ → List ℕ → List ℕ → Type 0
 ShowsCell (values {A} reads shows) ty bytes old new =
     (value : A) × reads ty (Some bytes) (Ok value) × shows value old new
 
--- the cell is what a value that the text says is written as
+-- the cell is what a value that the text stands for is written as
 abbrev pub WritesText : TextValues → Content → List ℕ → Cell → Type 0
 WritesText (text_values {A} says wire) ty text cell = (value : A) × says text value × (wire ty value ≡ Ok cell)

@@ -6,11 +6,11 @@ use Rattle.pg_base.specs.Cells.{Cell, frame}
 use Rattle.pg_copy.specs.Values.{TextValues, WritesText}
 use Rattle.postgres_types.specs.Content.{Content}
 
--- the text that a call is handed, of which None is NULL
+-- the text that is passed to a call; None is NULL
 abbrev pub text_of : Option (Bor (List ℕ)) → Option (List ℕ)
 text_of text = option_map (λ t. t.now) text
 
--- the cell of a text: NULL is NULL, and a text is some bytes, which a value that it says is written as
+-- the cell of a text: NULL is NULL, and a text is some bytes, as which a value that it stands for is written
 abbrev pub CellAs : TextValues → Content → Option (List ℕ) → Cell → Type 0
 CellAs own ty None cell = cell ≡ None
 CellAs own ty (Some text) cell = IsSome cell × WritesText own ty text cell

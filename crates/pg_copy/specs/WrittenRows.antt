@@ -1,4 +1,4 @@
--- What a binary COPY is written of lines.
+-- The binary COPY that is written for lines.
 use Rattle.std.specs.Prelude.{◌≡◌, ◌≢◌, ◌<◌, ◌≤◌, ◌-◌, ◌^◌, min, ℕ, pos, List, [], ◌∷◌, ◌++◌, length}
 use Rattle.std.specs.Prelude.{Option, Some}
 use Rattle.std.specs.Int.{w16}
@@ -22,7 +22,7 @@ use Rattle.pg_copy.specs.declared.copy_fault.CopyFault.{CopyFault}
 use Rattle.pg_copy.specs.declared.copy_fault.CopyFault.TheVariants.{Read, Write, Memory, TooManyColumns}
 use Rattle.pg_copy.specs.declared.copy_fault.CopyFault.TheVariants.{Columns, Value}
 
--- the values of texts: of a composite type where there are fields
+-- the values of texts: of a composite type if there are fields
 abbrev pub texts_with : List Field → Base → TextValues × TextValues
 texts_with [] base = (values_of base).1
 texts_with (field ∷ fields) base = composite_texts (field ∷ fields)
@@ -46,7 +46,7 @@ FieldCell column field cell = (text : Option (List ℕ)) × Says field text × C
 abbrev pub FieldFrame : Column → List ℕ → List ℕ → Type 0
 FieldFrame column field bytes = (cell : Cell) × FieldCell column field cell × (frame cell ≡ Some bytes)
 
--- the cells of fields in columns, of which there are as many
+-- the cells of fields in columns, in the same number
 abbrev pub FieldCells : List Column → List (List ℕ) → List Cell → Type 0
 FieldCells [] [] cells = cells ≡ []
 FieldCells [] (field ∷ fields) cells = ⊥
@@ -55,37 +55,37 @@ FieldCells (column ∷ columns) (field ∷ fields) [] = ⊥
 FieldCells (column ∷ columns) (field ∷ fields) (cell ∷ cells) =
     FieldCell column field cell × FieldCells columns fields cells
 
--- the tuple of a line: the number of columns in two bytes, and the frame of each field's cell
+-- the tuple of a line: the number of columns in two bytes, and the frame of the cell of each field
 abbrev pub TupleOf : List Column → List ℕ → List ℕ → Type 0
 TupleOf columns line tuple =
     (cells : List Cell) × (bytes : List ℕ) × FieldCells columns (fields_of line) cells × (frames cells ≡ Some bytes)
     × (tuple ≡ be w16 (pos (length columns)) ++ bytes)
 
--- the header and the tuple of each line, in their order
+-- the header and the tuple of each line, in order
 abbrev pub BeginsCopy : List Column → List (List ℕ) → List ℕ → Type 0
 BeginsCopy columns lines bytes =
     (tuples : List ℕ) × Answered (TupleOf columns) lines tuples × (bytes ≡ header ++ tuples)
 
--- the binary COPY of lines: the header, the tuple of each line, in their order, and the trailer
+-- the binary COPY of lines: the header, the tuple of each line, in order, and the trailer
 abbrev pub CopyOf : List Column → List (List ℕ) → List ℕ → Type 0
 CopyOf columns lines bytes =
     (begun : List ℕ) × BeginsCopy columns lines begun × (bytes ≡ begun ++ trailer)
 
--- the fault of a line with so many fields in place of so many columns; it names as many fields as 64 bits with a sign
--- can say
+-- the fault of a line with another number of fields than columns; its number of fields is limited to what fits in 64
+-- bits, signed
 abbrev pub CountFault : ℕ → ℕ → CopyFault → Type 0
 CountFault columns fields (Columns row expected got) =
     (expected ≡ columns) × (got ≡ pos (min fields (2 ^ 63 - 1)))
 CountFault columns fields fault = ⊥
 
--- the fault of a value in the column of that number, or refused memory
+-- the fault of a value in the column with this number, or out of memory
 abbrev pub ValueFault : ℕ → CopyFault → Type 0
 ValueFault column Memory = Unit {0}
 ValueFault column (Value row at base is_array fault) = at ≡ column
 ValueFault column fault = ⊥
 
--- the line has no tuple, by this fault: it has another number of fields than there are columns, the field of a column
--- has no value, or memory was refused
+-- the line has no tuple, with this fault: it has another number of fields than there are columns, the field of a column
+-- has no value, or memory ran out
 abbrev pub LineFault : List Column → List ℕ → CopyFault → Type 0
 LineFault columns line Memory = Unit {0}
 LineFault columns line (Columns row expected got) =
@@ -95,9 +95,9 @@ LineFault columns line (Value row column base is_array fault) =
     (0 < column) × (column ≤ length columns) × (column ≤ length (fields_of line))
 LineFault columns line fault = ⊥
 
--- what is written where a COPY stops at a fault: the header and the tuples of some first lines, those before the line
--- that is refused. Where reading failed these are the lines that end in what the reader gave; a write that failed
--- leaves a beginning; and more columns than two bytes can say leave nothing
+-- what is written if a COPY stops with a fault: the header and the tuples of some first lines, those before the line
+-- that is refused. If reading failed, these are the lines that end in what the reader gave; a write that failed leaves
+-- a prefix; and more columns than fit in two bytes leave nothing
 abbrev pub Stops : List Column → Option (List ℕ) → Option (List ℕ) → Option (List ℕ) → Option (List ℕ) → CopyFault
     → Type 0
 Stops columns input left old new TooManyColumns = (2 ^ 15 ≤ length columns) × Keeps old new

@@ -6,7 +6,7 @@ use std::alloc::{AllocError, AllocFailed, Global};
 use std::error::Error;
 use std::fmt;
 
-/// The most columns of a COPY, whose number stands in two bytes with a sign.
+/// The greatest number of columns of a COPY: it is a signed number of two bytes.
 const MAX_COLUMNS: usize = 32_767;
 
 /// What a command line asks for.
@@ -14,24 +14,24 @@ const MAX_COLUMNS: usize = 32_767;
 pub enum Request {
     /// `--help`.
     Help,
-    /// A COPY of these columns, of which there is one at least.
+    /// A COPY with these columns, of which there is at least one.
     Copy(Vec<Column>),
 }
 
-/// Why a command line asks for nothing.
+/// Why a command line is refused.
 #[derive(Debug, Drop)]
 pub enum ArgumentFault {
-    /// No type stands there.
+    /// No type is given.
     NoType,
     /// There are more types than a COPY can have columns.
     TooManyTypes,
-    /// The name of no type that has a conversion.
+    /// No type with a conversion has this name.
     UnknownType(String),
-    /// A composite type that has a field of a composite type.
+    /// A composite type has a field of a composite type.
     NestedType(String),
-    /// An option that there is not.
+    /// There is no such option.
     UnknownOption(String),
-    /// Memory was refused.
+    /// An allocation failed.
     Memory,
 }
 
@@ -64,8 +64,8 @@ impl<T: Drop> From<AllocFailed<T>> for ArgumentFault {
     }
 }
 
-/// What the words of a command line ask for, without the name of the program: `--help`, or the types
-/// of the columns, of which a word may hold several with commas between.
+/// Parses the words of a command line, without the name of the program: `--help`, or the types of
+/// the columns. A word may have several types with commas between them.
 pub fn parse(alloc: Global, words: &[String]) -> Result<Request, ArgumentFault> {
     if let Some(word) = words.first() {
         match word.as_str() {
@@ -86,10 +86,10 @@ pub fn parse(alloc: Global, words: &[String]) -> Result<Request, ArgumentFault> 
     Ok(Request::Copy(columns))
 }
 
-/// Appends the columns of a word's types. A last type may have a comma after it.
+/// Appends the columns of the types in a word. The last type may have a comma after it.
 fn push_columns(alloc: Global, word: &str, columns: &mut Vec<Column>) -> Result<(), ArgumentFault> {
     let mut rest = not_blank(word);
-    // A type takes a byte and a comma at least.
+    // A type and its comma take at least two bytes.
     for _ in 0..=word.len() {
         let Some(types) = rest else {
             break;
@@ -104,7 +104,7 @@ fn push_columns(alloc: Global, word: &str, columns: &mut Vec<Column>) -> Result<
     Ok(())
 }
 
-/// The text, where it is more than white space.
+/// Returns the text if it is more than white space.
 fn not_blank(text: &str) -> Option<&str> {
     if text.trim().is_empty() {
         None
@@ -113,7 +113,7 @@ fn not_blank(text: &str) -> Option<&str> {
     }
 }
 
-/// The column of that type.
+/// Returns the column of this type.
 fn column(alloc: Global, text: &str) -> Result<Column, ArgumentFault> {
     match Column::parse(alloc, text) {
         Ok(column) => Ok(column),
@@ -123,7 +123,7 @@ fn column(alloc: Global, text: &str) -> Result<Column, ArgumentFault> {
     }
 }
 
-/// The text without white space around it.
+/// Copies the text without the white space around it.
 fn trimmed(alloc: Global, text: &str) -> Result<String, AllocError> {
     String::from_str(alloc, text.trim())
 }

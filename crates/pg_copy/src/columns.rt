@@ -5,38 +5,38 @@ use crate::types::{Base, base_types};
 use postgres_types::{Kind, Type};
 use std::alloc::{AllocError, AllocFailed, Global};
 
-/// A column. Its values, and the elements of its arrays, may be NULL.
+/// A column of a COPY. Its values, and the elements of its arrays, may be NULL.
 #[derive(Debug, Drop)]
 pub struct Column {
-    /// What its values, or the elements of its arrays, are.
+    /// The type of its values, or of the elements of its arrays.
     pub base: Base,
     /// Whether its values are arrays.
     pub is_array: bool,
-    /// The type of its values; of a composite type, and of arrays of it, BYTEA.
+    /// The Postgres type of its values; for a composite type, and for arrays of it, BYTEA.
     pub ty: Type,
-    /// The fields of a composite type; none of another.
+    /// The fields of a composite type; another type has none.
     pub fields: Vec<Field>,
 }
 
 /// A field of a composite type, whose values may be NULL.
 #[derive(Debug, Drop)]
 pub struct Field {
-    /// What its values, or the elements of its arrays, are.
+    /// The type of its values, or of the elements of its arrays.
     pub base: Base,
     /// Whether its values are arrays.
     pub is_array: bool,
-    /// The type of its values.
+    /// The Postgres type of its values.
     pub ty: Type,
 }
 
-/// Why a type is that of no column.
+/// Why a type cannot be that of a column.
 #[derive(Debug, Clone, Copy, PartialEq, Eq)]
 pub enum TypeFault {
     /// It has no conversion.
     Unknown,
     /// It is a composite type within another.
     Nested,
-    /// Memory was refused.
+    /// An allocation failed.
     Memory,
 }
 
@@ -62,11 +62,16 @@ macro_rules! types {
     };
 }
 
-// The same of a row.
+// The Postgres types of a row.
 macro_rules! row_types {
     ($alloc:ident [$rust:ty, user $name:literal]) => {{
         let own = user_type($alloc, $name, Kind::Simple)?;
         let arrays = user_type($alloc, $name, Kind::Array(own.clone()?))?;
+        (own, Some(arrays))
+    }};
+    ($alloc:ident [$rust:ty, catalog($own:path, $arrays:path)]) => {{
+        let own = $own($alloc).map_err(|_| AllocError)?;
+        let arrays = $arrays($alloc).map_err(|_| AllocError)?;
         (own, Some(arrays))
     }};
     ($alloc:ident [$rust:ty, $own:ident]) => {
@@ -77,8 +82,8 @@ macro_rules! row_types {
     };
 }
 
-/// A type that an extension or a user made. Its OID is not known, and is 0, which no type has: servers
-/// from version 14 on look at an OID within a cell only where it is that of a built-in type
+/// Creates a type that an extension or a user made. Its OID is unknown, and set to 0, which no type
+/// has: from version 14 on, servers check an OID in a cell only if it is that of a built-in type
 /// (`array_recv`, `record_recv`).
 fn user_type(alloc: Global, name: &str, kind: Kind) -> Result<Type, AllocError> {
     let name = String::from_str(alloc, name)?;
@@ -87,7 +92,7 @@ fn user_type(alloc: Global, name: &str, kind: Kind) -> Result<Type, AllocError> 
 }
 
 impl Field {
-    /// The field of that type.
+    /// Creates a field of this type.
     fn parse(alloc: Global, name: TypeName<'_>) -> Result<Field, TypeFault> {
         let Some(base) = name.base(alloc)? else {
             return Err(TypeFault::Unknown);
@@ -102,11 +107,11 @@ impl Field {
     }
 }
 
-/// The fields of a composite type, of which each is written as a name and a type.
+/// Parses the fields of a composite type, each of which is a name and a type.
 fn parse_fields(alloc: Global, text: &str) -> Result<Vec<Field>, TypeFault> {
     let mut fields = Vec::new(alloc);
     let mut rest = Some(text);
-    // A field takes a byte and a comma at least.
+    // A field and its comma take at least two bytes.
     for _ in 0..=text.len() {
         let Some(text) = rest else {
             break;
@@ -126,7 +131,7 @@ fn parse_fields(alloc: Global, text: &str) -> Result<Vec<Field>, TypeFault> {
 }
 
 impl Column {
-    /// The column of that type.
+    /// Creates a column of the type with this name.
     pub fn parse(alloc: Global, text: &str) -> Result<Column, TypeFault> {
         let name = TypeName::parse(text);
         if let Some(fields) = name.fields() {

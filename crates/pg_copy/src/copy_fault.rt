@@ -12,7 +12,7 @@ use std::alloc::{AllocError, AllocFailed};
 use std::error::Error;
 use std::fmt;
 
-/// A row, counted from 1, by what it is read from.
+/// A row, counted from 1, of a binary COPY or of text.
 #[derive(Debug, Clone, Copy, PartialEq, Eq)]
 pub enum Row {
     /// A tuple of a binary COPY.
@@ -37,13 +37,13 @@ pub enum CopyFault {
     Read,
     /// The output could not be written.
     Write,
-    /// Memory was refused.
+    /// An allocation failed.
     Memory,
-    /// The input does not begin as a binary COPY does.
+    /// The input does not begin with the signature of a binary COPY.
     Signature,
-    /// The tuples have OIDs, as those of servers before version 12 could.
+    /// The tuples have OIDs, as servers before version 12 could send them.
     Oids,
-    /// A critical flag that is not known.
+    /// An unknown critical flag is set.
     Flags,
     /// The length of the header extension is negative.
     Extension,
@@ -51,7 +51,7 @@ pub enum CopyFault {
     Truncated,
     /// Bytes come after the trailer.
     Trailing,
-    /// There are more columns than two bytes can say.
+    /// There are more columns than fit in two bytes.
     TooManyColumns,
     /// A row has another number of columns than there are types.
     Columns {
@@ -59,12 +59,12 @@ pub enum CopyFault {
         expected: usize,
         got: i64,
     },
-    /// The length of a field is negative, and not that of NULL.
+    /// The length of a field is negative, and is not -1.
     Length {
         row: Row,
         column: usize,
     },
-    /// A value is refused, of a column with values of that base name or arrays of them.
+    /// A value of a column is refused. `base` and `is_array` are those of the column.
     Value {
         row: Row,
         column: usize,
@@ -139,7 +139,7 @@ impl From<HeaderFault> for CopyFault {
     }
 }
 
-/// The fault of that row, whose tuple is refused.
+/// Returns the fault of a row whose tuple is refused.
 pub fn refused_tuple(row: Row, fault: TupleFault) -> CopyFault
     ensures { result ≡ tuple_fault row fault }
 {
@@ -153,8 +153,8 @@ pub fn refused_tuple(row: Row, fault: TupleFault) -> CopyFault
     }
 }
 
-/// The fault of a value in that row, and in that column, which is the one of that number; out of
-/// memory is no value's.
+/// Returns the fault of a value in this row and in the column with this number. Out of memory has
+/// neither a row nor a column.
 pub fn value_fault(row: Row, number: usize, column: &Column, fault: Fault) -> CopyFault
     ensures number { ValueFault number result }
     ensures names { IsValueFault row number column.now fault result }

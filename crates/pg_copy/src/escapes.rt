@@ -1,4 +1,4 @@
-//! The escapes of COPY's text format.
+//! The escapes of the text format of COPY.
 ghost use Rattle.std.specs.Prelude.{◌≡◌, ◌++◌, IfOk, OnOk, OnErr};
 ghost use Rattle.std.specs.List.{list_all};
 ghost use Rattle.pg_copy.specs.Escapes.{escaped, escaped_byte, is_plain, letter_in, letter_of};
@@ -7,7 +7,7 @@ ghost use Rattle.pg_copy.specs.TextLines.{Unescapes, is_refused_byte, letter_byt
 
 use std::alloc::AllocError;
 
-// Each byte that is escaped has its letter at its place, and every other byte has 0.
+// The letter of each byte that is escaped, at the index of the byte; 0 for every other byte.
 static LETTERS: [u8; 256] = *b"\
     \0\0\0\0\0\0\0\0btnvfr\0\0\0\0\0\0\0\0\0\0\0\0\0\0\0\0\0\0\
     \0\0\0\0\0\0\0\0\0\0\0\0\0\0\0\0\0\0\0\0\0\0\0\0\0\0\0\0\0\0\0\0\
@@ -18,14 +18,14 @@ static LETTERS: [u8; 256] = *b"\
     \0\0\0\0\0\0\0\0\0\0\0\0\0\0\0\0\0\0\0\0\0\0\0\0\0\0\0\0\0\0\0\0\
     \0\0\0\0\0\0\0\0\0\0\0\0\0\0\0\0\0\0\0\0\0\0\0\0\0\0\0\0\0\0\0\0";
 
-/// The letter that stands for the byte after a backslash; 0 of a byte that has none.
+/// Returns the letter that stands for the byte after a backslash, or 0 if it has none.
 fn letter_at(byte: u8) -> u8
     ensures { letter_in result ≡ letter_of byte }
 {
     LETTERS[byte as usize]
 }
 
-/// The letter that stands for the byte after a backslash, of a byte that has one.
+/// Returns the letter that stands for the byte after a backslash, or `None` if it has none.
 fn escape_of(byte: u8) -> Option<u8>
     ensures { result ≡ letter_of byte }
 {
@@ -35,7 +35,8 @@ fn escape_of(byte: u8) -> Option<u8>
     }
 }
 
-/// The byte that the letter stands for after a backslash; any other is the byte itself.
+/// Returns the byte for which the letter stands after a backslash; any other byte stands for
+/// itself.
 fn escaped_by(letter: u8) -> u8
     ensures { result ≡ letter_byte letter }
 {
@@ -50,7 +51,7 @@ fn escaped_by(letter: u8) -> u8
     }
 }
 
-/// Whether no byte of the text has a letter. It looks at all bytes, with no branch for each.
+/// Whether no byte of the text is escaped. It reads all bytes, without a branch for each.
 fn is_plain(text: &[u8]) -> bool
     ensures { result ≡ list_all is_plain text.now }
 {
@@ -61,7 +62,8 @@ fn is_plain(text: &[u8]) -> bool
     letters == 0
 }
 
-/// Appends the text with a backslash and a letter for each byte that has one (`CopyAttributeOutText`).
+/// Appends the text with a backslash and a letter for each byte that has one
+/// (`CopyAttributeOutText`). An error leaves a part of it.
 pub fn escape(text: &[u8], out: &mut Vec<u8>) -> Result<(), AllocError>
     ensures ok { OnOk result (out.new.items ≡ out.old.items ++ escaped text.now) }
     ensures err { OnErr result (Extends out.old.items out.new.items) }
@@ -87,7 +89,7 @@ fn push_escaped(byte: u8, out: &mut Vec<u8>) -> Result<(), AllocError>
     }
 }
 
-/// Whether the byte is not taken after a backslash: a digit of an octal number, the x of a
+/// Whether the byte is refused after a backslash: a digit of an octal number, the x of a
 /// hexadecimal one, or the period, which ends the data. The server writes none of them.
 fn is_refused(byte: u8) -> bool
     ensures { result ≡ is_refused_byte byte }
@@ -95,8 +97,8 @@ fn is_refused(byte: u8) -> bool
     matches!(byte, b'0'..=b'7' | b'x' | b'.')
 }
 
-/// Appends what the escaped text says, and answers whether it is one. A backslash at its end escapes
-/// nothing, and a carriage return is always escaped.
+/// Appends the text for which the escaped text stands, and returns whether there is one. A
+/// backslash at the end is refused, and so is a carriage return that is not escaped.
 pub fn unescape(text: &[u8], out: &mut Vec<u8>) -> Result<bool, AllocError>
     ensures { IfOk result (Unescapes text.now out.old.items out.new.items) }
 {

@@ -1,7 +1,7 @@
-//! Between PostgreSQL's binary COPY and its text format.
+//! Conversion between PostgreSQL's binary COPY and the text format of COPY.
 //!
-//! [`read::read`] turns a binary COPY into lines of text and [`write::write`] lines of text into a
-//! binary COPY, both in blocks. Values go through the conversions of `postgres_types` and their texts
+//! [`read::read`] converts a binary COPY to lines of text, and [`write::write`] lines of text to a
+//! binary COPY, both in blocks. Values go through the conversions of `postgres_types` and the texts
 //! of `pg_text`. [`arguments`] reads the command line of the programs that do it.
 #![tactic(auto)]
 

@@ -1,4 +1,4 @@
-//! The cell of a text, by the type of its column.
+//! The cell for a text, by the type of its column.
 ghost use Rattle.std.specs.Prelude.{◌≡◌, IfOk, OnErr, OnOk, map};
 ghost use Rattle.pg_copy.specs.Outputs.{Gains};
 ghost use Rattle.pg_copy.specs.Values.{in_form, text_arrays_of, text_values, texts, texts_with_arrays, values_of};
@@ -21,7 +21,7 @@ use std::alloc::Global;
 /// A text, of which `None` is NULL.
 pub type Text<'a> = Option<&'a str>;
 
-// A text is written by the row of its type.
+// Writes a text by the row of its type.
 macro_rules! push {
     (
         ($alloc:ident, $base:ident, $is_array:ident, $ty:ident, $text:ident, $out:ident)
@@ -34,7 +34,7 @@ macro_rules! push {
     };
 }
 
-// The same as the Rust type of a row.
+// Writes a text as the Rust type of a row.
 macro_rules! push_row {
     ($args:tt [String, $($types:tt)*]) => {
         push_text $args
@@ -44,9 +44,9 @@ macro_rules! push_row {
     };
 }
 
-/// Appends the frame of the cell that the value of the text is written as. A text that is no value
-/// of the column's type is the fault `User`; another fault is that of writing. Either leaves the
-/// buffer's bytes as they were.
+/// Appends the frame of the cell of the value that the text stands for. A text that is not a value
+/// of the column's type is refused with `User`; any other fault is that of writing. An error leaves
+/// the buffer's bytes as they were.
 // It is called for each value.
 #[inline(always)]
 pub fn push_frame(
@@ -65,7 +65,7 @@ pub fn push_frame(
     }
 }
 
-/// The same of values that are no composites.
+/// Appends the frame of a value that is not composite.
 #[tactic(auto, using(crate::proofs::Wires::never_null))]
 fn push_value(
     alloc: Global,
@@ -82,7 +82,7 @@ fn push_value(
     base_types!(push(alloc, base, is_array, ty, text, out))
 }
 
-/// The same as a text, which is written where it lies, or as a list of them.
+/// Appends the frame of a text, without copying it, or of an array of texts.
 #[tactic(auto, using(crate::proofs::Wires::never_null))]
 fn push_text(
     alloc: Global,
@@ -104,7 +104,7 @@ fn push_text(
     }
 }
 
-/// The same as a `T`, or as a list of them.
+/// Appends the frame of a `T`, or of an array of them.
 fn push_as<T: FromText + ToSql>(
     alloc: Global,
     is_array: bool,
@@ -127,7 +127,7 @@ fn push_as<T: FromText + ToSql>(
     }
 }
 
-/// The same as a list of `T`s.
+/// Appends the frame of an array of `T`s.
 fn push_array_as<T: FromText + ToSql>(
     alloc: Global,
     ty: &Type,
@@ -147,8 +147,9 @@ fn push_array_as<T: FromText + ToSql>(
     }
 }
 
-/// The same of a composite type, or of arrays of it. The OID of the elements' type, which a user made and is not known,
-/// is that of BYTEA: servers from version 14 on do not look at it (`array_recv`).
+/// Appends the frame of a composite value, or of an array of them. The element type is
+/// user-defined, so its OID is unknown, and that of BYTEA is written instead: from version 14 on,
+/// servers do not check it (`array_recv`).
 // It is kept out of the loop over the values of other types.
 #[inline(never)]
 fn push_composite(
@@ -174,7 +175,7 @@ fn push_composite(
     frame_value(alloc, &cell.as_slice(), &Type::BYTEA, out)
 }
 
-/// The records of the array of a text.
+/// Parses an array of composite values, and writes their records.
 fn parse_records(alloc: Global, fields: &[Field], text: &str) -> Result<Vec<Option<Vec<u8>>>, Fault>
     ensures { IfOk result (λ v. SaysArray (RecordOf fields.now) text.now (map record_of v.items)) }
 {
@@ -186,7 +187,7 @@ fn parse_records(alloc: Global, fields: &[Field], text: &str) -> Result<Vec<Opti
     Ok(records)
 }
 
-/// The record of a text, or NULL.
+/// Parses a composite value, and writes its record; NULL is `None`.
 fn parse_record(
     alloc: Global,
     fields: &[Field],
@@ -204,7 +205,8 @@ fn parse_record(
     }
 }
 
-/// Appends the record of a text, as `record_recv` takes it. A fault leaves a part of it.
+/// Parses a composite value, and appends its record, as `record_recv` reads it. An error leaves a
+/// part of it.
 fn push_record(alloc: Global, fields: &[Field], text: &str, out: &mut BytesMut) -> Result<(), Fault>
     ensures { OnOk result (Gains (RecordOf fields.now text.now) out.old.items out.new.items) }
 {
@@ -225,8 +227,8 @@ fn push_record(alloc: Global, fields: &[Field], text: &str, out: &mut BytesMut) 
     }
 }
 
-/// Appends a field of a record: the OID of its type, and the frame of the cell that the text is written as. A fault
-/// leaves a part of it.
+/// Appends a field of a record: the OID of its type, and the frame of the cell for its text. An
+/// error leaves a part of it.
 fn push_field(alloc: Global, field: &Field, text: Text<'_>, out: &mut BytesMut) -> Result<(), Fault>
     ensures { OnOk result (Gains (FieldOf field.now (text_of text.entry)) out.old.items out.new.items) }
 {

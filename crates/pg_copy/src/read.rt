@@ -1,4 +1,4 @@
-//! From a binary COPY to lines of text.
+//! Reading: from a binary COPY to lines of text.
 ghost use Rattle.std.specs.Prelude.{◌≡◌, ◌≢◌, ◌+◌, ◌<◌, ℕ, List, [], ◌++◌, IfErr, IfOk, OnErr, OnOk, length};
 ghost use Rattle.pg_copy.specs.Outputs.{Extends, WritesPart, WritesWhole};
 ghost use Rattle.pg_copy.specs.ReadingSteps.{Advances, Awaits, AwaitsHeader, AwaitsMore, StopsAt, TakesField};
@@ -18,12 +18,12 @@ use std::io::{Read, Write};
 use std::mem;
 use streams::blocks::{BLOCK, read_block, write_whole};
 
-/// What is to come of a COPY.
+/// The part of a COPY that is to come.
 #[derive(Clone, Copy)]
 enum Place {
     /// The header.
     Header,
-    /// That many bytes of its extension.
+    /// This number of bytes of the header extension.
     Extension(usize),
     /// Tuples and the trailer.
     Tuples,
@@ -37,21 +37,21 @@ struct Reading<'a> {
     alloc: Global,
     columns: &'a [Column],
     place: Place,
-    /// How many rows were read.
+    /// The number of rows that were read.
     row: u64,
-    /// The text of a value, which is kept for its memory.
+    /// The text of a value; the buffer is kept so that it is allocated once.
     value: Vec<u8>,
-    /// The lines that are to be written.
+    /// The lines to be written.
     lines: Vec<u8>,
 }
 
-/// Reads a binary COPY of these columns, and writes a line for each row, in COPY's text format:
-/// columns are divided by a tab, NULL is `\N`, and each value is PostgreSQL's text of it.
+/// Reads a binary COPY with these columns, and writes a line for each row in the text format of
+/// COPY: columns are separated by a tab, NULL is `\N`, and each value is its text in PostgreSQL.
 ///
-/// A fault leaves whole lines written, those of the rows before it, but that of writing a beginning
-/// of them. A fault other than those of reading, writing and memory is one of the bytes that come
-/// after these rows, and names the row after them. No more is held than the longest row, a block of
-/// input and its lines.
+/// After a fault, complete lines are written, those of the rows before it; after a failed write, a
+/// prefix of them. A fault other than those of reading, writing and memory is that of the bytes
+/// after these rows, and names the row after them. Memory holds no more than the longest row, a
+/// block of input and its lines.
 pub fn read<R: Read, W: Write>(
     alloc: Global,
     columns: &[Column],
@@ -96,7 +96,7 @@ pub fn read<R: Read, W: Write>(
 }
 
 impl Reading<'_> {
-    /// Appends the lines of the tuples that end in the block, and holds what comes after them.
+    /// Appends the lines of the tuples that end in the block, and keeps the bytes after them.
     fn take_block(
         &mut self,
         block: &[u8],
@@ -119,7 +119,7 @@ impl Reading<'_> {
         held.extend_from_slice(block)?;
         let mut rest = held.as_slice();
         self.take(&mut rest)?;
-        // A row that is longer than a block stays where it is until it is whole.
+        // A row that is longer than a block stays where it is until it is complete.
         if rest.len() == held.len() {
             return Ok(());
         }
@@ -129,8 +129,8 @@ impl Reading<'_> {
         Ok(())
     }
 
-    /// Takes what is whole off the front of the bytes, and appends the lines of its tuples. A fault
-    /// leaves the lines of the tuples before it.
+    /// Takes the complete parts from the front of the bytes, and appends the lines of the tuples. A
+    /// fault leaves the lines of the tuples before it.
     fn take(&mut self, bytes: &mut &[u8]) -> Result<(), CopyFault>
         ensures columns { self.new.columns.now ≡ self.old.columns.now }
         ensures steps { Advances self.old.columns.now self.old.place self.old.row bytes.old.now self.old.lines.items
@@ -153,7 +153,7 @@ impl Reading<'_> {
         }
     }
 
-    /// Takes the header up to its extension, where it is to come and is there.
+    /// Takes the header up to its extension, if it is to come and complete.
     fn take_head(&mut self, bytes: &mut &[u8]) -> Result<(), CopyFault>
         ensures columns { self.new.columns.now ≡ self.old.columns.now }
         ensures steps { Advances self.old.columns.now self.old.place self.old.row bytes.old.now self.old.lines.items
@@ -171,7 +171,7 @@ impl Reading<'_> {
         Ok(())
     }
 
-    /// Takes what is there of the header extension, where it is to come.
+    /// Takes the available bytes of the header extension, if it is to come.
     fn take_extension(&mut self, bytes: &mut &[u8])
         ensures columns { self.new.columns.now ≡ self.old.columns.now }
         ensures steps { Advances self.old.columns.now self.old.place self.old.row bytes.old.now self.old.lines.items
@@ -193,8 +193,8 @@ impl Reading<'_> {
         }
     }
 
-    /// Takes the whole tuples, and the trailer, where they are to come. A fault leaves the tuple that it
-    /// is of.
+    /// Takes the complete tuples, and the trailer, if they are to come. A fault leaves its tuple in
+    /// place.
     fn take_tuples(&mut self, bytes: &mut &[u8]) -> Result<(), CopyFault>
         ensures columns { self.new.columns.now ≡ self.old.columns.now }
         ensures steps { Advances self.old.columns.now self.old.place self.old.row bytes.old.now self.old.lines.items
@@ -207,7 +207,7 @@ impl Reading<'_> {
         let Place::Tuples = self.place else {
             return Ok(());
         };
-        // A tuple has two bytes at least.
+        // A tuple has at least two bytes.
         'tuples: for _turn in 0..bytes.len() {
             let row = self.row.saturating_add(1);
             match front_of(bytes, self.columns.len()) {
@@ -228,7 +228,7 @@ impl Reading<'_> {
         Ok(())
     }
 
-    /// Appends the line of the row of these frames. A fault leaves the lines as they were.
+    /// Appends the line of the row with these frames. An error leaves the lines as they were.
     fn push_row(&mut self, frames: &[u8]) -> Result<(), CopyFault>
         requires { FramesThen frames.now (length self.old.columns.now) [] }
         ensures columns { self.new.columns.now ≡ self.old.columns.now }
@@ -248,7 +248,7 @@ impl Reading<'_> {
         outcome
     }
 
-    /// Appends the line of the fields, and takes them. A fault leaves a part of the line.
+    /// Appends the line of the fields, and takes them. An error leaves a part of the line.
     fn push_line(&mut self, fields: &mut &[u8]) -> Result<(), CopyFault>
         requires { (rest : List ℕ) × FramesThen fields.old.now (length self.old.columns.now) rest }
         ensures columns { self.new.columns.now ≡ self.old.columns.now }
@@ -268,7 +268,7 @@ impl Reading<'_> {
         Ok(self.lines.push(b'\n')?)
     }
 
-    /// Appends the tab before the field at that place, where it is not the first.
+    /// Appends a tab if the field at this index is not the first one.
     fn push_tab(&mut self, place: usize) -> Result<(), CopyFault>
         ensures columns { self.new.columns.now ≡ self.old.columns.now }
         ensures place { self.new.place ≡ self.old.place }
@@ -283,8 +283,8 @@ impl Reading<'_> {
         Ok(())
     }
 
-    /// Appends the field of the column, which is the one at that place, and takes it off the front of
-    /// the fields. A fault leaves a part of it.
+    /// Appends the field of the column at index `place`, and takes it from the front of the fields.
+    /// An error leaves a part of it.
     fn push_field(
         &mut self,
         column: &Column,
@@ -312,7 +312,7 @@ impl Reading<'_> {
         }
     }
 
-    /// What the end of the input says.
+    /// Returns the result at the end of the input: `Truncated`, unless the trailer was read.
     fn finish(&self) -> Result<(), CopyFault>
         ensures ok { OnOk result (self.now.place ≡ Place.End) }
         ensures err { IfErr result (λ fault. (fault ≡ CopyFault.Truncated) × (self.now.place ≢ Place.End)) }

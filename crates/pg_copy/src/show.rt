@@ -26,7 +26,7 @@ use postgres_types::private::{read_be_i32, read_value};
 use postgres_types::{Fault, FromSql, Oid, Type, check_type};
 use std::alloc::Global;
 
-// A cell is read by the row of its type.
+// Reads a cell by the row of its type.
 macro_rules! push {
     (
         ($alloc:ident, $base:ident, $is_array:ident, $ty:ident, $row:ident, $text:ident)
@@ -39,7 +39,7 @@ macro_rules! push {
     };
 }
 
-// The same as the Rust type of a row, or what that is borrowed as.
+// Reads a cell as the Rust type of a row, or as its borrowed form.
 macro_rules! push_row {
     ($args:tt [String, $($types:tt)*]) => {
         push_as::<&str> $args
@@ -53,7 +53,7 @@ macro_rules! push_row {
 }
 
 /// Takes the frame at the front of the row, appends the text of the value that its cell is read as,
-/// and answers whether there is one, and not NULL. After a fault a part of the text may stand there.
+/// and returns whether it has a text: NULL has none. An error may leave a part of the text.
 // It is called for each value.
 #[inline(always)]
 pub fn push_cell(
@@ -74,7 +74,7 @@ pub fn push_cell(
     }
 }
 
-/// The same of values that are no composites.
+/// Reads a value that is not composite, and appends its text.
 fn push_value(
     alloc: Global,
     base: Base,
@@ -90,7 +90,7 @@ fn push_value(
     base_types!(push(alloc, base, is_array, ty, row, text))
 }
 
-/// The same as a `T`, or as a list of them.
+/// Reads a `T`, or an array of them, and appends its text.
 fn push_as<'a, T: FromSql<'a> + ToText>(
     alloc: Global,
     is_array: bool,
@@ -121,7 +121,7 @@ fn push_as<'a, T: FromSql<'a> + ToText>(
     }
 }
 
-/// The same as a list of `T`s.
+/// Reads an array of `T`s, and appends its text.
 fn push_array_as<'a, T: FromSql<'a> + ToText>(
     alloc: Global,
     ty: &Type,
@@ -148,7 +148,7 @@ fn push_array_as<'a, T: FromSql<'a> + ToText>(
     }
 }
 
-/// The same of a composite type that is that of a field, which has no value but NULL.
+/// Refuses a composite value in a field of a composite type; only NULL is read.
 fn refuse_composite(
     alloc: Global,
     is_array: bool,
@@ -166,7 +166,7 @@ fn refuse_composite(
     }
 }
 
-/// The same of a composite type of these fields.
+/// Reads a composite value with these fields, and appends its text.
 // It is kept out of the loop over the values of other types.
 #[inline(never)]
 fn push_composite(
@@ -186,7 +186,8 @@ fn push_composite(
     Ok(true)
 }
 
-/// The same of arrays of a composite type of these fields, whose cells are laid out as those of arrays of BYTEA.
+/// Reads an array of composite values with these fields, whose cell has the layout of an array of
+/// BYTEA, and appends its text.
 // It is kept out of that loop too.
 #[inline(never)]
 fn push_composites(
@@ -219,7 +220,7 @@ fn take_bytes<'a>(alloc: Global, row: &mut &'a [u8]) -> Result<Option<&'a [u8]>,
     read_value::<Option<&[u8]>>(alloc, &Type::BYTEA, row)
 }
 
-/// The same of an array of BYTEA: the bytes of each element.
+/// Takes the frame of an array at the front of the row: the bytes of each element.
 fn take_records<'a>(
     alloc: Global,
     row: &mut &'a [u8],
@@ -232,7 +233,7 @@ fn take_records<'a>(
     read_value::<Option<Vec<Option<&[u8]>>>>(alloc, &Type::BYTEA_ARRAY, row)
 }
 
-/// Appends the text of the records in braces, with commas between, and NULL for NULL.
+/// Appends the texts of the records in braces, with commas between them, and NULL for NULL.
 fn push_records(
     alloc: Global,
     fields: &[Field],
@@ -253,7 +254,7 @@ fn push_records(
     Ok(text.push(b'}')?)
 }
 
-/// Appends a record as an element, or NULL; its own text is written to `own` first.
+/// Appends a record as an element, or NULL; its text is first written to `own`.
 fn push_item(
     alloc: Global,
     fields: &[Field],
@@ -276,7 +277,7 @@ fn push_item(
     }
 }
 
-/// Appends the text of a record: that of each field in parentheses, with commas between.
+/// Appends the text of a record: the texts of its fields in parentheses, with commas between them.
 fn push_record(alloc: Global, fields: &[Field], raw: &[u8], text: &mut Vec<u8>) -> Result<(), Fault>
     ensures ok { OnOk result (ShowsRecord fields.now raw.now text.old.items text.new.items) }
     ensures err { IfErr result (λ fault. IfSome (refusal_of fault) (RefusesRecord fields.now raw.now)) }
@@ -293,8 +294,8 @@ fn push_record(alloc: Global, fields: &[Field], raw: &[u8], text: &mut Vec<u8>) 
     Ok(text.push(b')')?)
 }
 
-/// Takes a field off the front of the record, and appends its text, or nothing for NULL; its own text is written to
-/// `own` first.
+/// Takes a field from the front of the record, and appends its text, or nothing for NULL; the text
+/// is first written to `own`.
 fn push_field(
     alloc: Global,
     field: &Field,
@@ -315,11 +316,13 @@ fn push_field(
     Ok(records::push_field(own.as_slice(), text)?)
 }
 
-/// The OIDs of the types that are made by hand for every server are smaller.
+/// The first OID that is not assigned by hand (`FirstGenbkiObjectId`). The OIDs below it are the
+/// same in every server.
 const FIRST_OTHER_OID: Oid = 10_000;
 
-/// Takes the OID of a field's type. Another one is refused where both are OIDs of built-in types, as
-/// `record_recv` does: the type can be a domain over that one, or a type that has its OID from a server.
+/// Takes the OID of the type of a field. Another OID is refused if both are below
+/// `FIRST_OTHER_OID`, as in `record_recv`; otherwise the type can be a domain over the other one,
+/// or one whose OID differs between servers.
 fn take_oid(ty: &Type, raw: &mut &[u8]) -> Result<(), Fault>
     ensures { PassesNumber (type_fault (content ty.now) raw.old.now) raw.old.now result raw.new.now }
 {
@@ -330,20 +333,21 @@ fn take_oid(ty: &Type, raw: &mut &[u8]) -> Result<(), Fault>
     Ok(())
 }
 
-/// The fault of an array with a lower bound other than 1.
+/// Returns the fault of an array with a lower bound other than 1.
 fn other_lower_bound() -> Fault
     ensures { refusal_of result ≡ Some (user (codes "array with a lower bound other than 1")) }
 {
     Fault::user("array with a lower bound other than 1")
 }
 
-/// Whether the array whose frame begins these bytes, and which is read as a list, has one dimension with a lower bound
-/// other than 1. Lists do not keep it, and the server's text of such an array begins with its bounds.
+/// Whether the array whose frame begins these bytes, and which is read as a list, has one dimension
+/// with a lower bound other than 1. A list does not keep it, and the server's text of such an array
+/// begins with its bounds.
 fn has_other_lower_bound(frame: &[u8]) -> bool
     ensures { IsTrue result ↔ HasOtherBound (drop 4 frame.now) }
 {
-    // After the length of the cell come the number of dimensions, the flags and the OID of the elements, and
-    // then the length of the dimension and its lower bound.
+    // The length of the cell is followed by the number of dimensions, the flags and the OID of the
+    // element type, and then by the length of the dimension and its lower bound.
     let one: &[u8] = &[0, 0, 0, 1];
     frame.len() >= 24 && &frame[4..8] == one && &frame[20..24] != one
 }

@@ -3,18 +3,18 @@
 use crate::types::Base;
 use std::alloc::{AllocError, Global};
 
-/// A type as it is written: a name, or a composite type's fields, and `[]` after it where it is that
-/// of arrays.
+/// A type as it is written: a name, or the fields of a composite type, followed by `[]` for an
+/// array.
 #[derive(Debug, Clone, Copy)]
 pub struct TypeName<'a> {
     /// The name, or the fields in parentheses.
     pub name: &'a str,
-    /// Whether its values are arrays of these, of any number of dimensions.
+    /// Whether it is an array type, for any number of dimensions.
     pub is_array: bool,
 }
 
 impl<'a> TypeName<'a> {
-    /// The parts of what is written.
+    /// Splits the text of a type into its parts.
     pub fn parse(text: &'a str) -> TypeName<'a> {
         let text = text.trim();
         let name = without_brackets(text);
@@ -24,12 +24,12 @@ impl<'a> TypeName<'a> {
         }
     }
 
-    /// A composite type's fields, without the parentheses; `None` of a name.
+    /// Returns the fields of a composite type, without the parentheses, or `None` for a name.
     pub fn fields(&self) -> Option<&'a str> {
         self.name.strip_prefix("(")?.strip_suffix(")")
     }
 
-    /// The type of the name; `None` where it has no conversion.
+    /// Returns the type with this name, or `None` if it has no conversion.
     pub fn base(&self, alloc: Global) -> Result<Option<Base>, AllocError> {
         let Some(mut name) = without_modifier(alloc, self.name)? else {
             return Ok(None);
@@ -39,20 +39,20 @@ impl<'a> TypeName<'a> {
     }
 }
 
-/// The type of a name in lower case, without a schema or a modifier.
+/// Returns the type with this name, which is in lower case, without a schema or a modifier.
 fn base_of(name: &str) -> Option<Base> {
-    // `interval day to second` and its like.
+    // The name may have fields, like `interval day to second`.
     if name.starts_with("interval ") {
         return Some(Base::Interval);
     }
     match Base::parse(name) {
         Some(base) => Some(base),
-        // "bit" is in quotes where it has no modifier.
+        // "bit" is quoted if it has no modifier.
         None => Base::parse(unquoted(name)?),
     }
 }
 
-/// What stands after the schema.
+/// Returns the name without its schema.
 fn without_schema(name: &str) -> &str {
     match name.rsplit_once('.') {
         Some((_, name)) => name,
@@ -60,7 +60,7 @@ fn without_schema(name: &str) -> &str {
     }
 }
 
-/// What stands before the brackets at the end.
+/// Returns the text without the brackets at its end.
 fn without_brackets(text: &str) -> &str {
     let mut rest = text;
     for _ in 0..text.len() {
@@ -72,13 +72,13 @@ fn without_brackets(text: &str) -> &str {
     rest
 }
 
-/// What stands in the quotes of a name.
+/// Returns the name without its quotes.
 fn unquoted(name: &str) -> Option<&str> {
     name.strip_prefix("\"")?.strip_suffix("\"")
 }
 
-/// The name without the modifier in parentheses, as that of `timestamp(3) with time zone`; `None`
-/// where a parenthesis is not closed.
+/// Returns the name without the modifier in parentheses, like that of
+/// `timestamp(3) with time zone`; `None` if a parenthesis is not closed.
 fn without_modifier(alloc: Global, name: &str) -> Result<Option<String>, AllocError> {
     let Some((before, rest)) = name.split_once('(') else {
         return Ok(Some(String::from_str(alloc, name)?));
@@ -91,8 +91,8 @@ fn without_modifier(alloc: Global, name: &str) -> Result<Option<String>, AllocEr
     Ok(Some(plain))
 }
 
-/// What stands before the first comma that is in no parentheses and no double quotes, and what comes
-/// after it.
+/// Returns the text before the first comma that is outside parentheses and double quotes, and the
+/// text after it.
 pub fn split_at_comma(text: &str) -> (&str, Option<&str>) {
     let mut depth: usize = 0;
     let mut is_quoted = false;
@@ -109,7 +109,7 @@ pub fn split_at_comma(text: &str) -> (&str, Option<&str>) {
     (text, None)
 }
 
-/// What stands before the comma at that place, and what comes after it.
+/// Returns the text before the comma at this offset, and the text after it.
 fn split_around(text: &str, place: usize) -> (&str, Option<&str>) {
     match text.split_at_checked(place) {
         Some((before, after)) => (before, after.strip_prefix(",")),
@@ -117,8 +117,8 @@ fn split_around(text: &str, place: usize) -> (&str, Option<&str>) {
     }
 }
 
-/// What stands after the name of a composite type's field, which is in double quotes or ends at a
-/// space; `None` where nothing does.
+/// Returns the text after the name of a field of a composite type, which is in double quotes or
+/// ends at a space; `None` if there is none.
 pub fn after_field_name(field: &str) -> Option<&str> {
     let field = field.trim_start();
     let Some(mut quoted) = field.strip_prefix("\"") else {

@@ -1,12 +1,13 @@
 //! The PostgreSQL types of columns.
 
-/// The table of the types with a conversion, in alphabetical order: of each its member of [`Base`],
-/// its names, of which faults and the help print the first, its Rust type, and its Postgres type and
-/// that of its arrays, where it has some. A Postgres type is a constant of `Type`; or `user` and the
-/// name by which the library knows a type that an extension or a user made, which has arrays. `$rows` is the macro that
-/// is called with all rows, after the arguments.
+/// The table of the types with a conversion, in alphabetical order. A row has the member of
+/// [`Base`], its names (faults and the help print the first one), its Rust type, and its Postgres
+/// type and that of its arrays, if there are any. A Postgres type is a constant of `Type`; or
+/// `user` and the name by which the library knows the type of an extension or a user, which has
+/// arrays; or, for a type of the schema `pg_catalog`, `catalog` with the functions that make both
+/// types. The macro `$rows` is called with the arguments and then all rows.
 ///
-/// The values of an enumerated type are labels, whose cells are those of citext.
+/// The values of an enumerated type are labels, whose cells are like those of citext.
 macro_rules! base_types {
     ($rows:ident $args:tt) => {
         $rows! { $args
@@ -19,6 +20,10 @@ macro_rules! base_types {
             Citext ["citext"] [String, user "citext"],
             Date ["date"] [postgres_types::Date<jiff::civil::Date>, DATE, DATE_ARRAY],
             Enum ["enum"] [String, user "citext"],
+            Float4 ["float4" "real"]
+                [pg_numbers::Float4, catalog(pg_numbers::types::float4_type, pg_numbers::types::float4_array_type)],
+            Float8 ["float8" "double precision"]
+                [pg_numbers::Float8, catalog(pg_numbers::types::float8_type, pg_numbers::types::float8_array_type)],
             Hstore ["hstore"] [std::collections::HashMap<String, Option<String>>, user "hstore"],
             Inet ["inet"] [postgres_types::IpInet, INET, INET_ARRAY],
             Int2 ["int2" "smallint"] [i16, INT2, INT2_ARRAY],
@@ -52,7 +57,7 @@ macro_rules! base_types {
 
 pub(crate) use base_types;
 
-/// What the values of a column, or the elements of its arrays, are.
+/// The type of the values of a column, or of the elements of its arrays.
 #[derive(Debug, Clone, Copy, PartialEq, Eq)]
 pub enum Base {
     Bit,
@@ -64,6 +69,8 @@ pub enum Base {
     Citext,
     Date,
     Enum,
+    Float4,
+    Float8,
     Hstore,
     Inet,
     Int2,
@@ -120,7 +127,7 @@ macro_rules! name_of {
     };
 }
 
-// Whether a type has arrays: whether two Postgres types stand in its row, or it is a user's.
+// Whether a type has arrays: its row has two Postgres types, or it is user-defined.
 macro_rules! has_arrays {
     (($of:expr) $($base:ident $names:tt $types:tt,)*) => {
         match $of {
@@ -137,20 +144,20 @@ macro_rules! has_arrays {
 }
 
 impl Base {
-    /// All that have names, in alphabetical order.
+    /// All types that have names, in alphabetical order.
     pub const ALL: &'static [Base] = &base_types!(all());
 
-    /// The type of that name, in lower case and without a schema or a modifier.
+    /// Returns the type with this name, which is in lower case, without a schema or a modifier.
     pub fn parse(name: &str) -> Option<Base> {
         base_types!(found(name))
     }
 
-    /// Its name.
+    /// Returns the first name of the type.
     pub fn name(self) -> &'static str {
         base_types!(name_of(self))
     }
 
-    /// Whether it has arrays.
+    /// Whether the type has arrays.
     pub fn has_arrays(self) -> bool {
         base_types!(has_arrays(self))
     }

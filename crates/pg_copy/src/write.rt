@@ -1,4 +1,4 @@
-//! From lines of text to a binary COPY.
+//! Writing: from lines of text to a binary COPY.
 ghost use Rattle.std.specs.Prelude.{◌≡◌, ◌∷◌, pos, ℕ, List, Some, true, IfErr, OnOk, OnErr, length};
 ghost use Rattle.std.specs.Int.{w16};
 ghost use Rattle.pg_base.specs.Cells.{be};
@@ -23,18 +23,18 @@ use streams::blocks::write_whole;
 use streams::lines::{AnswerLine, RunFault, answer_lines};
 use streams::split::split_once;
 
-/// What a binary COPY begins with: the signature, no flag, and a header extension of no byte.
+/// The header of a binary COPY: the signature, no flag set, and an empty header extension.
 const HEADER: &[u8; 19] = b"PGCOPY\n\xff\r\n\0\0\0\0\0\0\0\0\0";
 
-/// What a binary COPY ends with: the number of columns -1.
+/// The trailer of a binary COPY: -1 instead of a number of columns.
 const TRAILER: &[u8; 2] = b"\xff\xff";
 
-/// Reads lines of these columns in COPY's text format, and writes a binary COPY of a tuple for each.
-/// A last line counts without a line feed, where it is not empty.
+/// Reads lines with these columns in the text format of COPY, and writes a binary COPY with a tuple
+/// for each. The last line counts without a line feed, if it is not empty.
 ///
-/// A fault leaves the header and whole tuples written, those of the lines before it, but that of
-/// writing a beginning of them; the trailer is written at the end of the lines alone. No more is held
-/// than the longest line, a block of input and its tuples.
+/// After a fault, the header and complete tuples are written, those of the lines before it; after a
+/// failed write, a prefix of them. The trailer is written only at the end of the lines. Memory
+/// holds no more than the longest line, a block of input and its tuples.
 pub fn write<R: Read, W: Write>(
     alloc: Global,
     columns: &[Column],
@@ -83,9 +83,9 @@ struct TupleWriter<'a> {
     columns: &'a [Column],
     /// The number of columns in two bytes, with which each tuple begins.
     count: [u8; 2],
-    /// How many lines were taken.
+    /// The number of lines that were taken.
     line: u64,
-    /// What an escaped field says, which is kept for its memory.
+    /// The text of an escaped field; the buffer is kept so that it is allocated once.
     text: Vec<u8>,
     ghost counted: { count ≡ be w16 (pos (length columns.now)) },
 }
@@ -114,7 +114,7 @@ impl AnswerLine for TupleWriter<'_> {
 }
 
 impl TupleWriter<'_> {
-    /// Appends the tuple of the line. A fault leaves a part of it.
+    /// Appends the tuple of the line. An error leaves a part of it.
     fn push_tuple(
         &mut self,
         alloc: Global,
@@ -127,7 +127,7 @@ impl TupleWriter<'_> {
         ensures refused { IfErr result (LineFault self.old.columns.now line.now) }
     {
         pending.extend_from_slice(&self.count)?;
-        // Most lines have no escape, and their fields say what they are.
+        // Most lines have no escapes, so their fields are their texts.
         let is_plain = memchr2(b'\\', b'\r', line).is_none();
         let mut rest = Some(line);
         for (place, column) in self.columns.iter().enumerate() {
@@ -153,7 +153,7 @@ impl TupleWriter<'_> {
         }
     }
 
-    /// The fault of a line of another number of fields.
+    /// Returns the fault of a line with another number of fields.
     fn count_fault(&self, line: &[u8]) -> CopyFault
         ensures { CountFault (length self.now.columns.now) (length (fields_of line.now)) result }
     {
@@ -167,7 +167,7 @@ impl TupleWriter<'_> {
     }
 }
 
-/// The first of the fields, and those after it, where there are some.
+/// Returns the first of the fields, and those after it, if there are any.
 fn split_field(fields: &[u8]) -> (&[u8], Option<&[u8]>)
     ensures { fields_of fields.now ≡ result.0.now ∷ fields_left (text_of result.1) }
 {
@@ -177,8 +177,8 @@ fn split_field(fields: &[u8]) -> (&[u8], Option<&[u8]>)
     }
 }
 
-/// Appends the frame of the field's cell. `is_plain` says that nothing in the line is escaped. The text of an escaped
-/// field is put into `text`, in place of what is there.
+/// Appends the frame of the cell of a field. `is_plain` says that nothing in the line is escaped.
+/// `text` is overwritten with the text of an escaped field.
 fn push_field(
     alloc: Global,
     column: &Column,
@@ -204,7 +204,7 @@ fn push_field(
     push_utf8(alloc, column, text.as_slice(), out)
 }
 
-/// Appends the frame of the text's cell.
+/// Appends the frame of the cell for a text. Bytes that are not UTF-8 are refused with `Utf8`.
 fn push_utf8(alloc: Global, column: &Column, text: &[u8], out: &mut BytesMut) -> Result<(), Fault>
     ensures ok { OnOk result (Gains (FrameOf column.now (Some text.now)) out.old.items out.new.items) }
     ensures err { OnErr result (out.new.items ≡ out.old.items) }

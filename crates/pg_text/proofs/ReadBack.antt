@@ -1,10 +1,13 @@
 -- Proofs of the laws of texts.
-use Rattle.std.proofs.Common.{◌≡◌, ℕ, suc, ◌<◌, ◌^◌, ◌==◌, List, [], ◌∷◌, Bool, true, false, Some}
+use Rattle.std.proofs.Common.{◌≡◌, ℕ, suc, ◌<◌, ◌*◌, ◌^◌, ◌==◌, List, [], ◌∷◌, Bool, true, false, Some}
 use Rattle.std.proofs.Common.{length, refl, ap, sym, ◌∙◌, arith, inl}
 use Rattle.std.proofs.Common.{map}
 use Rattle.std.specs.Fmt.{decimal, signed_decimal}
-use Rattle.std.specs.Prelude.{ℤ, pos, negsuc, codes, FitsSigned}
+use Rattle.std.specs.Prelude.{ℤ, pos, negsuc, codes, FitsSigned, IsFalse, T, from_bits, is_nan, not, option_map, to_bits}
+use Rattle.std.specs.Float.{Format, binary32, binary64}
 use Rattle.std.specs.Int.{Width, w16, w32, w64}
+use lib.Ieee.{top}
+use lib.Ieee.Bits.{to_bits-of_bits}
 use lib.Signed.{mag}
 use Rattle.std.specs.Str.Parse.{IsNumeral, starts_with_minus}
 use Rattle.std.specs.Str.Parse.{without_leading_plus}
@@ -21,6 +24,7 @@ use Rattle.std.specs.List.{All, AllZip}
 use Rattle.pg_text.specs.Lists.{SaysVector, vector_text}
 use Rattle.uuid.proofs.RoundTrips.{parses_hyphenated}
 use Rattle.uuid.specs.Text.{hyphenated_text, lower, parsed}
+use Rattle.pg_text.specs.Floats.{SaysFloat, ShowsFloat}
 use Rattle.pg_text.specs.ReadBack.{IsReadBack}
 use Rattle.pg_base.specs.Bits.{bit_digit, bits_text}
 use Rattle.pg_base.specs.NumberTexts.{SaysSigned, SaysUnsigned}
@@ -67,6 +71,29 @@ unsigned_back n text small e =
     let bare = plain_digits (decimal n) own.0 in
     let says : SaysUnsigned text n = rw (e, bare.1) (own.0, sym own.1) in
     (says, λ u s. s.1 ∙ sym says.1)
+
+-- FLOAT4, FLOAT8
+
+no_nan : (b : Bool) → IsFalse b → T (not b)
+no_nan true p = cc
+no_nan false p = tt
+
+float_back : (f : Format) → IsReadBack (λ (bits : ℕ). (bits < 2 * top f) × IsFalse (is_nan (from_bits f bits)))
+    (ShowsFloat f) (SaysFloat f)
+float_back f bits text p h =
+    let same : Some (to_bits f (from_bits f bits)) ≡ Some bits =
+    ap (λ n. Some n) (to_bits-of_bits f bits p.0 (no_nan (is_nan (from_bits f bits)) p.1)) in
+    let text_is : text ≡ h.0 = h.3 in
+    let says : SaysFloat f text bits = rw text_is (ap (option_map (to_bits f)) h.1 ∙ same) in
+    (says, λ u s. let both : Some u ≡ Some bits = sym s ∙ says in cc)
+
+pub float4_back : IsReadBack (λ (bits : ℕ). (bits < 2 ^ 32) × IsFalse (is_nan (from_bits binary32 bits)))
+    (ShowsFloat binary32) (SaysFloat binary32)
+float4_back = float_back binary32
+
+pub float8_back : IsReadBack (λ (bits : ℕ). (bits < 2 ^ 64) × IsFalse (is_nan (from_bits binary64 bits)))
+    (ShowsFloat binary64) (SaysFloat binary64)
+float8_back = float_back binary64
 
 -- PG_LSN
 

@@ -1,4 +1,5 @@
--- The words of this crate's contracts.
+-- Definitions for the contracts of this crate.
+pub mod Floats
 pub mod Items
 pub mod Lists
 pub mod Maps

@@ -9,38 +9,38 @@ use Rattle.pg_text.specs.declared.items.Items.TheVariants.{OfArray}
 abbrev pub separator : ℕ → ℕ → List ℕ
 separator byte place = if place == 0 then [] else byte ∷ []
 
--- INT2VECTOR, OIDVECTOR (int2vectorout, oidvectorout): the numbers with a space between
+-- INT2VECTOR, OIDVECTOR (int2vectorout, oidvectorout): the numbers with spaces between
 abbrev pub vector_text : {A : Type 0} → (A → List ℕ) → List A → List ℕ
 vector_text text numbers = join_with_byte 32 (map text numbers)
 
--- and what is read of it (int2vectorin, oidvectorin)
+-- what is parsed as a vector (int2vectorin, oidvectorin)
 abbrev pub SaysVector : {A : Type 0} → (List ℕ → A → Type 0) → List ℕ → List A → Type 0
 SaysVector says text numbers =
     (texts : List (List ℕ)) × (text ≡ join_with_byte 32 texts) × AllZip says texts numbers
 
--- an element's text, in quotes where it needs them, and NULL for NULL (array_out)
+-- the text of an element, quoted if it has to be, and NULL for NULL (array_out)
 abbrev pub ShowsElement : {A : Type 0} → (A → List ℕ → List ℕ → Type 0) → Option A → List ℕ → Type 0
 ShowsElement shows None item = item ≡ codes "NULL"
 ShowsElement shows (Some v) item = (text : List ℕ) × shows v [] text × (item ≡ element_text text)
 
--- an array of one dimension: the elements in braces, with a comma between (array_out)
+-- an array of one dimension: the elements in braces, with commas between (array_out)
 abbrev pub ShowsArray : {A : Type 0} → (A → List ℕ → List ℕ → Type 0) → List (Option A) → List ℕ → List ℕ → Type 0
 ShowsArray shows elements old new =
     (items : List (List ℕ))
     × AllZip (ShowsElement shows) elements items
     × (new ≡ old ++ (123 ∷ (join_with_byte 44 items ++ 125 ∷ [])))
 
--- NULL says NULL, and a text a value
+-- NULL stands for NULL, and a text for a value
 abbrev pub SaysValue : {A : Type 0} → (List ℕ → A → Type 0) → Option (List ℕ) → Option A → Type 0
 SaysValue says None None = Unit {0}
 SaysValue says (Some text) (Some v) = says text v
 SaysValue says said v = ⊥
 
--- what an element's text says: NULL, or a text, which says the value (array_in)
+-- what the text of an element stands for: NULL, or a text, which stands for the value (array_in)
 abbrev pub SaysElement : {A : Type 0} → (List ℕ → A → Type 0) → List ℕ → Option A → Type 0
 SaysElement says item v = (said : Option (List ℕ)) × SaysItem OfArray item said × SaysValue says said v
 
--- and what is read of an array of one dimension (array_in)
+-- what is parsed as an array of one dimension (array_in)
 abbrev pub SaysArray : {A : Type 0} → (List ℕ → A → Type 0) → List ℕ → List (Option A) → Type 0
 SaysArray says text elements =
     (items : List (List ℕ))

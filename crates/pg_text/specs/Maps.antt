@@ -22,7 +22,7 @@ entry_text e = quoted Backslash e.0 ++ (codes "=>" ++ value_text e.1)
 abbrev pub key_order : List ℕ → List ℕ → Ordering
 key_order a b = ordering_then (nat_cmp (length a) (length b)) (slice_cmp nat_cmp a b)
 
--- what stands before the entry at a place
+-- the separator before the entry at an index
 abbrev pub comma_at : ℕ → List ℕ
 comma_at place = if place == 0 then [] else codes ", "
 

@@ -15,7 +15,7 @@ is_space byte = byte == 32 || nat_le 9 byte && nat_le byte 13
 abbrev pub is_escaped : ℕ → Bool
 is_escaped byte = byte == 34 || byte == 92
 
--- what stands before such a byte: a backslash (array_out, hstore_out), or the byte once more (record_out)
+-- the byte before such a byte: a backslash (array_out, hstore_out), or the byte itself (record_out)
 abbrev pub escape_of : Escape → ℕ → ℕ
 escape_of Backslash byte = 92
 escape_of Twice byte = byte
@@ -35,15 +35,15 @@ is_array_sign byte = is_escaped byte || byte == 123 || byte == 125 || byte == 44
 abbrev pub is_null_word : List ℕ → Bool
 is_null_word text = pointwise nat_eq (map to_ascii_lowercase text) (codes "null")
 
--- an element is in quotes where it is empty, is the word NULL or has such a sign (array_out)
+-- an element is quoted if it is empty, is the word NULL or contains such a byte (array_out)
 abbrev pub element_text : List ℕ → List ℕ
 element_text text =
     if length text == 0 || is_null_word text || list_any is_array_sign text then quoted Backslash text else text
 
--- a quote, a backslash, a parenthesis, a comma or white space, for which a field is in quotes (record_out)
+-- a quote, a backslash, a parenthesis, a comma or white space, for which a field is quoted (record_out)
 abbrev pub is_record_sign : ℕ → Bool
 is_record_sign byte = is_escaped byte || byte == 40 || byte == 41 || byte == 44 || is_space byte
 
--- a field is in quotes where it is empty or has such a sign (record_out)
+-- a field is quoted if it is empty or contains such a byte (record_out)
 abbrev pub field_text : List ℕ → List ℕ
 field_text text = if length text == 0 || list_any is_record_sign text then quoted Twice text else text

@@ -1,4 +1,4 @@
--- What stands at the front of a text, and how it goes on.
+-- What is at the front of a text, and the rest of the text.
 use Rattle.std.specs.Prelude.{◌≡◌, ◌⊎◌, ℕ, ◌-◌, ◌*◌, ◌^◌, ◌≤◌, List, [], ◌∷◌, ◌++◌, length}
 use Rattle.std.specs.Prelude.{ℤ, pos, ◌-ℤ◌, ◌*ℤ◌, codes}
 use Rattle.jiff.specs.Types.{Date, DateTime, Time, Timestamp}
@@ -12,11 +12,11 @@ use Rattle.pg_base.specs.NumberTexts.{SaysUnsigned}
 abbrev pub TakesNumber : List ℕ → ℕ → List ℕ → Type 0
 TakesNumber text n rest = (digits : List ℕ) × SaysUnsigned digits n × (text ≡ digits ++ rest)
 
--- digits after a point, as parts of a million
+-- digits after a decimal point, as millionths
 abbrev pub SaysMillionths : List ℕ → ℕ → Type 0
 SaysMillionths digits micros = (n : ℕ) × SaysUnsigned digits n × (micros ≡ n * 10 ^ (6 - length digits))
 
--- a point and up to six digits, as parts of a million, or nothing
+-- a decimal point and up to six digits, as millionths, or nothing
 abbrev pub TakesFraction : List ℕ → ℕ → List ℕ → Type 0
 TakesFraction text micros rest =
     ((micros ≡ 0) × (text ≡ rest))
@@ -31,7 +31,7 @@ TakesClock text hour minute second micros rest =
     × TakesNumber b second c
     × TakesFraction c micros rest
 
--- what is read of a time (time_in)
+-- what is parsed as a time (time_in)
 abbrev pub SaysTime : List ℕ → Time → Type 0
 SaysTime text t =
     (micros : ℕ) × TakesClock text t.hour t.minute t.second micros [] × (t.subsec_nanosecond ≡ micros * 1000)
@@ -46,11 +46,11 @@ TakesDay text year month day rest =
     × TakesNumber b day rest
     × (year ≡ pos n)
 
--- the era at the end, before which years are counted back from 1
+-- the era at the end; years BC are counted back from 1
 abbrev pub TakesEra : List ℕ → ℤ → ℤ → Type 0
 TakesEra text inside year = ((text ≡ codes " BC") × (year ≡ pos 1 -ℤ inside)) ⊎ ((text ≡ []) × (year ≡ inside))
 
--- what is read of a date (date_in)
+-- what is parsed as a date (date_in)
 abbrev pub SaysDate : List ℕ → Date → Type 0
 SaysDate text d =
     (inside : ℤ) × (rest : List ℕ) × TakesDay text inside d.month d.day rest × TakesEra rest inside d.year
@@ -64,7 +64,7 @@ TakesTimestamp text zone year month day hour minute second fraction =
     × TakesClock a hour minute second fraction (zone ++ b)
     × TakesEra b inside year
 
--- what is read of a timestamp as a date and a time of day (timestamp_in)
+-- what is parsed as a timestamp, as a date and a time of day (timestamp_in)
 abbrev pub SaysDateTime : List ℕ → List ℕ → DateTime → Type 0
 SaysDateTime zone text dt =
     (fraction : ℕ)
@@ -72,7 +72,7 @@ SaysDateTime zone text dt =
     fraction
     × (dt.time.subsec_nanosecond ≡ fraction * 1000)
 
--- and as its nanoseconds after 1970-01-01 00:00:00
+-- what is parsed as a timestamp, as its nanoseconds after 1970-01-01 00:00:00
 abbrev pub SaysNanos : {A : Type 0} → (A → ℤ) → List ℕ → List ℕ → A → Type 0
 SaysNanos nanos zone text v =
     (year micros : ℤ)

@@ -4,15 +4,15 @@ use Rattle.std.specs.Prelude.{nat_lt, if◌then◌else◌, Ok}
 use Rattle.std.specs.Int.{cast_unsigned, w8}
 use Rattle.hex.specs.Hex.{decode_of, encode_lower}
 
--- the value's text stands after what was there
+-- the text of the value was appended
 abbrev pub Shows : {A : Type 0} → (A → List ℕ) → A → List ℕ → List ℕ → Type 0
 Shows text value old new = new ≡ old ++ text value
 
--- nothing is said of the text
+-- nothing is claimed of the text
 abbrev pub AnyText : {A : Type 0} → A → List ℕ → List ℕ → Type 0
 AnyText value old new = Unit {0}
 
--- nothing is said of which value the text says
+-- nothing is claimed of the value that the text stands for
 abbrev pub AnyValue : {A : Type 0} → List ℕ → A → Type 0
 AnyValue text value = Unit {0}
 
@@ -21,7 +21,7 @@ abbrev pub bool_text : Bool → List ℕ
 bool_text true = codes "t"
 bool_text false = codes "f"
 
--- and what boolin takes of it, which takes the whole words too
+-- what is parsed as BOOL: of the texts that boolin accepts, these
 abbrev pub SaysBool : List ℕ → Bool → Type 0
 SaysBool text true = (text ≡ codes "t") ⊎ (text ≡ codes "true")
 SaysBool text false = (text ≡ codes "f") ⊎ (text ≡ codes "false")
@@ -30,7 +30,7 @@ SaysBool text false = (text ≡ codes "f") ⊎ (text ≡ codes "false")
 abbrev pub bytes_text : List ℕ → List ℕ
 bytes_text bytes = codes "\\x" ++ encode_lower bytes
 
--- and what byteain takes of the hexadecimal form: digits of either case
+-- what is parsed as BYTEA: the hexadecimal form that byteain accepts, with digits of either case
 abbrev pub SaysBytes : List ℕ → List ℕ → Type 0
 SaysBytes text bytes = (digits : List ℕ) × (text ≡ codes "\\x" ++ digits) × (decode_of digits ≡ Ok bytes)
 

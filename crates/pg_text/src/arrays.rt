@@ -1,10 +1,13 @@
-//! Arrays of one dimension, and vectors of numbers.
-ghost use Rattle.std.specs.Fmt.{signed_decimal};
+//! The texts of arrays of one dimension, and of vectors of numbers.
 ghost use Rattle.std.specs.Prelude.{◌≡◌, ◌||◌, ◌==◌, ◌++◌, ℕ, List, IfOk, OnOk, decimal, length, option_map};
-ghost use Rattle.std.specs.List.{list_any};
+ghost use Rattle.std.specs.Prelude.{[], FitsSigned, Vec, ℤ, ◌<◌, ◌^◌};
+ghost use Rattle.std.specs.Int.{w16};
+ghost use Rattle.std.specs.Global.{Global};
+ghost use Rattle.std.specs.Fmt.{signed_decimal};
+ghost use Rattle.std.specs.List.{list_any, All};
+ghost use Rattle.pg_base.specs.NumberTexts.{SaysSigned, SaysUnsigned};
 ghost use Rattle.pg_text.specs.Lists.{SaysArray, SaysValue, SaysVector, ShowsArray, ShowsElement, vector_text};
 ghost use Rattle.pg_text.specs.Quotes.{element_text, is_array_sign, is_null_word};
-ghost use Rattle.pg_base.specs.NumberTexts.{SaysSigned, SaysUnsigned};
 ghost use Rattle.pg_text.specs.Texts.{Shows};
 
 use crate::digits::push_number;
@@ -16,7 +19,7 @@ use itoa::Integer;
 use postgres_types::Fault;
 use std::alloc::{AllocError, Global};
 
-/// Appends the elements in braces, with commas between (`array_out`).
+/// Appends the elements in braces, with commas between them (`array_out`).
 pub fn push_array<T: ToText>(
     alloc: Global,
     elements: &[Option<T>],
@@ -33,7 +36,7 @@ pub fn push_array<T: ToText>(
     Ok(out.push(b'}')?)
 }
 
-/// Appends an element, or NULL; its own text is written to `text` first.
+/// Appends an element, or NULL; the text of the element is first written to `text`.
 fn push_item<T: ToText>(
     alloc: Global,
     element: &Option<T>,
@@ -53,8 +56,8 @@ fn push_item<T: ToText>(
     }
 }
 
-/// Appends an element's text, in quotes where it is empty, spells NULL, or holds white space, a comma, a brace, a quote
-/// or a backslash.
+/// Appends the text of an element. It is quoted if it is empty, is the word NULL, or contains white
+/// space, a comma, a brace, a quote or a backslash.
 pub fn push_element(text: &[u8], out: &mut Vec<u8>) -> Result<(), AllocError>
     ensures { OnOk result (out.new.items ≡ out.old.items ++ element_text text.now) }
 {
@@ -65,29 +68,29 @@ pub fn push_element(text: &[u8], out: &mut Vec<u8>) -> Result<(), AllocError>
     }
 }
 
-/// Whether the text is not an element without quotes.
+/// Whether the text has to be quoted as an element.
 fn needs_quotes(text: &[u8]) -> bool
     ensures { result ≡ (length text.now == 0 || is_null_word text.now || list_any is_array_sign text.now) }
 {
     text.is_empty() || is_null_word(text) || has_array_sign(text)
 }
 
-/// Whether a byte stands in no element without quotes.
+/// Whether the text contains a byte for which an element is quoted.
 fn has_array_sign(text: &[u8]) -> bool
     ensures { result ≡ list_any is_array_sign text.now }
 {
     text.iter().any(|byte| is_array_sign(*byte))
 }
 
-/// Whether the byte stands in no element without quotes.
+/// Whether an element that contains the byte is quoted.
 fn is_array_sign(byte: u8) -> bool
     ensures { result ≡ is_array_sign byte }
 {
     is_escaped(byte) || byte == b'{' || byte == b'}' || byte == b',' || is_space(byte)
 }
 
-/// The elements of the array that the text says. An array of several dimensions or with lower bounds
-/// is none.
+/// Parses the elements of an array (`array_in`). An array of several dimensions, or with lower
+/// bounds, is refused with `User`.
 pub fn parse_array<T: FromText>(alloc: Global, text: &str) -> Result<Vec<Option<T>>, Fault>
     ensures { IfOk result (λ v. SaysArray T.says text.now v.items) }
 {
@@ -99,7 +102,7 @@ pub fn parse_array<T: FromText>(alloc: Global, text: &str) -> Result<Vec<Option<
         return Ok(elements);
     }
     let mut element = Vec::new(alloc);
-    // An element takes a byte and a comma, but for the last one.
+    // Each element but the last takes a byte and a comma.
     for _ in 0..text.len() {
         let Some(item) = Items::OfArray.next(&mut rest, &mut element)? else {
             return Err(no_value());
@@ -113,7 +116,7 @@ pub fn parse_array<T: FromText>(alloc: Global, text: &str) -> Result<Vec<Option<
     Err(no_value())
 }
 
-/// The element of a text, or NULL.
+/// Parses an element, or NULL.
 fn parse_element<T: FromText>(alloc: Global, text: Option<&str>) -> Result<Option<T>, Fault>
     ensures { IfOk result (SaysValue T.says (option_map (λ t. t.now) text.entry)) }
 {
@@ -123,7 +126,7 @@ fn parse_element<T: FromText>(alloc: Global, text: Option<&str>) -> Result<Optio
     }
 }
 
-/// Appends the numbers with spaces between.
+/// Appends the numbers with spaces between them.
 fn push_vector<I: Integer>(numbers: &[I], out: &mut Vec<u8>) -> Result<(), AllocError>
     ensures { OnOk result (out.new.items ≡ out.old.items ++ vector_text I.text numbers.now) }
 {
@@ -134,7 +137,7 @@ fn push_vector<I: Integer>(numbers: &[I], out: &mut Vec<u8>) -> Result<(), Alloc
     Ok(())
 }
 
-/// The numbers of a text.
+/// Parses numbers with single spaces between them.
 fn parse_vector<T: FromText>(alloc: Global, text: &str) -> Result<Vec<T>, Fault>
     ensures { IfOk result (λ v. SaysVector T.says text.now v.items) }
 {
@@ -148,7 +151,7 @@ fn parse_vector<T: FromText>(alloc: Global, text: &str) -> Result<Vec<T>, Fault>
     Ok(numbers)
 }
 
-/// Numbers with spaces between (`int2vectorout`).
+/// Writes the numbers with spaces between them (`int2vectorout`).
 impl ToText for Vec<i16> {
     ghost shows = { Shows (λ v. vector_text signed_decimal v.items) };
 
@@ -165,7 +168,7 @@ impl FromText for Vec<i16> {
     }
 }
 
-/// Numbers with spaces between (`oidvectorout`).
+/// Writes the numbers with spaces between them (`oidvectorout`).
 impl ToText for Vec<u32> {
     ghost shows = { Shows (λ v. vector_text decimal v.items) };
 
@@ -181,3 +184,15 @@ impl FromText for Vec<u32> {
         parse_vector(alloc, text)
     }
 }
+
+/// The text of an INT2VECTOR says its numbers.
+pub fn int2vector_says_its_numbers()
+    ensures { (v : Vec ℤ Global) (text : List ℕ) → All (FitsSigned w16) v.items
+        → ⟦<Vec<i16> as ToText>⟧.shows v [] text → ⟦<Vec<i16> as FromText>⟧.says text v }
+{}
+
+/// The text of an OIDVECTOR says its numbers.
+pub fn oidvector_says_its_numbers()
+    ensures { (v : Vec ℕ Global) (text : List ℕ) → All (λ n. n < 2 ^ 32) v.items
+        → ⟦<Vec<u32> as ToText>⟧.shows v [] text → ⟦<Vec<u32> as FromText>⟧.says text v }
+{}

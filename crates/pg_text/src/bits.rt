@@ -1,13 +1,14 @@
-//! Lists of bits.
-ghost use Rattle.std.specs.Prelude.{◌≡◌, IfSome};
+//! The texts of bit strings.
+ghost use Rattle.std.specs.Prelude.{◌≡◌, IfSome, Bool, List};
 ghost use Rattle.pg_base.specs.Bits.{bit_digit, bits_text};
+ghost use Rattle.pg_text.specs.ReadBack.{IsReadBack};
 ghost use Rattle.pg_text.specs.Texts.{Shows};
 
 use crate::{FromText, ToText, no_value};
 use postgres_types::{BitVec, Fault};
 use std::alloc::{AllocError, Global};
 
-/// A digit 0 or 1 for each bit (`bit_out`, `varbit_out`).
+/// Writes a digit 0 or 1 for each bit (`bit_out`, `varbit_out`).
 impl ToText for BitVec {
     ghost shows = { Shows bits_text };
 
@@ -38,14 +39,14 @@ impl FromText for BitVec {
     }
 }
 
-/// The digit of a bit.
+/// Returns the digit of a bit.
 fn bit_digit(bit: bool) -> u8
     ensures { result ≡ bit_digit bit }
 {
     if bit { b'1' } else { b'0' }
 }
 
-/// The bit of a digit 0 or 1.
+/// Returns the bit of a digit, or `None` if the digit is not 0 or 1.
 fn bit_of(digit: u8) -> Option<bool>
     ensures { IfSome result (λ bit. digit ≡ bit_digit bit) }
 {
@@ -55,3 +56,8 @@ fn bit_of(digit: u8) -> Option<bool>
         _ => None,
     }
 }
+
+/// The text of a bit string says it, and no other.
+pub fn bits_are_read_back()
+    ensures { IsReadBack (λ (v : List Bool). Unit {0}) ⟦<BitVec as ToText>⟧.shows ⟦<BitVec as FromText>⟧.says }
+{}

@@ -1,6 +1,8 @@
-//! Bytes.
-ghost use Rattle.std.specs.Prelude.{◌≡◌, ◌++◌, OnOk};
-ghost use Rattle.hex.specs.Hex.{encode_lower};
+//! The texts of byte strings.
+ghost use Rattle.std.specs.Prelude.{◌≡◌, ◌++◌, OnOk, ◌↔◌, ℕ, [], List, Vec};
+ghost use Rattle.std.specs.Global.{Global};
+ghost use Rattle.std.specs.Borrow.{Bor};
+ghost use Rattle.hex.specs.Hex.{encode_lower, IsBytes};
 ghost use Rattle.pg_text.specs.Texts.{SaysBytes, Shows, bytes_text};
 
 use crate::{FromText, ToText, no_value};
@@ -8,7 +10,7 @@ use hex::FromHexError;
 use postgres_types::Fault;
 use std::alloc::{AllocError, Global};
 
-/// `\x` and two hexadecimal digits a byte (`byteaout`, with bytea_output hex).
+/// Writes `\x` and two hexadecimal digits for each byte (`byteaout`, with bytea_output `hex`).
 impl ToText for &[u8] {
     ghost shows = { Shows (λ s. bytes_text s.now) };
 
@@ -18,7 +20,7 @@ impl ToText for &[u8] {
     }
 }
 
-/// Appends two hexadecimal digits a byte.
+/// Appends two lower-case hexadecimal digits for each byte.
 pub fn push_hex(bytes: &[u8], out: &mut Vec<u8>) -> Result<(), AllocError>
     ensures { OnOk result (out.new.items ≡ out.old.items ++ encode_lower bytes.now) }
 {
@@ -47,3 +49,9 @@ impl FromText for Vec<u8> {
         }
     }
 }
+
+/// The text of a slice of bytes says them as a vector, and no others.
+pub fn bytea_is_read_back()
+    ensures { (s : Bor (List ℕ)) (text : List ℕ) (v : Vec ℕ Global) → IsBytes s.now
+        → ⟦<&'static [u8] as ToText>⟧.shows s [] text → ⟦<Vec<u8> as FromText>⟧.says text v ↔ (v.items ≡ s.now) }
+{}

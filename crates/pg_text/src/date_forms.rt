@@ -1,4 +1,4 @@
-//! The texts that dates, times of day and timestamps are made of.
+//! The parts of the texts of dates, times of day and timestamps.
 ghost use Rattle.std.specs.Prelude.{◌≡◌, ◌++◌, [], ℕ, ℤ, List, IfSome, OnOk, pos, ◌+ℤ◌};
 ghost use Rattle.std.specs.Prelude.{◌*ℤ◌};
 ghost use Rattle.pg_text.specs.Scans.{SaysNanos, TakesClock, TakesDay, TakesEra, TakesTimestamp};
@@ -9,7 +9,7 @@ use crate::scanner::Scanner;
 use pg_calendar::{Civil, Clock, DateTime, two_digits, year_of_era};
 use std::alloc::AllocError;
 
-/// Appends the date without its era. Years before year 1 are counted from 1 back.
+/// Appends the date without its era. Years before year 1 are counted back from 1 BC.
 pub fn push_date(date: Civil, out: &mut Vec<u8>) -> Result<(), AllocError>
     ensures { OnOk result (out.new.items ≡ out.old.items ++ day_text date.year date.month date.day) }
 {
@@ -19,7 +19,7 @@ pub fn push_date(date: Civil, out: &mut Vec<u8>) -> Result<(), AllocError>
     }
 }
 
-/// The date without its era, whose year has four digits; `None` where it has more.
+/// Returns the date without its era if its year has at most four digits, and otherwise `None`.
 fn short_date(date: Civil) -> Option<[u8; 10]>
     ensures { IfSome result (λ text. text ≡ day_text date.year date.month date.day) }
 {
@@ -31,7 +31,7 @@ fn short_date(date: Civil) -> Option<[u8; 10]>
     Some([y0, y1, y2, y3, b'-', m0, m1, b'-', d0, d1])
 }
 
-/// The same of any date.
+/// Appends any date without its era.
 fn push_long_date(date: Civil, out: &mut Vec<u8>) -> Result<(), AllocError>
     ensures { OnOk result (out.new.items ≡ out.old.items ++ day_text date.year date.month date.day) }
 {
@@ -42,7 +42,7 @@ fn push_long_date(date: Civil, out: &mut Vec<u8>) -> Result<(), AllocError>
     push_padded(u64::from(date.day), 2, out)
 }
 
-/// Appends the era of a year before year 1, and nothing for another.
+/// Appends ` BC` for a year before year 1, and nothing for another.
 pub fn push_era(date: Civil, out: &mut Vec<u8>) -> Result<(), AllocError>
     ensures { OnOk result (out.new.items ≡ out.old.items ++ era_text date.year) }
 {
@@ -52,7 +52,7 @@ pub fn push_era(date: Civil, out: &mut Vec<u8>) -> Result<(), AllocError>
     out.extend_from_slice(b" BC")
 }
 
-/// Appends the time of day, with a fraction of the second where there is one.
+/// Appends the time of day, with a fraction of the second if there is one.
 pub fn push_clock(clock: Clock, out: &mut Vec<u8>) -> Result<(), AllocError>
     ensures { OnOk result (out.new.items ≡ out.old.items
         ++ clock_text clock.hour clock.minute clock.second clock.micros) }
@@ -64,7 +64,8 @@ pub fn push_clock(clock: Clock, out: &mut Vec<u8>) -> Result<(), AllocError>
     push_fraction(clock.micros, out)
 }
 
-/// The time of day to the second, whose hour has two digits; `None` where it has more.
+/// Returns the time of day without its fraction if its hour has at most two digits, and otherwise
+/// `None`.
 fn short_clock(clock: Clock) -> Option<[u8; 8]>
     ensures { IfSome result (λ text. text ≡ seconds_text clock.hour clock.minute clock.second) }
 {
@@ -74,7 +75,7 @@ fn short_clock(clock: Clock) -> Option<[u8; 8]>
     Some([h0, h1, b':', m0, m1, b':', s0, s1])
 }
 
-/// The same of any hour, as those of an interval.
+/// Appends the time of day without its fraction, with any hour, as in an interval.
 fn push_long_clock(clock: Clock, out: &mut Vec<u8>) -> Result<(), AllocError>
     ensures { OnOk result (out.new.items ≡ out.old.items ++ seconds_text clock.hour clock.minute clock.second) }
 {
@@ -113,7 +114,7 @@ fn take_date(scanner: &mut Scanner<'_>) -> Option<Civil>
     Some(Civil { year, month, day })
 }
 
-/// Takes the era that comes at the end: the date in that era.
+/// Takes the era at the end of the text, and returns the date in that era.
 fn take_era(date: Civil, scanner: &mut Scanner<'_>) -> Option<Civil>
     ensures { IfSome result (λ d. TakesEra scanner.old.rest.now date.year d.year × (d.month ≡ date.month)
         × (d.day ≡ date.day)) }
@@ -149,7 +150,7 @@ fn take_clock(scanner: &mut Scanner<'_>) -> Option<Clock>
     })
 }
 
-/// The date of a text.
+/// Parses a date; `None` if the text is not one.
 pub fn parse_date(text: &str) -> Option<Civil>
     ensures { IfSome result (λ d. (inside : ℤ) × (rest : List ℕ) × TakesDay text.now inside d.month d.day rest
         × TakesEra rest inside d.year) }
@@ -159,7 +160,7 @@ pub fn parse_date(text: &str) -> Option<Civil>
     take_era(date, &mut scanner)
 }
 
-/// The time of day of a text.
+/// Parses a time of day; `None` if the text is not one.
 pub fn parse_clock(text: &str) -> Option<Clock>
     ensures { IfSome result (λ c. TakesClock text.now c.hour c.minute c.second c.micros []) }
 {
@@ -168,7 +169,7 @@ pub fn parse_clock(text: &str) -> Option<Clock>
     if scanner.is_done() { Some(clock) } else { None }
 }
 
-/// The day and time of day of a text that has this zone.
+/// Parses a date and a time of day with this zone; `None` if the text is not one.
 pub fn parse_datetime(text: &str, zone: &[u8]) -> Option<DateTime>
     ensures { IfSome result (λ dt. TakesTimestamp text.now zone.now dt.date.year dt.date.month dt.date.day
         dt.clock.hour dt.clock.minute dt.clock.second dt.clock.micros) }
@@ -182,8 +183,9 @@ pub fn parse_datetime(text: &str, zone: &[u8]) -> Option<DateTime>
     Some(DateTime { date, clock })
 }
 
-/// The microseconds from midnight of a day, which is told in days from 1970-01-01, to the timestamp of a
-/// text that has this zone; `None` where it is no such text, or they leave 64 bits.
+/// Parses a timestamp with this zone. Returns the microseconds to it from midnight of day `day`,
+/// which is counted in days from 1970-01-01; `None` if the text is not a timestamp, or if they do
+/// not fit in an `i64`.
 pub fn parse_micros(text: &str, zone: &[u8], day: i64) -> Option<i64>
     ensures { IfSome result
         (SaysNanos (λ micros. (micros +ℤ day *ℤ pos 86_400_000_000) *ℤ pos 1_000) zone.now text.now) }

@@ -1,4 +1,5 @@
-//! Dates, times of day and timestamps, of `jiff` and of our own, with and without infinities.
+//! The texts of dates, times of day and timestamps, of `jiff` and of this library, which may be
+//! infinite.
 ghost use Rattle.std.specs.Prelude.{◌≡◌, ◌*◌, ◌/◌, [], IfSome};
 ghost use Rattle.postgres_types.specs.Special.{date_view, timestamp_view};
 ghost use Rattle.pg_text.specs.Scans.{SaysDate, SaysDateTime, SaysInstant, SaysTime, SaysTimestamp};
@@ -21,10 +22,10 @@ use std::alloc::{AllocError, Global};
 /// 2000-01-01, in days from 1970-01-01.
 const POSTGRES_EPOCH_DAY: i64 = 10_957;
 
-/// The zone that a timestamp with a time zone is written in.
+/// The zone with which a timestamp with time zone is written.
 const UTC: &[u8] = b"+00";
 
-/// `jiff`'s date; `None` where it has none.
+/// Returns the date as a date of `jiff`, or `None` if it has no such date.
 fn jiff_date(date: Civil) -> Option<civil::Date>
     ensures { IfSome result (λ d. (d.year ≡ date.year) × (d.month ≡ date.month) × (d.day ≡ date.day)) }
 {
@@ -34,7 +35,7 @@ fn jiff_date(date: Civil) -> Option<civil::Date>
     civil::Date::new(year, month, day).ok()
 }
 
-/// `jiff`'s time of day; `None` where there is no such time.
+/// Returns the time of day as a time of `jiff`, or `None` if there is no such time.
 fn jiff_time(clock: Clock) -> Option<civil::Time>
     ensures { IfSome result (λ t. (t.hour ≡ clock.hour) × (t.minute ≡ clock.minute) × (t.second ≡ clock.second)
         × (t.subsec_nanosecond ≡ clock.micros * 1_000)) }
@@ -46,7 +47,7 @@ fn jiff_time(clock: Clock) -> Option<civil::Time>
     civil::Time::new(hour, minute, second, nanos).ok()
 }
 
-/// `2000-01-31` (`date_out`).
+/// Writes the date, like `2000-01-31` (`date_out`).
 impl ToText for civil::Date {
     ghost shows = { Shows civil_date_text };
 
@@ -65,7 +66,7 @@ impl FromText for civil::Date {
     }
 }
 
-/// `23:59:59.5` (`time_out`).
+/// Writes the time, like `23:59:59.5` (`time_out`).
 impl ToText for civil::Time {
     ghost shows = { Shows civil_time_text };
 
@@ -82,7 +83,7 @@ impl FromText for civil::Time {
     }
 }
 
-/// `2000-01-31 23:59:59.5` (`timestamp_out`).
+/// Writes the timestamp, like `2000-01-31 23:59:59.5` (`timestamp_out`).
 impl ToText for civil::DateTime {
     ghost shows = { Shows civil_datetime_text };
 
@@ -95,7 +96,7 @@ impl ToText for civil::DateTime {
     }
 }
 
-/// The day and time of day of a text, as `jiff`'s; `None` where it has none.
+/// Parses a date and a time of day of `jiff`; `None` if the text is not one.
 fn parse_civil(text: &str) -> Option<civil::DateTime>
     ensures { IfSome result (SaysDateTime [] text.now) }
 {
@@ -115,7 +116,7 @@ impl FromText for civil::DateTime {
     }
 }
 
-/// `2000-01-31 23:59:59.5+00` (`timestamptz_out`).
+/// Writes the timestamp in UTC, like `2000-01-31 23:59:59.5+00` (`timestamptz_out`).
 impl ToText for jiff::Timestamp {
     ghost shows = { Shows instant_text };
 
@@ -124,7 +125,7 @@ impl ToText for jiff::Timestamp {
     }
 }
 
-/// The timestamp of a text, as `jiff`'s; `None` where it has none.
+/// Parses a timestamp of `jiff`; `None` if the text is not one.
 fn parse_timestamp(text: &str) -> Option<jiff::Timestamp>
     ensures { IfSome result (SaysInstant text.now) }
 {
@@ -143,7 +144,7 @@ impl FromText for jiff::Timestamp {
     }
 }
 
-/// `2000-01-31 23:59:59.5` (`timestamp_out`), by a calendar of our own, which has every year.
+/// Writes the timestamp, like `2000-01-31 23:59:59.5` (`timestamp_out`), for every year.
 impl ToText for UnixTime {
     ghost shows = { Shows unix_time_text };
 
@@ -163,7 +164,7 @@ impl FromText for UnixTime {
     }
 }
 
-/// `infinity`, `-infinity` or the date.
+/// Writes `infinity`, `-infinity` or the date.
 impl<T: ToText> ToText for Date<T> {
     ghost shows = { λ v. ShowsSpecial T.shows (date_view v) };
 
@@ -188,7 +189,7 @@ impl<T: FromText> FromText for Date<T> {
     }
 }
 
-/// `infinity`, `-infinity` or the timestamp.
+/// Writes `infinity`, `-infinity` or the timestamp.
 impl<T: ToText> ToText for Timestamp<T> {
     ghost shows = { λ v. ShowsSpecial T.shows (timestamp_view v) };
 
@@ -206,7 +207,7 @@ impl<T: ToText> ToText for Timestamp<T> {
 impl<T: FromText> FromText for Timestamp<T> {
     ghost says = { λ text v. SaysSpecial T.says text (timestamp_view v) };
 
-    // A call would hand over a `Result` with a fault, which has 96 bytes.
+    // A call would return a `Result` with a fault, of 96 bytes, through memory.
     #[inline(always)]
     fn from_text(alloc: Global, text: &str) -> Result<Timestamp<T>, Fault> {
         match text {

@@ -16,7 +16,7 @@ pub fn push_number<I: Integer>(number: I, out: &mut Vec<u8>) -> Result<(), Alloc
     out.extend_from_slice(buffer.format(number).as_bytes())
 }
 
-/// Appends the number in at least `width` digits, of which the first may be 0.
+/// Appends the number in at least `width` digits, padded with zeros.
 pub fn push_padded(number: u64, width: usize, out: &mut Vec<u8>) -> Result<(), AllocError>
     ensures { OnOk result (out.new.items ≡ out.old.items ++ padded_text width number) }
 {
@@ -26,7 +26,7 @@ pub fn push_padded(number: u64, width: usize, out: &mut Vec<u8>) -> Result<(), A
     out.extend_from_slice(digits)
 }
 
-/// Appends the number in at least six digits, of which the first may be 0.
+/// Appends the number in at least six digits, padded with zeros.
 fn push_six_digits(number: u32, out: &mut Vec<u8>) -> Result<(), AllocError>
     ensures { OnOk result (out.new.items ≡ out.old.items ++ padded_text 6 number) }
 {
@@ -36,7 +36,7 @@ fn push_six_digits(number: u32, out: &mut Vec<u8>) -> Result<(), AllocError>
     }
 }
 
-/// Appends so many zeros.
+/// Appends `count` zeros.
 fn push_zeros(count: usize, out: &mut Vec<u8>) -> Result<(), AllocError>
     ensures { OnOk result (out.new.items ≡ out.old.items ++ replicate count 48) }
 {
@@ -46,8 +46,7 @@ fn push_zeros(count: usize, out: &mut Vec<u8>) -> Result<(), AllocError>
     Ok(())
 }
 
-/// Appends the parts of a million as digits after a point, without zeros at the end; nothing where
-/// there are none.
+/// Appends a decimal point and the millionths without trailing zeros; nothing if there are none.
 pub fn push_fraction(millionths: u32, out: &mut Vec<u8>) -> Result<(), AllocError>
     ensures { OnOk result (out.new.items ≡ out.old.items ++ fraction_text millionths) }
 {
@@ -62,7 +61,7 @@ pub fn push_fraction(millionths: u32, out: &mut Vec<u8>) -> Result<(), AllocErro
     Ok(())
 }
 
-/// Appends the number in hexadecimal digits without zeros before it.
+/// Appends the number in hexadecimal digits, without leading zeros.
 pub fn push_hex_number(number: u64, is_upper: bool, out: &mut Vec<u8>) -> Result<(), AllocError>
     ensures { OnOk result (out.new.items ≡ out.old.items ++ digits 16 is_upper number) }
 {
@@ -71,7 +70,7 @@ pub fn push_hex_number(number: u64, is_upper: bool, out: &mut Vec<u8>) -> Result
     out.extend_from_slice(&buffer[start..])
 }
 
-/// Writes the digits at the end of the buffer, and answers where they start.
+/// Writes the digits at the end of the buffer, and returns where they start.
 fn write_hex_number(number: u64, is_upper: bool, buffer: &mut [u8; 64]) -> usize
     ensures bound { result ≤ 64 }
     ensures value { drop result buffer.new ≡ digits 16 is_upper number }
@@ -89,7 +88,7 @@ fn write_hex_number(number: u64, is_upper: bool, buffer: &mut [u8; 64]) -> usize
     start
 }
 
-/// The digit of a number below 16.
+/// Returns the digit of a number below 16.
 fn hex_digit(number: u8, is_upper: bool) -> u8
     requires { number < 16 }
     ensures { result ≡ digit_glyph is_upper number }

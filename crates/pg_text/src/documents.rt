@@ -1,12 +1,12 @@
-//! Documents of JSON.
+//! The texts of JSON documents.
 
 use crate::{FromText, ToText, no_value};
 use postgres_types::Fault;
 use serde_json::Value;
 use std::alloc::{AllocError, Global};
 
-/// The compact text of `serde_json`, where `json_out` writes the text that came in and `jsonb_out`
-/// one with spaces.
+/// Writes the compact text of `serde_json`, while `json_out` writes the text as it was stored, and
+/// `jsonb_out` one with spaces.
 impl ToText for Value {
     fn to_text(&self, alloc: Global, out: &mut Vec<u8>) -> Result<(), AllocError> {
         let text = self.to_string(alloc)?;

@@ -1,4 +1,4 @@
-//! Maps.
+//! The texts of maps.
 ghost use Rattle.std.specs.Prelude.{◌≡◌, ◌++◌, IfOk, OnOk, map};
 ghost use Rattle.std.specs.List.Sorted.{IsPermutation, IsSortedByKey};
 ghost use Rattle.postgres_types.specs.Hstore.{borrowed_entry, owned_entry};
@@ -11,14 +11,14 @@ use postgres_types::Fault;
 use std::alloc::{AllocError, Global};
 use std::collections::HashMap;
 
-/// What an hstore is read as.
+/// The Rust type of an hstore.
 pub type Map = HashMap<String, Option<String>>;
 
-/// An entry of a map.
+/// The key of an entry, and its value (`None` is NULL).
 type Entry<'a> = (&'a str, Option<&'a str>);
 
-/// `"k"=>"v", "n"=>NULL` (`hstore_out`), in the order of hstore: shorter keys first, and those of
-/// one length by their bytes.
+/// Writes the entries like `"k"=>"v", "n"=>NULL` (`hstore_out`), in the order of hstore: shorter
+/// keys first, and keys of the same length in the order of their bytes.
 impl ToText for Map {
     ghost shows = { λ m. ShowsMap (map owned_entry m.entries) };
 
@@ -28,7 +28,7 @@ impl ToText for Map {
     }
 }
 
-/// The map's entries in the order of hstore.
+/// Returns the entries of the map in the order of hstore.
 fn sorted_entries<'a>(alloc: Global, store: &'a Map) -> Result<Vec<Entry<'a>>, AllocError>
     ensures permutation { IfOk result (λ v.
         IsPermutation (map owned_entry store.now.entries) (map borrowed_entry v.items)) }
@@ -43,7 +43,7 @@ fn sorted_entries<'a>(alloc: Global, store: &'a Map) -> Result<Vec<Entry<'a>>, A
     Ok(entries)
 }
 
-/// Appends the entries with a comma and a space between.
+/// Appends the entries with a comma and a space between them.
 fn push_entries(entries: &[Entry<'_>], out: &mut Vec<u8>) -> Result<(), AllocError>
     ensures { OnOk result (out.new.items ≡ out.old.items ++ entries_text (map borrowed_entry entries.now)) }
 {
@@ -106,7 +106,7 @@ impl FromText for Map {
     }
 }
 
-/// Takes a text in quotes.
+/// Takes a quoted text.
 fn take_text(alloc: Global, scanner: &mut Scanner<'_>) -> Result<String, Fault> {
     let mut text = Vec::new(alloc);
     match scanner.quoted(&mut text)? {

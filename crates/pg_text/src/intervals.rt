@@ -1,4 +1,4 @@
-//! Intervals.
+//! The texts of intervals.
 ghost use Rattle.pg_base.specs.IntervalTexts.{interval_text};
 ghost use Rattle.pg_text.specs.Texts.{Shows};
 
@@ -8,7 +8,7 @@ use crate::{FromText, ToText, no_value};
 use postgres_types::{Fault, Interval};
 use std::alloc::{AllocError, Global};
 
-/// `1 year 2 mons -3 days +04:05:06.5` (`interval_out`).
+/// Writes the interval like `1 year 2 mons -3 days +04:05:06.5` (`interval_out`).
 impl ToText for Interval {
     ghost shows = { Shows interval_text };
 
@@ -17,7 +17,7 @@ impl ToText for Interval {
     }
 }
 
-/// What the parts of a text add up to.
+/// The sums of the parts of a text.
 #[derive(Debug, Clone, Copy)]
 struct Sum {
     months: i64,
@@ -26,7 +26,7 @@ struct Sum {
 }
 
 impl Sum {
-    /// Takes a part.
+    /// Takes a part of the text, and adds it.
     fn take_part(&mut self, scanner: &mut Scanner<'_>) -> Option<()> {
         let is_negative = scanner.take(b"-");
         if !is_negative {
@@ -50,7 +50,7 @@ impl Sum {
         Some(())
     }
 
-    /// Takes the minutes and seconds that come after the hours.
+    /// Takes the minutes and seconds after the hours, and sets the time.
     fn take_time(
         &mut self,
         is_negative: bool,
@@ -70,7 +70,7 @@ impl Sum {
         Some(())
     }
 
-    /// The interval; `None` where a part leaves its width.
+    /// Returns the interval, or `None` if a part does not fit in its width.
     fn interval(self) -> Option<Interval> {
         Some(Interval {
             microseconds: i64::try_from(self.micros).ok()?,
@@ -80,7 +80,7 @@ impl Sum {
     }
 }
 
-/// The interval of a text.
+/// Parses an interval; `None` if the text is not one.
 fn parse(text: &str) -> Option<Interval> {
     let mut scanner = Scanner::new(text);
     let mut sum = Sum {

@@ -1,4 +1,4 @@
-//! The items of an array's or a composite type's text, between its brackets.
+//! The items in the text of an array or of a composite value, between its brackets.
 ghost use Rattle.std.specs.Prelude.{◌≡◌, ◌∷◌, ◌++◌, [], ℕ, List, IfOk, IfSome, option_map};
 ghost use Rattle.pg_text.specs.Items.{EndsAt, SaysItem, TakesItem, may_end, needs_quotes, said_after, said_from};
 ghost use Rattle.pg_text.specs.Items.{unless_null};
@@ -8,25 +8,25 @@ use crate::quotes::{is_null_word, is_space};
 use postgres_types::Fault;
 use std::alloc::AllocError;
 
-/// What tells the items of a text apart.
+/// The kinds of texts that have items.
 #[derive(Debug, Clone, Copy, PartialEq, Eq)]
 pub enum Items {
-    /// An array's (`array_in`): an item is in quotes as a whole, or holds no space, brace or quote, and
-    /// is NULL where it spells that word.
+    /// An array (`array_in`): an item is quoted as a whole, or contains no white space, brace or
+    /// quote, and an item that is the word NULL is NULL.
     OfArray,
-    /// A composite type's (`record_in`): two quotes in quotes are one, quotes may stand anywhere in
-    /// an item, and NULL is no byte at all.
+    /// A composite value (`record_in`): quotes may begin anywhere in an item, two quotes in quotes
+    /// stand for one, and an empty item is NULL.
     OfRecord,
 }
 
-/// Where in an item a byte stands.
+/// The state in which a byte of an item is read.
 #[derive(Debug, Clone, Copy, PartialEq, Eq)]
 enum Place {
     /// Before its first byte.
     Start,
     Plain,
     Quoted,
-    /// After a quote that ended the quotes, or is the first of two.
+    /// After a quote that ended the quotes or is the first of two.
     Closed,
     /// After a backslash.
     PlainEscaped,
@@ -45,18 +45,18 @@ impl Place {
 /// What a byte means.
 #[derive(Debug, Clone, Copy, PartialEq, Eq)]
 enum Step {
-    /// It belongs to the item, which goes on so.
+    /// The byte belongs to the item, and this state follows.
     Take(Place),
-    /// It stands for nothing by itself.
+    /// The byte only changes the state.
     Pass(Place),
-    /// It ends the item.
+    /// The byte ends the item.
     End,
-    /// It cannot stand here.
+    /// The byte is not allowed here.
     Refuse,
 }
 
 impl Items {
-    /// Whether the byte stands in no item without quotes or a backslash.
+    /// Whether the byte is allowed in an item only in quotes or after a backslash.
     fn needs_quotes(self, byte: u8) -> bool
         ensures { result ≡ needs_quotes self byte }
     {
@@ -66,7 +66,7 @@ impl Items {
         }
     }
 
-    /// What the byte means at this place.
+    /// Returns what the byte means in this state.
     fn step(self, place: Place, byte: u8) -> Step
         ensures said { (text : List ℕ) → said_from self place (byte ∷ text) ≡ said_after self byte result text }
         ensures ends { EndsAt place byte result }
@@ -87,8 +87,9 @@ impl Items {
         }
     }
 
-    /// Takes the item at the front of the text, and the comma after it, and makes `out` what it says.
-    /// `None` where the text has no item there. Then, and out of memory, `out` holds a part of it.
+    /// Takes the item at the front of the text, and the comma after it, and sets `out` to the text
+    /// that it stands for. Returns `None` if there is no item there; then, and if memory runs out,
+    /// `out` has a part of it.
     pub fn next(self, text: &mut &[u8], out: &mut Vec<u8>) -> Result<Option<Item>, AllocError>
         ensures { IfOk result (λ found. IfSome found (λ item. TakesItem self text.old.now text.new.now item.has_comma
             (unless_null item.is_null out.new.items))) }
@@ -118,7 +119,7 @@ impl Items {
         }
     }
 
-    /// The item of that text, if an item's text may be so long.
+    /// Returns the item with this text, or `None` if the text is empty where an item must not be.
     fn item(self, text: &[u8], has_comma: bool) -> Option<Item>
         ensures { IfSome result (λ item. (item.has_comma ≡ has_comma) × ((said : List ℕ)
             → said_from self Place.Start text.now ≡ Some said
@@ -133,16 +134,17 @@ impl Items {
     }
 }
 
-/// An item that was taken off a text.
+/// An item that was taken from a text.
 #[derive(Debug, Clone, Copy, PartialEq, Eq)]
 pub struct Item {
     /// Whether it is NULL.
     pub is_null: bool,
-    /// Whether a comma came after it, so that another item comes.
+    /// Whether a comma followed it, so that another item comes.
     pub has_comma: bool,
 }
 
-/// What an item says, from its bytes; `None` for NULL. Bytes that are no text are the fault `User`.
+/// Returns the text of an item from its bytes; `None` for NULL. Bytes that are not UTF-8 are
+/// refused with `User`.
 pub fn said(is_null: bool, bytes: &[u8]) -> Result<Option<&str>, Fault>
     ensures { IfOk result (λ text. option_map (λ t. t.now) text ≡ unless_null is_null bytes.now) }
 {
@@ -155,7 +157,7 @@ pub fn said(is_null: bool, bytes: &[u8]) -> Result<Option<&str>, Fault>
     }
 }
 
-/// What stands between the text's first byte and its last, where they are these.
+/// Returns the text between its first and its last byte, if these are `first` and `last`.
 pub fn between(text: &[u8], first: u8, last: u8) -> Option<&[u8]>
     ensures { IfSome result (λ inside. text.now ≡ first ∷ (inside.now ++ last ∷ [])) }
 {

@@ -1,57 +1,58 @@
-//! PostgreSQL's own texts of values: what its output functions write, with DateStyle ISO, TimeZone
-//! UTC and IntervalStyle postgres, and what its input functions read of that.
+//! The texts of values, as PostgreSQL's output functions write them with DateStyle ISO, TimeZone
+//! UTC and IntervalStyle `postgres`. Parsing accepts these texts, and some of the others that
+//! PostgreSQL's input functions accept.
 #![tactic(auto)]
 
 ghost use Rattle.std.specs.Prelude.{ℕ, List, IfOk, OnOk};
 ghost use Rattle.pg_text.specs.Texts.{AnyText, AnyValue};
 
 pub mod arrays;
-mod bits;
-mod bytea;
+pub mod bits;
+pub mod bytea;
 mod date_forms;
 mod dates;
 mod digits;
 mod documents;
+pub mod floats;
 pub mod hstore;
 mod intervals;
 pub mod items;
-pub mod laws;
-mod network;
-mod numbers;
+pub mod network;
+pub mod numbers;
 mod quotes;
 pub mod records;
 mod scanner;
 pub mod separators;
 mod shown;
-mod small;
-mod texts;
+pub mod small;
+pub mod texts;
 
 use postgres_types::Fault;
 use std::alloc::{AllocError, Global};
 
 /// A type whose values have a text.
 pub trait ToText {
-    /// The value's text stands after what was there. An implementation that says nothing claims
-    /// nothing of its text.
+    /// The text of the value was appended. By default nothing is claimed of the text.
     ghost shows: { Self → List ℕ → List ℕ → Type 0 } = { AnyText };
 
-    /// Appends the value's text. Out of memory, a part of it may stand there.
+    /// Appends the text of the value. If memory runs out, a part of the text may have been
+    /// appended.
     fn to_text(&self, alloc: Global, out: &mut Vec<u8>) -> Result<(), AllocError>
         ensures { OnOk result (shows self.now out.old.items out.new.items) };
 }
 
-/// A type that is read from a text.
+/// A type whose values are parsed from texts.
 pub trait FromText: Sized + Drop {
-    /// The text says the value. An implementation that says nothing claims nothing of it.
+    /// The text stands for the value. By default nothing is claimed of the value.
     ghost says: { List ℕ → Self → Type 0 } = { AnyValue };
 
-    /// The value of the text, of which the server's output functions write one for each value; a
-    /// text that is none is the fault `User`.
+    /// Parses the value. It accepts the text that the server's output function writes for it; a
+    /// text that is not a value of the type is refused with `User`.
     fn from_text(alloc: Global, text: &str) -> Result<Self, Fault>
         ensures { IfOk result (λ value. says text.now value) };
 }
 
-/// The fault of a text that is no value of its type.
+/// Returns the fault of a text that is not a value of its type.
 pub fn no_value() -> Fault {
     Fault::user("no value of its type")
 }

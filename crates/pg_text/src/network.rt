@@ -1,7 +1,10 @@
-//! Addresses with their netmasks, and MAC addresses.
+//! The texts of IP addresses with their netmasks, and of MAC addresses.
+ghost use Rattle.std.specs.Prelude.{◌≡◌, length};
 ghost use Rattle.std.specs.Net.Grammar.{IsIpText};
+ghost use Rattle.hex.specs.Hex.{IsBytes};
 ghost use Rattle.pg_base.specs.NetworkTexts.{SaysMacaddr, SaysNetwork, address_text, cidr_text, inet_text};
 ghost use Rattle.pg_base.specs.NetworkTexts.{macaddr_text};
+ghost use Rattle.pg_text.specs.ReadBack.{IsReadBack};
 ghost use Rattle.pg_text.specs.Texts.{Shows};
 
 use crate::shown::push_shown;
@@ -11,8 +14,8 @@ use postgres_types::{Fault, IpCidr, IpInet, MacAddress};
 use std::alloc::{AllocError, Global};
 use std::net::IpAddr;
 
-/// The address, and `/` and the length of its netmask where the netmask leaves a bit free
-/// (`inet_out`).
+/// Writes the address, and `/` and the length of the netmask unless the netmask covers all bits of
+/// the address (`inet_out`).
 impl ToText for IpInet {
     ghost shows = { Shows inet_text };
 
@@ -29,7 +32,7 @@ impl FromText for IpInet {
     }
 }
 
-/// An address of a host: without a netmask.
+/// Writes the address of a host, without a netmask.
 impl ToText for IpAddr {
     ghost shows = { Shows address_text };
 
@@ -49,7 +52,7 @@ impl FromText for IpAddr {
     }
 }
 
-/// The first address, `/` and the length of the netmask (`cidr_out`).
+/// Writes the first address, `/` and the length of the netmask (`cidr_out`).
 impl ToText for IpCidr {
     ghost shows = { Shows cidr_text };
 
@@ -66,7 +69,7 @@ impl FromText for IpCidr {
     }
 }
 
-/// Two hexadecimal digits for each byte, with `:` between (`macaddr_out`).
+/// Writes the bytes as two hexadecimal digits each, with `:` between them (`macaddr_out`).
 impl ToText for MacAddress {
     ghost shows = { Shows macaddr_text };
 
@@ -82,3 +85,9 @@ impl FromText for MacAddress {
         text.parse()
     }
 }
+
+/// The text of a MAC address says it, and no other.
+pub fn macaddr_is_read_back()
+    ensures { IsReadBack (λ v. (length v ≡ 6) × IsBytes v) ⟦<MacAddress as ToText>⟧.shows
+        ⟦<MacAddress as FromText>⟧.says }
+{}

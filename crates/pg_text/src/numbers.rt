@@ -1,7 +1,9 @@
-//! Numbers, booleans and `"char"`.
+//! The texts of integers, booleans and `"char"`.
+ghost use Rattle.std.specs.Prelude.{decimal, Bool, FitsSigned, ◌<◌, ◌^◌, ℕ};
+ghost use Rattle.std.specs.Int.{w16, w32, w64};
 ghost use Rattle.std.specs.Fmt.{signed_decimal};
-ghost use Rattle.std.specs.Prelude.{decimal};
 ghost use Rattle.pg_base.specs.NumberTexts.{SaysSigned, SaysUnsigned};
+ghost use Rattle.pg_text.specs.ReadBack.{IsReadBack};
 ghost use Rattle.pg_text.specs.Texts.{SaysBool, Shows, bool_text, char_text};
 
 use crate::digits::push_number;
@@ -9,7 +11,7 @@ use crate::{FromText, ToText, no_value};
 use postgres_types::Fault;
 use std::alloc::{AllocError, Global};
 
-/// `t` or `f` (`boolout`).
+/// Writes `t` or `f` (`boolout`).
 impl ToText for bool {
     ghost shows = { Shows bool_text };
 
@@ -30,8 +32,8 @@ impl FromText for bool {
     }
 }
 
-/// No byte for 0, a backslash and three octal digits for a negative one, and otherwise the byte
-/// itself (`charout`).
+/// Writes nothing for 0, a backslash and three octal digits for a byte from 128 on, and otherwise
+/// the byte itself (`charout`).
 impl ToText for i8 {
     ghost shows = { Shows char_text };
 
@@ -64,7 +66,7 @@ impl FromText for i8 {
     }
 }
 
-/// The byte of three octal digits.
+/// Returns the byte of three octal digits, or `None` if they are not one.
 fn octal(high: u8, middle: u8, low: u8) -> Option<u8> {
     match (high, middle, low) {
         (b'0'..=b'3', b'0'..=b'7', b'0'..=b'7') => {
@@ -74,7 +76,7 @@ fn octal(high: u8, middle: u8, low: u8) -> Option<u8> {
     }
 }
 
-/// Decimal digits (`int2out`).
+/// Writes decimal digits (`int2out`).
 impl ToText for i16 {
     ghost shows = { Shows signed_decimal };
 
@@ -91,7 +93,7 @@ impl FromText for i16 {
     }
 }
 
-/// Decimal digits (`int4out`).
+/// Writes decimal digits (`int4out`).
 impl ToText for i32 {
     ghost shows = { Shows signed_decimal };
 
@@ -108,7 +110,7 @@ impl FromText for i32 {
     }
 }
 
-/// Decimal digits (`int8out`).
+/// Writes decimal digits (`int8out`).
 impl ToText for i64 {
     ghost shows = { Shows signed_decimal };
 
@@ -125,7 +127,7 @@ impl FromText for i64 {
     }
 }
 
-/// Decimal digits (`oidout`).
+/// Writes decimal digits (`oidout`).
 impl ToText for u32 {
     ghost shows = { Shows decimal };
 
@@ -141,3 +143,28 @@ impl FromText for u32 {
         text.parse().map_err(|_| no_value())
     }
 }
+
+/// The text of a boolean says it, and no other.
+pub fn bool_is_read_back()
+    ensures { IsReadBack (λ (v : Bool). Unit {0}) ⟦<bool as ToText>⟧.shows ⟦<bool as FromText>⟧.says }
+{}
+
+/// The text of an INT2 says it, and no other.
+pub fn int2_is_read_back()
+    ensures { IsReadBack (FitsSigned w16) ⟦<i16 as ToText>⟧.shows ⟦<i16 as FromText>⟧.says }
+{}
+
+/// The text of an INT4 says it, and no other.
+pub fn int4_is_read_back()
+    ensures { IsReadBack (FitsSigned w32) ⟦<i32 as ToText>⟧.shows ⟦<i32 as FromText>⟧.says }
+{}
+
+/// The text of an INT8 says it, and no other.
+pub fn int8_is_read_back()
+    ensures { IsReadBack (FitsSigned w64) ⟦<i64 as ToText>⟧.shows ⟦<i64 as FromText>⟧.says }
+{}
+
+/// The text of an OID says it, and no other.
+pub fn oid_is_read_back()
+    ensures { IsReadBack (λ (n : ℕ). n < 2 ^ 32) ⟦<u32 as ToText>⟧.shows ⟦<u32 as FromText>⟧.says }
+{}

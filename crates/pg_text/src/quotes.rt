@@ -1,20 +1,20 @@
-//! Texts in double quotes, within a text of many values.
+//! Quoted texts within a text of several values.
 ghost use Rattle.std.specs.Prelude.{◌≡◌, ◌++◌, OnOk};
 ghost use Rattle.pg_text.specs.Quotes.{escape_of, escaped, is_escaped, is_null_word, is_space, quoted};
 
 use std::alloc::AllocError;
 
-/// What stands before a quote or a backslash within quotes.
+/// How a quote or a backslash is escaped within quotes.
 #[derive(Debug, Clone, Copy, PartialEq, Eq)]
 pub enum Escape {
-    /// A backslash, as in arrays and hstore.
+    /// A backslash precedes it, as in arrays and hstore.
     Backslash,
-    /// The same byte once more, as in composite types.
+    /// It is written twice, as in composite values.
     Twice,
 }
 
 impl Escape {
-    /// The byte before this one.
+    /// Returns the byte that precedes this one.
     fn before(self, byte: u8) -> u8
         ensures { result ≡ escape_of self byte }
     {
@@ -54,14 +54,14 @@ pub fn is_escaped(byte: u8) -> bool
     byte == b'"' || byte == b'\\'
 }
 
-/// Whether the byte is white space to PostgreSQL.
+/// Whether PostgreSQL takes the byte as white space.
 pub fn is_space(byte: u8) -> bool
     ensures { result ≡ is_space byte }
 {
     byte == b' ' || byte >= b'\t' && byte <= b'\r'
 }
 
-/// Whether the text is the word NULL.
+/// Whether the text is the word NULL, in upper or lower case.
 pub fn is_null_word(text: &[u8]) -> bool
     ensures { result ≡ is_null_word text.now }
 {

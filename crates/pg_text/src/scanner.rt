@@ -1,15 +1,15 @@
-//! Reading a text from its front.
+//! Reading a text from the front.
 ghost use Rattle.std.specs.Prelude.{◌≡◌, ◌≤◌, ◌-◌, ◌*◌, ◌^◌, ◌==◌, ◌++◌, IfSome, MatchBool, length};
 ghost use Rattle.pg_text.specs.Scans.{TakesFraction, TakesNumber};
 
-/// What is left of a text.
+/// The rest of a text.
 #[derive(Debug, Clone, Copy)]
 pub struct Scanner<'a> {
     rest: &'a [u8],
 }
 
 impl<'a> Scanner<'a> {
-    /// The whole text.
+    /// Creates a scanner of the whole text.
     pub fn new(text: &'a str) -> Scanner<'a>
         ensures { result.rest.now ≡ text.entry.now }
     {
@@ -25,12 +25,12 @@ impl<'a> Scanner<'a> {
         self.rest.is_empty()
     }
 
-    /// What is left.
+    /// Returns the rest of the text.
     pub fn rest(&self) -> &'a [u8] {
         self.rest
     }
 
-    /// Takes the word where the text goes on with it, and says whether it does.
+    /// Takes the word if the rest begins with it. Returns whether it does.
     pub fn take(&mut self, word: &[u8]) -> bool
         ensures { MatchBool result (self.old.rest.now ≡ word.now ++ self.new.rest.now)
             (self.new.rest.now ≡ self.old.rest.now) }
@@ -44,15 +44,15 @@ impl<'a> Scanner<'a> {
         }
     }
 
-    /// Takes the word; `None` where the text does not go on with it.
+    /// Takes the word; `None` if the rest does not begin with it.
     pub fn expect(&mut self, word: &[u8]) -> Option<()>
         ensures { IfSome result (λ _. self.old.rest.now ≡ word.now ++ self.new.rest.now) }
     {
         if self.take(word) { Some(()) } else { None }
     }
 
-    /// Takes the number whose decimal digits come next; `None` where there is no digit, or the
-    /// number leaves 64 bits.
+    /// Takes a decimal number; `None` if there is no digit, or if the number does not fit in a
+    /// `u64`.
     pub fn number(&mut self) -> Option<u64>
         ensures { IfSome result (λ n. TakesNumber self.old.rest.now n self.new.rest.now) }
     {
@@ -71,15 +71,16 @@ impl<'a> Scanner<'a> {
         Some(number)
     }
 
-    /// The same of a number of 32 bits.
+    /// Takes a decimal number; `None` if there is no digit, or if the number does not fit in a
+    /// `u32`.
     pub fn number_u32(&mut self) -> Option<u32>
         ensures { IfSome result (λ n. TakesNumber self.old.rest.now n self.new.rest.now) }
     {
         u32::try_from(self.number()?).ok()
     }
 
-    /// Takes a point and up to six digits, where they come next: how many parts of a million they
-    /// are. `None` where a point has no digit after it, or more.
+    /// Takes a decimal point and one to six digits, if there is a point, and returns the
+    /// millionths. Returns `None` if no digit, or more than six, follow the point.
     pub fn fraction(&mut self) -> Option<u32>
         ensures { IfSome result (λ n. TakesFraction self.old.rest.now n self.new.rest.now) }
     {
@@ -91,8 +92,8 @@ impl<'a> Scanner<'a> {
         millionths(number, len - self.rest.len())
     }
 
-    /// Takes a text in double quotes, in which a backslash stands before a quote and a backslash,
-    /// and appends what it says. `None` where the text goes on with another byte than a quote, or no
+    /// Takes a quoted text, in which a backslash precedes a quote and a backslash, and appends the
+    /// text that it stands for. Returns `None` if the rest does not begin with a quote, or if no
     /// quote ends it.
     pub fn quoted(&mut self, out: &mut Vec<u8>) -> Result<Option<()>, std::alloc::AllocError> {
         if !self.take(b"\"") {
@@ -117,7 +118,8 @@ impl<'a> Scanner<'a> {
     }
 }
 
-/// The parts of a million that the number of so many digits after a point is; `None` where these are more than six.
+/// Returns the millionths for the number of these digits after a decimal point; `None` if there are
+/// more than six digits.
 fn millionths(number: u32, places: usize) -> Option<u32>
     ensures { IfSome result (λ micros. (places ≤ 6) × (micros ≡ number * 10 ^ (6 - places))) }
 {

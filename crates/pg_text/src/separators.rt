@@ -1,10 +1,10 @@
-//! What stands between the items of a text.
+//! The separators between the items of a text.
 ghost use Rattle.std.specs.Prelude.{◌≡◌, ◌++◌, OnOk};
 ghost use Rattle.pg_text.specs.Lists.{separator};
 
 use std::alloc::AllocError;
 
-/// Appends the byte before the item at this place, but for the first one.
+/// Appends the byte if the item at this index is not the first one.
 pub fn push_separator(place: usize, byte: u8, out: &mut Vec<u8>) -> Result<(), AllocError>
     ensures { OnOk result (out.new.items ≡ out.old.items ++ separator byte place) }
 {

@@ -6,7 +6,7 @@ use std::alloc::{AllocError, Global};
 use std::fmt::{self, Display, Formatter, Write};
 use std::mem;
 
-/// The bytes that a text is written to.
+/// A buffer for the bytes of a text.
 #[derive(Drop)]
 struct Bytes(Vec<u8>);
 
@@ -20,7 +20,7 @@ impl Write for Bytes {
     }
 }
 
-/// Appends the text of a value. Out of memory, a part of it may stand there.
+/// Appends the text of a value. If memory runs out, a part of the text may have been appended.
 pub fn push_shown<T: Display>(alloc: Global, value: &T, out: &mut Vec<u8>) -> Result<(), AllocError>
     ensures { OnOk result (AppendsText out.old.items out.new.items (T.output value.now)) }
 {

@@ -1,8 +1,10 @@
-//! Identifiers and log positions.
-ghost use Rattle.std.specs.Prelude.{◌≡◌, Some};
-ghost use Rattle.pg_text.specs.Texts.{Shows};
-ghost use Rattle.postgres_types.specs.Lsn.{lsn_of, lsn_text};
+//! The texts of UUIDs and log sequence numbers.
+ghost use Rattle.std.specs.Prelude.{◌≡◌, Some, ◌<◌, ◌^◌, ℕ, length};
+ghost use Rattle.std.specs.List.{All};
 ghost use Rattle.uuid.specs.Text.{hyphenated_text, lower, parsed};
+ghost use Rattle.postgres_types.specs.Lsn.{lsn_of, lsn_text};
+ghost use Rattle.pg_text.specs.ReadBack.{IsReadBack};
+ghost use Rattle.pg_text.specs.Texts.{Shows};
 
 use crate::digits::push_hex_number;
 use crate::{FromText, ToText, no_value};
@@ -10,7 +12,7 @@ use postgres_types::{Fault, PgLsn};
 use std::alloc::{AllocError, Global};
 use uuid::Uuid;
 
-/// Hexadecimal digits in five groups (`uuid_out`).
+/// Writes hexadecimal digits in five groups (`uuid_out`).
 impl ToText for Uuid {
     ghost shows = { Shows (hyphenated_text lower) };
 
@@ -29,7 +31,7 @@ impl FromText for Uuid {
     }
 }
 
-/// Both halves in hexadecimal digits, with a slash between (`pg_lsn_out`).
+/// Writes both halves in upper-case hexadecimal digits, with `/` between them (`pg_lsn_out`).
 impl ToText for PgLsn {
     ghost shows = { Shows lsn_text };
 
@@ -48,3 +50,14 @@ impl FromText for PgLsn {
         text.parse().map_err(|_| no_value())
     }
 }
+
+/// The text of a log sequence number says it, and no other.
+pub fn lsn_is_read_back()
+    ensures { IsReadBack (λ (n : ℕ). n < 2 ^ 64) ⟦<PgLsn as ToText>⟧.shows ⟦<PgLsn as FromText>⟧.says }
+{}
+
+/// The text of a UUID says it, and no other.
+pub fn uuid_is_read_back()
+    ensures { IsReadBack (λ v. (length v ≡ 16) × All (λ b. b < 256) v) ⟦<Uuid as ToText>⟧.shows
+        ⟦<Uuid as FromText>⟧.says }
+{}

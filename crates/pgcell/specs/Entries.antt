@@ -1,6 +1,6 @@
 -- What each base name stands for.
-use Rattle.std.specs.Prelude.{ℕ, Bool, true, false, Option, Some, None, ◌&&◌, codes, map, String, Vec}
-use Rattle.postgres_types.specs.Content.{Content, BuiltInType, kind_of, same_type}
+use Rattle.std.specs.Prelude.{ℕ, Bool, true, false, List, Option, Some, None, ◌&&◌, codes, map, String, Vec}
+use Rattle.postgres_types.specs.Content.{Content, ArrayKind, BuiltInType, SimpleKind, kind_of, same_type}
 use Rattle.std.specs.Int.{w8, w16, w32, w64}
 use Rattle.std.specs.Global.{Global}
 use Rattle.std.specs.HashMap.{HashMap}
@@ -20,6 +20,8 @@ use Rattle.postgres_types.specs.Special.{ReadsSpecial, date_view, timestamp_view
 use Rattle.pg_types.specs.declared.types.built_in.BuiltIn.{BuiltIn as Row}
 use Rattle.pg_types.specs.declared.types.built_in.BuiltIn.TheVariants as row
 use Rattle.postgres_types.specs.Records.{fields_of_kind}
+use Rattle.pg_numbers.specs.CatalogTypes.{catalog_type}
+use Rattle.pg_numbers.specs.NumericCells.{ReadsNumeric, wire_numeric}
 use Rattle.pg_record.specs.InventoryItems.{reads_item, wire_item}
 use Rattle.pg_record.specs.Moods.{ReadsMood, wire_mood}
 use Rattle.pg_record.specs.SessionIds.{ReadsSessionId, wire_session_id}
@@ -28,20 +30,29 @@ use Rattle.pgcell.specs.Rewritten.{ReadsVec, wire_vec, Rewriting, RewrittenAs, R
 use Rattle.named_types.specs.declared.base.Base.{Base}
 use Rattle.named_types.specs.declared.base.Base.TheVariants as base
 
--- a type and, where it has arrays, the type of these
+-- a type and, if it has arrays, their type
 abbrev pub Types : Type 0
 Types = Content × Option Content
 
--- the user-defined types of a base name, each with an OID that a server could have given it
+-- a type of the schema pg_catalog, and that of its arrays
+abbrev pub catalog_types : List ℕ → ℕ → List ℕ → ℕ → Types
+catalog_types name oid array_name array_oid =
+    let own = catalog_type name oid SimpleKind in
+    (own, Some (catalog_type array_name array_oid (ArrayKind own)))
+
+-- the user-defined types of a base name, each with an OID that a server could have given it, or has for it
 abbrev pub user_types : Base → Option Types
+user_types base.Float4 = Some (catalog_types (codes "float4") 700 (codes "_float4") 1021)
+user_types base.Float8 = Some (catalog_types (codes "float8") 701 (codes "_float8") 1022)
 user_types base.Hstore = Some (simple_type (codes "hstore") 100002, None)
 user_types base.Item = Some (item_type 100003, Some (item_array_type 100004 (item_type 100003)))
 user_types base.Ltree = Some (simple_type (codes "ltree") 100001, None)
 user_types base.Mood = Some (mood_type 100005, None)
+user_types base.Numeric = Some (catalog_types (codes "numeric") 1700 (codes "_numeric") 1231)
 user_types base.Session = Some (session_id_type 100006, None)
 user_types other = None
 
--- whether two types of arrays, if there are such, are the same
+-- whether two types of arrays, if there are any, are the same
 abbrev pub same_arrays : Option Content → Option Content → Bool
 same_arrays None None = true
 same_arrays (Some one) (Some other) = same_type one other
@@ -92,6 +103,10 @@ entry_of base.Cidr = built_in row.Cidr row.CidrArray (RewrittenPlain ReadsCidr w
 entry_of base.Date = built_in row.Date row.DateArray (RewrittenPlain ReadsDate wire_date)
 entry_of base.DateInf =
     built_in row.Date row.DateArray (RewrittenPlain (ReadsSpecial w32 date_view ReadsDate) (λ v. wire_special w32 wire_date (date_view v)))
+entry_of base.Float4 =
+    user_defined (user_types base.Float4) (RewrittenPlain (ReadsUnsigned w32) (wire_unsigned w32))
+entry_of base.Float8 =
+    user_defined (user_types base.Float8) (RewrittenPlain (ReadsUnsigned w64) (wire_unsigned w64))
 entry_of base.Hstore =
     user_defined (user_types base.Hstore) (RewrittenPlain {A = Map} ReadsHstore (λ m. wire_hstore (map owned_entry m.entries)))
 entry_of base.Inet = built_in row.Inet row.InetArray (RewrittenPlain ReadsInet wire_inet)
@@ -107,6 +122,7 @@ entry_of base.Macaddr =
     built_in row.Macaddr row.MacaddrArray (RewrittenPlain (ReadsFixedBytes 6) (wire_fixed_bytes 6))
 entry_of base.Mood = user_defined (user_types base.Mood) (RewrittenPlain ReadsMood wire_mood)
 entry_of base.Name = built_in row.Name row.NameArray RewrittenText
+entry_of base.Numeric = user_defined (user_types base.Numeric) (RewrittenPlain ReadsNumeric wire_numeric)
 entry_of base.Oid = built_in row.Oid row.OidArray (RewrittenPlain (ReadsUnsigned w32) (wire_unsigned w32))
 entry_of base.OidVector =
     no_arrays row.OidVector (RewrittenAs (ReadsVec (λ _. ReadsUnsigned w32)) (wire_vec (λ _. wire_unsigned w32)))

@@ -1,4 +1,4 @@
--- The words of names, of rewriting a cell by a name, and of lines and their answers.
+-- Definitions of names, of rewriting a cell by a name, and of lines and their answers.
 pub mod Answer
 pub mod Entries
 pub mod Norm

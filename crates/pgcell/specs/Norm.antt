@@ -1,4 +1,4 @@
--- What `norm` answers.
+-- The answer to `norm`.
 use Rattle.std.specs.Prelude.{◌≡◌, ℕ, ◌++◌, List, [], ◌∷◌, Option, Some, None, Result, Ok, Err, IfSome, codes}
 use Rattle.std.specs.Fmt.{decimal}
 use Rattle.hex.specs.Hex.{encode_lower}
@@ -15,8 +15,8 @@ use Rattle.named_types.specs.declared.name.Name.{Name}
 use Rattle.pgcell.specs.Entries.{Entry, no_entry, entry, entry_of}
 use Rattle.pgcell.specs.Rewritten.{Rewriting}
 
--- the text of a written form: `null`, `ok` and the bytes in hexadecimal, `-` where there are none, or `refused` and
--- the number of the fault
+-- the text of a written form: `null`, `ok` and the bytes in hexadecimal, or `-` if there are none, or `refused` and the
+-- number of the fault
 abbrev pub norm_text : Wire → List ℕ
 norm_text (Ok None) = codes "null"
 norm_text (Ok (Some [])) = codes "ok -"
@@ -28,17 +28,17 @@ abbrev pub AppendsRefusal : Option Refusal → List ℕ → List ℕ → Type 0
 AppendsRefusal None old new = ⊥
 AppendsRefusal (Some refusal) old new = new ≡ old ++ norm_text (Err refusal)
 
--- what a call answered and wrote is a written form of which P holds, unless memory ran out
+-- what a call returned and wrote is a written form of which P holds, unless memory ran out
 abbrev pub WritesOf : (Wire → Type 0) → List ℕ → List ℕ → Result IsNull Fault → Type 0
 WritesOf P old new (Ok null) = (w : Wire) × P w × Writes w old new (Ok null)
 WritesOf P old new (Err f) = (new ≡ old) × IfSome (refusal_of f) (λ r. P (Err r))
 
--- the text is that of a cell that was rewritten by a Postgres type; where there is none, the line is not well formed
+-- the text is that of a cell that was rewritten by a Postgres type; without one, the line is not well formed
 abbrev pub AnswersAt : Option Content → (Content → Cell → Wire → Type 0) → Cell → List ℕ → Type 0
 AnswersAt None rewritten cell text = text ≡ codes "bad line"
 AnswersAt (Some ty) rewritten cell text = (w : Wire) × rewritten ty cell w × (text ≡ norm_text w)
 
--- the same in a form, by the one of a type and the type of its arrays that the form stands for
+-- the same in a form, by the type for this form
 abbrev pub AnswersIn : Content → Option Content → Rewriting → Form → Cell → List ℕ → Type 0
 AnswersIn own arrays rewritten form = AnswersAt (picked form own arrays) (rewritten form)
 

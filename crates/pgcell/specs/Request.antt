@@ -16,7 +16,7 @@ use Rattle.pgcell.specs.declared.request.Request.TheVariants.{Norm, TypeOf, Lsn}
 abbrev pub same_word : List ℕ → List ℕ → Bool
 same_word = pointwise ◌==◌
 
--- the bytes before the first separator and those after it, where there is one
+-- the bytes before the first separator and those after it, if there is one
 abbrev pub split : ℕ → List ℕ → Option (List ℕ × List ℕ)
 split separator [] = None
 split separator (byte ∷ bytes) =
@@ -36,7 +36,7 @@ cell_of_word word =
     else if length word == 0 then None
     else digits_cell (decode_of word)
 
--- the OID that 1 to 10 decimal digits write, at most 4294967295
+-- the OID in 1 to 10 decimal digits, at most 4294967295
 abbrev pub oid_of_word : List ℕ → Option ℕ
 oid_of_word word =
     if all_ascii_digits word && (nat_lt 0 (length word) &&
@@ -44,7 +44,7 @@ oid_of_word word =
     then Some (digits_value 10 word)
     else None
 
--- what is asked for: to rewrite a cell, to show a type, to show a log position
+-- what is asked for: to rewrite a cell, to print a type, to print a log sequence number
 pub data Command : Type 0 where
   norm : Name → Cell → Command
   type_of : ℕ → Command

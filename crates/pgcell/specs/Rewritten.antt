@@ -24,7 +24,7 @@ RewrittenTo {A} reads wire cell w =
     ((refusal : Refusal) × reads cell (Err refusal) × (w ≡ Err refusal))
     ⊎ ((value : A) × reads cell (Ok value) × (w ≡ wire value))
 
--- what an array's cell gives: a list of what its elements give by their type
+-- what the cell of an array gives: a list of what its elements give by their type
 abbrev pub ReadsVec : {A : Type 0} → (Content → Cell → Outcome A → Type 0) → Content → Cell → Outcome (Vec A Global)
     → Type 0
 ReadsVec reads ty = ReadsByElement (λ element. ReadsList (λ v. v.items) (reads element)) (element_of ty)
@@ -42,18 +42,18 @@ RewrittenAs reads wire OptionalArray ty =
     RewrittenTo (ReadsVec (λ element. ReadsOption (reads element)) ty)
     (wire_vec (λ element. wire_option (wire element)) ty)
 
--- a form accepts a type that its Rust type accepts, or in a list an array of such a type
+-- a form accepts a type that its Rust type accepts, or, for a list, an array of such a type
 abbrev pub accepted_as : (Content → Bool) → Form → Content → Bool
 accepted_as inside Plain = inside
 accepted_as inside Optional = inside
 accepted_as inside Array = accepted_list inside
 accepted_as inside OptionalArray = accepted_list inside
 
--- the same of a Rust type with one format, whatever the Postgres type
+-- the same for a Rust type with one format, whatever the Postgres type
 abbrev pub RewrittenPlain : {A : Type 0} → (Cell → Outcome A → Type 0) → (A → Wire) → Rewriting
 RewrittenPlain reads wire = RewrittenAs (λ _. reads) (λ _. wire)
 
--- the same of a text, after a version where the Postgres type has one
+-- the same for a text, after a version if the Postgres type has one
 abbrev pub RewrittenText : Rewriting
 RewrittenText = RewrittenAs {A = String Global} (λ ty. ReadsText string_bytes (has_version ty))
     (λ ty text. wire_text (has_version ty) (string_bytes text))

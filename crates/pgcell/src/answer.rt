@@ -11,8 +11,8 @@ use std::alloc::{AllocError, Global};
 use std::fmt::Write;
 use streams::lines::AnswerLine;
 
-/// What answering keeps from line to line: the bytes of a cell, an answer that is a text, and what
-/// rewriting keeps.
+/// The buffers that are kept from line to line: the bytes of a cell, an answer that is a text, and
+/// those of rewriting.
 #[derive(Drop)]
 pub struct Answerer {
     bytes: Vec<u8>,
@@ -21,7 +21,7 @@ pub struct Answerer {
 }
 
 impl Answerer {
-    /// Nothing takes memory before the first line.
+    /// Creates an answerer. Nothing is allocated before the first line.
     pub fn new(alloc: Global) -> Answerer {
         Answerer {
             bytes: Vec::new(alloc),
@@ -30,7 +30,7 @@ impl Answerer {
         }
     }
 
-    /// Appends the answer to a line, without a byte 10.
+    /// Appends the answer to a line, without its line end.
     fn append_answer(
         &mut self,
         alloc: Global,

@@ -1,9 +1,10 @@
-//! Answers each line of standard input by a line on standard output. With `--names` it prints the
-//! names of types instead, a line of them for each base name; other arguments are ignored.
+//! Answers each line of standard input with a line on standard output: `norm NAME CELL`, which reads
+//! the cell as the type of that name and writes its value again, `type OID` and `lsn TEXT`. A cell is
+//! its bytes in hexadecimal digits, `-` if it has none, or `NULL`. With `--names` it prints the names
+//! of types instead, one line for each base name; other arguments are ignored.
 //!
-//! The exit status is 0 where every line was answered, or the names were printed, and 1 where the
-//! input could not be read, the output could not be written, or memory was refused. Nothing else is
-//! printed.
+//! The exit status is 0 if every line was answered or the names were printed, and 1 if the input
+//! could not be read, the output could not be written, or memory ran out. Nothing else is printed.
 #![tactic(auto)]
 
 mod answer;
@@ -33,7 +34,7 @@ fn main(rt: HostRuntime) -> ExitCode {
     }
 }
 
-/// Prints the names of each base name.
+/// Prints the names of each base name, one line for each.
 fn print_names<W: Write>(output: &mut W) -> io::Result<()> {
     for &base in Base::ALL {
         let name = base.name();

@@ -29,17 +29,8 @@ macro_rules! norm {
     };
 }
 
-// The same by the types of a row.
+// A cell is rewritten by the types of a row.
 macro_rules! norm_as {
-    (
-        ($this:ident, $alloc:ident, $name:ident, $cell:ident, $pending:ident)
-        [$rust:ty, user $($types:tt)*]
-    ) => {{
-        let Some((own, arrays)) = $this.types.of($alloc, $name.base)? else {
-            unreachable!()
-        };
-        $this.norm_as::<$rust>($alloc, $name.form, own, arrays, $cell, $pending)
-    }};
     (
         ($this:ident, $alloc:ident, $name:ident, $cell:ident, $pending:ident)
         [$rust:ty, $own:ident]
@@ -59,10 +50,20 @@ macro_rules! norm_as {
             $pending,
         )
     };
+    // The types are made by the row.
+    (
+        ($this:ident, $alloc:ident, $name:ident, $cell:ident, $pending:ident)
+        [$rust:ty, $($made:tt)*]
+    ) => {{
+        let Some((own, arrays)) = $this.types.of($alloc, $name.base)? else {
+            unreachable!()
+        };
+        $this.norm_as::<$rust>($alloc, $name.form, own, arrays, $cell, $pending)
+    }};
 }
 
-/// What rewriting keeps from cell to cell: the user-defined types that it made, and a buffer for the
-/// cell that is written.
+/// What is kept from cell to cell: the user-defined types that were made, and a buffer for the cell
+/// that is written.
 #[derive(Drop)]
 pub struct Rewriter {
     types: UserTypes,
@@ -70,7 +71,7 @@ pub struct Rewriter {
 }
 
 impl Rewriter {
-    /// No type is made, and the buffer takes no memory, before the first cell.
+    /// Creates a rewriter. No type is made, and nothing is allocated, before the first cell.
     pub fn new(alloc: Global) -> Rewriter {
         Rewriter {
             types: UserTypes::new(alloc),
@@ -78,8 +79,8 @@ impl Rewriter {
         }
     }
 
-    /// Rewrites the cell by what the name stands for, and puts what came of it after what is
-    /// pending. A name that stands for nothing is answered as a line that is not well formed.
+    /// Rewrites the cell by the types of the name, and appends the result to `pending`. A name
+    /// without types gets the answer of a line that is not well formed, `bad line`.
     pub fn norm(
         &mut self,
         alloc: Global,
@@ -95,7 +96,7 @@ impl Rewriter {
         base_names!(norm(self, alloc, name, cell, pending))
     }
 
-    /// The same as a `T` in that form, by the Postgres type or the type of its arrays.
+    /// Rewrites the cell as a `T` in this form, by the Postgres type or the type of its arrays.
     fn norm_as<'a, T: Paired<'a>>(
         &mut self,
         alloc: Global,
@@ -126,7 +127,7 @@ impl Rewriter {
     }
 }
 
-/// Of a type and the type of its arrays, the one that the form stands for.
+/// Returns the type for this form, given a type and the type of its arrays.
 #[tactic(auto, using(named_types::proofs::Picked::map_picked))]
 fn pick(form: Form, own: Type, arrays: Option<Type>) -> Option<Type>
     ensures { option_map content result ≡ picked form (content own) (option_map content arrays) }
@@ -154,7 +155,7 @@ fn rewrite_as<'a, T: Paired<'a>>(
     }
 }
 
-/// Appends the answer of a written cell.
+/// Appends the answer for a written cell.
 fn append_bytes(bytes: &[u8], pending: &mut BytesMut) -> Result<(), AllocError>
     ensures ok { OnOk result (pending.new.items ≡ pending.old.items ++ norm_text (Ok (Some bytes.now))) }
     ensures err { OnErr result (pending.new.items ≡ pending.old.items) }
@@ -171,7 +172,7 @@ fn append_bytes(bytes: &[u8], pending: &mut BytesMut) -> Result<(), AllocError>
     Ok(())
 }
 
-/// Appends the bytes in hexadecimal, written where they stay.
+/// Appends the bytes in hexadecimal, without another buffer.
 fn append_digits(bytes: &[u8], text: &mut BytesMut) -> Result<(), AllocError>
     ensures ok { OnOk result (text.new.items ≡ text.old.items ++ encode_lower bytes.now) }
     ensures err { OnErr result (text.new.items ≡ text.old.items) }
@@ -187,7 +188,8 @@ fn append_digits(bytes: &[u8], text: &mut BytesMut) -> Result<(), AllocError>
     }
 }
 
-/// Appends the answer of a refusal, which has its number. Out of memory is no refusal, and is passed on.
+/// Appends the answer for a refusal, which has the number of the fault. Out of memory is not a
+/// refusal, and is returned as an error.
 fn append_fault(alloc: Global, fault: &Fault, pending: &mut BytesMut) -> Result<(), AllocError>
     ensures ok { OnOk result (AppendsRefusal (refusal_of fault.now) pending.old.items pending.new.items) }
     ensures err { OnErr result (pending.new.items ≡ pending.old.items) }

@@ -13,17 +13,17 @@ use streams::split::split_once;
 /// A line that is well formed.
 #[derive(Debug, Clone, Copy)]
 pub enum Request<'a> {
-    /// `norm NAME CELL`: to rewrite a cell, of which `None` is NULL.
+    /// `norm NAME CELL`: to rewrite a cell (`None` is NULL).
     Norm(Name, Option<&'a [u8]>),
-    /// `type OID`: to show a type.
+    /// `type OID`: to print a type.
     TypeOf(Oid),
-    /// `lsn TEXT`: to show a log position.
+    /// `lsn TEXT`: to print a log sequence number.
     Lsn(&'a str),
 }
 
 impl<'a> Request<'a> {
-    /// What the line asks for, or `None` where it is not well formed. A cell's bytes are put into
-    /// `bytes`, in place of what is there.
+    /// Returns what the line asks for, or `None` if it is not well formed. `bytes` is overwritten
+    /// with the bytes of a cell.
     pub fn parse(line: &'a [u8], bytes: &'a mut Vec<u8>) -> Result<Option<Request<'a>>, AllocError>
         ensures { IfOk result (λ request. option_map view request ≡ request_of line.now) }
     {
@@ -42,7 +42,7 @@ impl<'a> Request<'a> {
         Ok(None)
     }
 
-    /// What `norm` and these words ask for.
+    /// Returns what `norm` and these words ask for.
     fn parse_norm(
         words: &'a [u8],
         bytes: &'a mut Vec<u8>,
@@ -61,7 +61,7 @@ impl<'a> Request<'a> {
         Ok(Some(Request::Norm(name, cell)))
     }
 
-    /// What `type` and this word ask for.
+    /// Returns what `type` and this word ask for.
     fn parse_type(word: &'a [u8]) -> Option<Request<'a>>
         ensures { option_map view result ≡ option_map type_of (oid_of_word word.now) }
     {
@@ -69,7 +69,7 @@ impl<'a> Request<'a> {
         Some(Request::TypeOf(oid))
     }
 
-    /// What `lsn` and this text ask for.
+    /// Returns what `lsn` and this text ask for.
     fn parse_lsn(text: &'a [u8]) -> Option<Request<'a>>
         ensures { option_map view result ≡ lsn_of_text text.now }
     {
@@ -80,8 +80,8 @@ impl<'a> Request<'a> {
     }
 }
 
-/// The cell that the word spells: `NULL`, `-` for no bytes, or an even, positive number of
-/// hexadecimal digits. Its bytes are put into `bytes`.
+/// Returns the cell that the word spells: `NULL`, `-` for no bytes, or an even, positive number of
+/// hexadecimal digits. `bytes` is overwritten with its bytes.
 fn parse_cell<'a>(
     word: &[u8],
     bytes: &'a mut Vec<u8>,
@@ -99,8 +99,8 @@ fn parse_cell<'a>(
     }
 }
 
-/// The bytes that the digits spell, put into `bytes` in place of what is there; `None` where they
-/// spell none.
+/// Returns the bytes that the digits spell, or `None` if they spell none. `bytes` is overwritten
+/// with them.
 fn decode<'a>(digits: &[u8], bytes: &'a mut Vec<u8>) -> Result<Option<&'a [u8]>, AllocError>
     ensures { IfOk result (λ cell. option_map (λ b. Some b.now) cell ≡ digits_cell (decode_of digits.now)) }
 {
@@ -112,7 +112,7 @@ fn decode<'a>(digits: &[u8], bytes: &'a mut Vec<u8>) -> Result<Option<&'a [u8]>,
     }
 }
 
-/// The OID that 1 to 10 decimal digits write.
+/// Returns the OID in 1 to 10 decimal digits, or `None` if there is none.
 fn parse_oid(word: &[u8]) -> Option<Oid>
     ensures { result ≡ oid_of_word word.now }
 {
@@ -125,7 +125,7 @@ fn parse_oid(word: &[u8]) -> Option<Oid>
     }
 }
 
-/// The word before the first space, and what stands after it.
+/// Returns the word before the first space, and the text after it.
 #[tactic(auto, using(crate::proofs::Requests::split_more, crate::proofs::Requests::split_none))]
 fn split_word(line: &[u8]) -> Option<(&[u8], &[u8])>
     ensures { option_map (λ parts. (parts.0.now, parts.1.now)) result ≡ split 32 line.now }

@@ -1,4 +1,5 @@
-//! The user-defined types of the table of base names, in the schema public.
+//! The user-defined types in the table of base names: those of `pg_numbers` in the schema
+//! `pg_catalog`, and the others in the schema `public`.
 ghost use Rattle.std.specs.Prelude.{◌≡◌, IsTrue, IfOk, Some, option_map};
 ghost use Rattle.postgres_types.specs.Content.{content};
 ghost use Rattle.pgcell.specs.Entries.{are_types, user_types};
@@ -8,10 +9,10 @@ use pg_record::types::{item_array_type, item_type, mood_type, session_id_type, s
 use postgres_types::Type;
 use std::alloc::{AllocError, Global};
 
-/// A type and, where it has arrays, the type of these.
+/// A type and, if it has arrays, their type.
 pub type Types = (Type, Option<Type>);
 
-// The types of a base name are made by its row.
+// Makes the types of a base name, by its row.
 macro_rules! made {
     (
         ($alloc:ident, $of:ident)
@@ -23,7 +24,7 @@ macro_rules! made {
     };
 }
 
-// The same of a row; built-in types are constants.
+// Makes the types of a row; built-in types are constants.
 macro_rules! row_made {
     (($alloc:ident) [$rust:ty, user($own:ident $oid:literal $($name:literal)?)]) => {
         Some(($own($alloc, $($name,)? $oid)?, None))
@@ -40,13 +41,18 @@ macro_rules! row_made {
         let arrays = $arrays($alloc, $($array_name,)? $array_oid, own.clone()?)?;
         Some((own, Some(arrays)))
     }};
+    (($alloc:ident) [$rust:ty, catalog($own:path, $arrays:path)]) => {{
+        let own = $own($alloc).map_err(|_| AllocError)?;
+        let arrays = $arrays($alloc).map_err(|_| AllocError)?;
+        Some((own, Some(arrays)))
+    }};
     ($args:tt $types:tt) => {
         None
     };
 }
 
-/// Makes the user-defined types of a base name, with the OIDs that a server could have given them;
-/// `None` where it has none.
+/// Makes the user-defined types of a base name, with the OIDs that a server has for them or could
+/// have given them; returns `None` if it has none.
 fn make(alloc: Global, base: Base) -> Result<Option<Types>, AllocError>
     ensures { IfOk result (λ types.
         option_map (λ t. (content t.0, option_map content t.1)) types ≡ user_types base) }
@@ -55,7 +61,7 @@ fn make(alloc: Global, base: Base) -> Result<Option<Types>, AllocError>
     Ok(types)
 }
 
-/// A copy of a type, if there is one.
+/// Returns a copy of the type, if there is one.
 fn copy_of(ty: &Option<Type>) -> Result<Option<Type>, AllocError>
     ensures { IfOk result (λ copy. option_map content copy ≡ option_map content ty.now) }
 {
@@ -75,7 +81,7 @@ struct Known {
 }
 
 impl Known {
-    /// A copy of them.
+    /// Returns copies of the types.
     #[tactic(auto, using(crate::proofs::Types::copied))]
     fn types(&self) -> Result<Types, AllocError>
         ensures { IfOk result (λ t. Some (content t.0, option_map content t.1) ≡ user_types self.now.base) }
@@ -86,22 +92,23 @@ impl Known {
     }
 }
 
-/// The user-defined types that were asked for. Each is made once, so that the lines after the first
-/// take no memory for it.
+/// The user-defined types that were asked for. Each is made once, so the lines after the first do
+/// not allocate for it.
 #[derive(Debug, Drop)]
 pub struct UserTypes {
     known: Vec<Known>,
 }
 
 impl UserTypes {
-    /// None yet.
+    /// Creates an empty list of types.
     pub fn new(alloc: Global) -> UserTypes {
         UserTypes {
             known: Vec::new(alloc),
         }
     }
 
-    /// The user-defined types of a base name; `None` where it has none.
+    /// Returns the user-defined types of a base name; `None` if it has none. The only error is a
+    /// failed allocation.
     #[tactic(auto, using(crate::proofs::Types::known))]
     pub fn of(&mut self, alloc: Global, base: Base) -> Result<Option<Types>, AllocError>
         ensures { IfOk result (λ types.

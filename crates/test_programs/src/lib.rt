@@ -1,4 +1,4 @@
-//! What the programs do: runs over lines of pgcell, and COPY in both directions.
+//! The programs: pgcell with lines, and COPY in both directions.
 #![tactic(auto)]
 
 #[cfg(test)]

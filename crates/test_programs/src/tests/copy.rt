@@ -6,6 +6,7 @@ mod calendar;
 mod command_lines;
 mod dates;
 mod failing_streams;
+mod floats;
 mod hstore;
 mod intervals;
 mod json;
@@ -28,7 +29,7 @@ use std::alloc::Global;
 use std::test::Fail;
 use test_support::same;
 
-/// The name of a type, a cell, and the field that stands for it in a line.
+/// The name of a type, a cell, and its field in a line.
 type Row = (&'static str, Option<&'static [u8]>, &'static [u8]);
 
 /// A header without flags and extension.
@@ -47,7 +48,7 @@ fn make_narrow(alloc: Global, step: usize, room: usize) -> Disturbed<Narrow> {
     Disturbed::new(Narrow::new(alloc, step, room))
 }
 
-/// The columns of these names of types.
+/// Returns the columns of these names of types.
 fn columns(alloc: Global, names: &[&str]) -> Result<Vec<Column>, Fail> {
     let mut words = Vec::new(alloc);
     for name in names {
@@ -59,7 +60,8 @@ fn columns(alloc: Global, names: &[&str]) -> Result<Vec<Column>, Fail> {
     }
 }
 
-/// What came of a COPY: what was written, and the fault's text, which is empty where there is none.
+/// The outcome of a COPY: what was written, and the text of the fault, which is empty if there is
+/// none.
 #[derive(Drop)]
 struct Outcome {
     written: Vec<u8>,
@@ -80,14 +82,14 @@ impl Outcome {
         Ok(Outcome { written, fault })
     }
 
-    /// That was written, and the fault has that text.
+    /// Tests that this was written, and that the fault has this text.
     fn is(&self, written: &[u8], fault: &str) -> Result<(), Fail> {
         same(self.fault.as_str(), fault)?;
         same(self.written.as_slice(), written)
     }
 }
 
-/// What reading a binary COPY comes to.
+/// Returns the outcome of reading a binary COPY.
 fn reading(alloc: Global, names: &[&str], stream: &[u8]) -> Result<Outcome, Fail> {
     let columns = columns(alloc, names)?;
     let mut input = make_pieces(stream, ROOM);
@@ -96,7 +98,7 @@ fn reading(alloc: Global, names: &[&str], stream: &[u8]) -> Result<Outcome, Fail
     Outcome::new(alloc, ended, output)
 }
 
-/// What writing a binary COPY of these lines comes to.
+/// Returns the outcome of writing a binary COPY of these lines.
 fn writing(alloc: Global, names: &[&str], lines: &[u8]) -> Result<Outcome, Fail> {
     let columns = columns(alloc, names)?;
     let mut input = make_pieces(lines, ROOM);
@@ -105,7 +107,7 @@ fn writing(alloc: Global, names: &[&str], lines: &[u8]) -> Result<Outcome, Fail>
     Outcome::new(alloc, ended, output)
 }
 
-/// A binary COPY of a row of one column.
+/// Returns a binary COPY with one row of one column.
 fn stream_of(alloc: Global, cell: Option<&[u8]>) -> Result<Vec<u8>, Fail> {
     let mut stream = Vec::from_slice(alloc, HEADER)?;
     stream.extend_from_slice(b"\0\x01")?;
@@ -121,21 +123,21 @@ fn stream_of(alloc: Global, cell: Option<&[u8]>) -> Result<Vec<u8>, Fail> {
     Ok(stream)
 }
 
-/// The field, and the byte 10 that ends its line.
+/// Returns the field, and the byte 10 that ends its line.
 fn line_of(alloc: Global, field: &[u8]) -> Result<Vec<u8>, Fail> {
     let mut line = Vec::from_slice(alloc, field)?;
     line.push(b'\n')?;
     Ok(line)
 }
 
-/// Whether the server writes another cell of the same value: the flag of a network, the order of an hstore's entries,
-/// an empty array without a dimension.
+/// Whether the server writes another cell of the same value: the flag of a network, the order of an
+/// hstore's entries, an empty array without a dimension.
 fn has_other_cells(name: &str, text: &[u8]) -> bool {
     matches!(name, "cidr" | "hstore") || text.windows(2).any(|pair| pair == b"{}".as_slice())
 }
 
-/// The cell has that text. From the text the same cell is written, but where the server writes another one of the same
-/// value, which has the same text.
+/// Tests that the cell has this text, and that this cell is written for the text; or, if the server
+/// writes another cell of the same value, that the cell that is written has the same text.
 fn spells(alloc: Global, name: &str, cell: Option<&[u8]>, text: &[u8]) -> Result<(), Fail> {
     let stream = stream_of(alloc, cell)?;
     let line = line_of(alloc, text)?;
@@ -148,13 +150,13 @@ fn spells(alloc: Global, name: &str, cell: Option<&[u8]>, text: &[u8]) -> Result
     }
 }
 
-/// The OIDs that the server gave user-defined types, each of which stands in a cell of these tests.
+/// The OIDs that the server gave user-defined types, as they are in the cells of these tests.
 const SERVERS_OIDS: [u32; 7] = [16_385, 16_513, 16_698, 16_804, 16_805, 16_806, 16_815];
 
-/// Of these the OIDs of composite types.
+/// The OIDs among these of composite types.
 const COMPOSITE_OIDS: [u32; 2] = [16_804, 16_815];
 
-/// The bytes with what is written in the place of these OIDs.
+/// Returns the bytes with what is written in the place of these OIDs.
 fn without_oids(alloc: Global, bytes: &[u8]) -> Result<Vec<u8>, Fail> {
     let mut out = Vec::new(alloc);
     let mut rest = bytes;
@@ -179,7 +181,8 @@ fn is_servers_oid(bytes: [u8; 4]) -> bool {
     SERVERS_OIDS.contains(&u32::from_be_bytes(bytes))
 }
 
-/// What is written in the place of one of these OIDs: that of BYTEA for a composite type, and 0 for another.
+/// Returns what is written in the place of one of these OIDs: the OID of BYTEA for a composite
+/// type, and 0 for another type.
 fn written_oid(bytes: [u8; 4]) -> [u8; 4] {
     if COMPOSITE_OIDS.contains(&u32::from_be_bytes(bytes)) {
         17u32.to_be_bytes()
@@ -188,7 +191,7 @@ fn written_oid(bytes: [u8; 4]) -> [u8; 4] {
     }
 }
 
-/// Each row of the table.
+/// Tests each row of the table.
 fn spell(alloc: Global, rows: &[Row]) -> Result<(), Fail> {
     for (name, cell, text) in rows {
         spells(alloc, name, *cell, text)?;
@@ -196,12 +199,12 @@ fn spell(alloc: Global, rows: &[Row]) -> Result<(), Fail> {
     Ok(())
 }
 
-/// No text of the table is a value of its type.
+/// Tests that no text of the table is a value of its type.
 fn have_no_values(alloc: Global, rows: &[(&str, &[u8])]) -> Result<(), Fail> {
     are_refused(alloc, "no value of its type", rows)
 }
 
-/// Each text of the table is refused with this reason.
+/// Tests that each text of the table is refused with this reason.
 fn are_refused(alloc: Global, reason: &str, rows: &[(&str, &[u8])]) -> Result<(), Fail> {
     for (name, text) in rows {
         let line = line_of(alloc, text)?;

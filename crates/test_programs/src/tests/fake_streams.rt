@@ -1,4 +1,4 @@
-//! Readers and writers that move in pieces, are interrupted, stall or fail.
+//! Readers and writers that move a few bytes at a time, are interrupted, stall or fail.
 
 use std::alloc::Global;
 use std::io;
@@ -7,7 +7,7 @@ use std::io::{Error, ErrorKind, Read, Write};
 /// More bytes than any stream here has.
 pub const ROOM: usize = 1_000_000;
 
-/// Gives a text in pieces of at most `step` bytes, and fails once `left` bytes were given.
+/// Gives a text at most `step` bytes at a time, and fails after `left` bytes.
 #[derive(Drop)]
 pub struct Pieces<'a> {
     pub rest: &'a [u8],
@@ -37,7 +37,7 @@ impl Read for Pieces<'_> {
     }
 }
 
-/// Takes `room` bytes in all, at most `step` at a time, and fails then.
+/// Takes `room` bytes in all, at most `step` at a time, and fails after them.
 #[derive(Drop)]
 pub struct Narrow {
     pub taken: Vec<u8>,
@@ -68,7 +68,7 @@ impl Write for Narrow {
     }
 }
 
-/// Takes `room` bytes in all, and nothing then, without a failure.
+/// Takes `room` bytes in all, and no byte after them, without failing.
 #[derive(Drop)]
 pub struct Stalled {
     pub taken: Vec<u8>,

@@ -5,12 +5,15 @@ use std::test::Fail;
 use test_support::same;
 
 /// Words, and the base name and the form that they are.
-const WORDS: [(&str, Option<(Base, Form)>); 19] = [
+const WORDS: [(&str, Option<(Base, Form)>); 22] = [
     ("int4", Some((Base::Int4, Form::Plain))),
     ("int4?", Some((Base::Int4, Form::Optional))),
     ("int4[]", Some((Base::Int4, Form::Array))),
     ("int4?[]", Some((Base::Int4, Form::OptionalArray))),
     ("timestamp_inf", Some((Base::TimestampInf, Form::Plain))),
+    ("float4", Some((Base::Float4, Form::Plain))),
+    ("float8?[]", Some((Base::Float8, Form::OptionalArray))),
+    ("numeric[]", Some((Base::Numeric, Form::Array))),
     ("mood[]", Some((Base::Mood, Form::Array))),
     ("", None),
     ("?", None),

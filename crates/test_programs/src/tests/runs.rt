@@ -1,4 +1,4 @@
-//! Tests of runs over lines, by readers and writers that give, take or fail in pieces.
+//! Tests of runs over lines, with readers and writers that move a few bytes at a time or fail.
 ghost use Rattle.std.specs.Prelude.{◌≡◌, ◌∷◌, ◌++◌, []};
 
 use super::fake_streams::{Blocked, Disturbed, Narrow, Pieces, ROOM, Stalled};
@@ -9,7 +9,7 @@ use streams::blocks::BLOCK;
 use streams::lines::{AnswerLine, RunFault, answer_lines};
 use test_support::{hoard, holds, same};
 
-/// Answers each line by the line itself, and byte 10.
+/// Answers each line with the line itself, and byte 10.
 #[derive(Drop)]
 struct Echo;
 
@@ -34,10 +34,10 @@ impl AnswerLine for Echo {
 /// An empty line between others, the last of which a byte 10 ends.
 const LINES: &[u8] = b"first\n\nsecond line\nthird\r\n\xff\n";
 
-/// How many bytes a stream moves at a time.
+/// The number of bytes that a stream moves at a time.
 const STEPS: [usize; 5] = [1, 2, 3, 7, ROOM];
 
-/// What the text is answered, where a reader gives `step` bytes at a time.
+/// Returns the answers to the text, from a reader that gives `step` bytes at a time.
 fn answers_to(alloc: Global, text: &[u8], step: usize) -> Result<Vec<u8>, Fail> {
     let mut taken = Vec::new(alloc);
     answer_lines(alloc, &mut Echo, &mut Pieces::new(text, step), &mut taken)?;
@@ -48,7 +48,7 @@ fn answers_to(alloc: Global, text: &[u8], step: usize) -> Result<Vec<u8>, Fail> 
 fn pieces_change_no_answer(rt: HostRuntime) -> Result<(), Fail> {
     for step in STEPS {
         same(answers_to(rt.alloc(), LINES, step)?.as_slice(), LINES)?;
-        // The last line counts without its byte 10.
+        // The last line needs no byte 10 at its end.
         let text = &LINES[..LINES.len() - 1];
         same(answers_to(rt.alloc(), text, step)?.as_slice(), LINES)?;
     }
@@ -108,7 +108,7 @@ fn a_stream_that_would_block_has_failed(rt: HostRuntime) -> Result<(), Fail> {
     holds(matches!(outcome, Err(RunFault::Write)), "another outcome")
 }
 
-/// How many bytes the lines have that end in the first `given` bytes.
+/// Returns the length of the lines that end in the first `given` bytes.
 fn ended_in(given: usize) -> usize {
     let mut ended = 0;
     for (place, byte) in LINES.iter().enumerate().take(given) {
@@ -119,14 +119,15 @@ fn ended_in(given: usize) -> usize {
     ended
 }
 
-/// The run failed so, after the first `count` bytes of the answers.
+/// Tests that the run failed with this fault, after the first `count` bytes of the answers.
 fn failed_after(is_fault: bool, taken: &[u8], count: usize) -> Result<(), Fail> {
     holds(is_fault, "another outcome")?;
     same(taken.len(), count)?;
     holds(LINES.starts_with(taken), "another answer")
 }
 
-/// A reader that fails after `left` bytes leaves the answers to the lines that ended in them.
+/// Tests that a reader that fails after `left` bytes leaves the answers to the lines that ended in
+/// them.
 fn fails_to_read(alloc: Global, step: usize, left: usize) -> Result<(), Fail> {
     let rest = LINES;
     let mut input = Pieces { rest, step, left };
@@ -146,7 +147,7 @@ fn a_reader_may_fail_at_each_byte(rt: HostRuntime) -> Result<(), Fail> {
     Ok(())
 }
 
-/// A writer that fails after `room` bytes took the first of the answers.
+/// Tests that a writer that fails after `room` bytes took the first bytes of the answers.
 fn fails_to_write(alloc: Global, step: usize, room: usize) -> Result<(), Fail> {
     let mut input = LINES;
     let mut output = Narrow::new(alloc, step, room);
@@ -155,7 +156,7 @@ fn fails_to_write(alloc: Global, step: usize, room: usize) -> Result<(), Fail> {
     failed_after(is_write, output.taken.as_slice(), room)
 }
 
-/// And so did one that takes nothing after `room` bytes.
+/// Tests the same of a writer that takes no byte after `room` bytes.
 fn stalls(alloc: Global, room: usize) -> Result<(), Fail> {
     let mut input = LINES;
     let taken = Vec::new(alloc);
@@ -176,15 +177,16 @@ fn a_writer_may_fail_at_each_byte(rt: HostRuntime) -> Result<(), Fail> {
     Ok(())
 }
 
-/// How often memory was refused before the first line was answered, and how often between the two.
+/// How often an allocation failed before the first line was answered, and how often between the two
+/// lines.
 #[derive(Drop)]
 struct Refusals {
     before: u32,
     between: u32,
 }
 
-/// Answers two lines while less and less memory is refused, until a run has what it needs. A run
-/// that is refused memory writes no answer, or the whole answer to the first line.
+/// Answers two lines while fewer and fewer allocations fail, until a run has the memory that it
+/// needs. A run without enough memory writes no answer, or the whole answer to the first line.
 fn run_while_refused(
     alloc: Global,
     text: &[u8],
@@ -216,7 +218,7 @@ fn run_while_refused(
 
 #[test]
 fn refused_memory_leaves_whole_answers(rt: HostRuntime) -> Result<(), Fail> {
-    // The first line needs little memory, and what is there of the second one much.
+    // The first line needs little memory, and the part of the second one that is read needs much.
     let mut text = Vec::new(rt.alloc());
     text.extend_from_slice(b"first\n")?;
     text.resize(BLOCK - 1, b'6')?;
@@ -225,7 +227,7 @@ fn refused_memory_leaves_whole_answers(rt: HostRuntime) -> Result<(), Fail> {
         step: BLOCK,
         room: ROOM,
     };
-    // A run before all address space is taken, since the stack cannot grow after that.
+    // This run is made before all address space is taken, since the stack cannot grow after that.
     let mut hoarded = Vec::new(rt.alloc());
     run_while_refused(rt.alloc(), text.as_slice(), &mut output, &mut hoarded)?;
     let answers = Vec::from_slice(rt.alloc(), output.taken.as_slice())?;

@@ -21,7 +21,7 @@ const BITS: &[Row] = &[
     ),
 ];
 
-/// Texts that are none.
+/// Texts that are not values of their types.
 const NO_VALUES: &[(&str, &[u8])] = &[("bit", b"12")];
 
 #[test]

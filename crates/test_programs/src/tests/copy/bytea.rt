@@ -18,7 +18,7 @@ const BYTES: &[Row] = &[
     ),
 ];
 
-/// Texts that are none.
+/// Texts that are not values of their types.
 const NO_VALUES: &[(&str, &[u8])] = &[
     ("bytea", b"abc"),
     ("bytea", b"\\\\xabc"),

@@ -16,7 +16,8 @@ fn words(alloc: Global, line: &str) -> Result<Vec<String>, Fail> {
     Ok(words)
 }
 
-/// The types of the columns that the line asks for, with spaces between; no byte where it asks for help.
+/// Tests that the line asks for columns of these types, with spaces between them; an empty text
+/// stands for help.
 fn asks(alloc: Global, line: &str, expected: &str) -> Result<(), Fail> {
     let mut found = String::new(alloc);
     if let Request::Copy(columns) = parse(alloc, words(alloc, line)?.as_slice())? {
@@ -30,7 +31,7 @@ fn asks(alloc: Global, line: &str, expected: &str) -> Result<(), Fail> {
     same(found.as_str(), expected)
 }
 
-/// The line is refused with a fault of that text.
+/// Tests that the line is refused with a fault of this text.
 fn refuses(alloc: Global, line: &str, text: &str) -> Result<(), Fail> {
     let Err(fault) = parse(alloc, words(alloc, line)?.as_slice()) else {
         return Err(Fail::from("taken"));
@@ -39,7 +40,7 @@ fn refuses(alloc: Global, line: &str, text: &str) -> Result<(), Fail> {
 }
 
 /// Lines, and the types of the columns that they ask for.
-const COLUMNS: [(&str, &str); 15] = [
+const COLUMNS: [(&str, &str); 16] = [
     ("--help", ""),
     ("--help|int4", ""),
     ("int4", "int4"),
@@ -70,6 +71,10 @@ const COLUMNS: [(&str, &str); 15] = [
     (
         "char|char(3)|int|varchar(3)|timestamptz|TEXT|Int4",
         "bpchar bpchar int4 varchar timestamptz text int4",
+    ),
+    (
+        "real|double precision|float4[]|Double Precision[]",
+        "float4 float8 float4[] float8[]",
     ),
     (
         "citext|public.citext|\"My.Schema\".hstore[]|ltree[]",
@@ -106,14 +111,14 @@ fn each_type_has_its_name(rt: HostRuntime) -> Result<(), Fail> {
 const REFUSED: [(&str, &str); 17] = [
     ("", "no type is given; --help says how"),
     (" , ", "no conversion of the type "),
-    ("int4|float8", "no conversion of the type float8"),
+    ("int4|money", "no conversion of the type money"),
     (
         "int4, numeric(10,2) ,text",
         "no conversion of the type numeric(10,2)",
     ),
     (
-        "double precision",
-        "no conversion of the type double precision",
+        "time with time zone",
+        "no conversion of the type time with time zone",
     ),
     ("timestamp|with|time|zone", "no conversion of the type with"),
     ("int2vector[]", "no conversion of the type int2vector[]"),

@@ -176,7 +176,7 @@ const DATES: &[Row] = &[
     ),
 ];
 
-/// Texts that are none.
+/// Texts that are not values of their types.
 const NO_VALUES: &[(&str, &[u8])] = &[
     ("date", b"2000-02-30"),
     ("date", b"0000-01-01"),

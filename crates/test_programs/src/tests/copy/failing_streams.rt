@@ -17,7 +17,7 @@ const STREAM: &[u8] =
     b"PGCOPY\n\xff\r\n\0\0\0\0\0\0\0\0\0\0\x02\0\0\0\x04\0\0\0\x01\0\0\0\x03a\tb\0\x02\0\0\0\x04\
       \xff\xff\xff\xfe\xff\xff\xff\xff\xff\xff";
 
-/// How many bytes a stream moves at a time.
+/// The number of bytes that a stream moves at a time.
 const STEPS: [usize; 4] = [1, 2, 3, 7];
 
 /// The columns of the rows.
@@ -62,7 +62,7 @@ fn a_failed_read_is_told(rt: HostRuntime) -> Result<(), Fail> {
     Ok(())
 }
 
-/// The COPY failed where the writer did, after these bytes.
+/// Tests that the COPY failed because of the writer, after these bytes.
 fn failed_after(
     alloc: Global,
     ended: Result<(), CopyFault>,

@@ -26,7 +26,7 @@ const MAPS: &[Row] = &[
     ),
 ];
 
-/// Texts that are none.
+/// Texts that are not values of their types.
 const NO_VALUES: &[(&str, &[u8])] = &[
     ("hstore", b"a=>1"),
     ("hstore", b"\"a\""),

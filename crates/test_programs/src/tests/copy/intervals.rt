@@ -121,7 +121,7 @@ const INTERVALS: &[Row] = &[
     ),
 ];
 
-/// Texts that are none.
+/// Texts that are not values of their types.
 const NO_VALUES: &[(&str, &[u8])] = &[
     ("interval", b""),
     ("interval", b"1 week"),

@@ -3,7 +3,7 @@
 use super::{Row, have_no_values, spell};
 use std::test::Fail;
 
-/// Documents.
+/// JSON documents.
 const DOCUMENTS: &[Row] = &[
     (
         "json",
@@ -23,7 +23,7 @@ const DOCUMENTS: &[Row] = &[
     ),
 ];
 
-/// Texts that are none.
+/// Texts that are not values of their types.
 const NO_VALUES: &[(&str, &[u8])] = &[("json", b"{")];
 
 #[test]

@@ -37,7 +37,7 @@ fn lines_become_rows(rt: HostRuntime) -> Result<(), Fail> {
     Ok(())
 }
 
-/// Each line is refused with that fault, after these rows.
+/// Tests that each line is refused with this fault, after these rows.
 fn refuses(alloc: Global, rows: &[(&[u8], &[u8], &str)]) -> Result<(), Fail> {
     for (lines, rows, fault) in rows {
         let mut stream = Vec::from_slice(alloc, HEADER)?;
@@ -56,7 +56,7 @@ fn another_number_of_columns_is_named_with_its_line(rt: HostRuntime) -> Result<(
             FIRST,
             "line 2: 3 columns in place of 2",
         ),
-        // An empty line is one empty column, which is looked at first.
+        // An empty line is one empty column, whose value is checked first.
         (
             b"1\ta\n\n",
             FIRST,
@@ -89,7 +89,7 @@ fn no_value_is_named_with_its_line_and_column(rt: HostRuntime) -> Result<(), Fai
     refuses(rt.alloc(), &rows)
 }
 
-/// Lines with an escape that there is not, or a byte that is to be escaped.
+/// Lines with an unknown escape, or a byte that has to be escaped.
 const NO_ESCAPES: [&[u8]; 6] = [
     b"1\t\\\n",
     b"1\t\\x41\n",

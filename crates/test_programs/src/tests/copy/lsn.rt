@@ -3,7 +3,7 @@
 use super::{Row, have_no_values, spell};
 use std::test::Fail;
 
-/// Log positions.
+/// Log sequence numbers.
 const POSITIONS: &[Row] = &[
     ("pg_lsn", Some(b"\x00\x00\x00\x00\x00\x00\x00\x00"), b"0/0"),
     (
@@ -19,7 +19,7 @@ const POSITIONS: &[Row] = &[
     ("pg_lsn", Some(b"\x00\x00\x00\x00\x00\x00\x00\x0a"), b"0/A"),
 ];
 
-/// Texts that are none.
+/// Texts that are not values of their types.
 const NO_VALUES: &[(&str, &[u8])] = &[("pg_lsn", b"0")];
 
 #[test]

@@ -198,7 +198,7 @@ const ADDRESSES: &[Row] = &[
     ),
 ];
 
-/// Texts that are none.
+/// Texts that are not values of their types.
 const NO_MAC_ADDRESSES: &[(&str, &[u8])] = &[
     ("macaddr", b"08:00:2b:01:02"),
     ("macaddr", b"08:00:2b:01:02:0g"),

@@ -123,7 +123,7 @@ const NUMBERS: &[Row] = &[
     ),
 ];
 
-/// Texts that are none.
+/// Texts that are not values of their types.
 const NO_VALUES: &[(&str, &[u8])] = &[
     ("bool", b"yes"),
     ("\"char\"", b"ab"),

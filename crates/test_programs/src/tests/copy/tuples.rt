@@ -1,4 +1,4 @@
-//! Tests of what a binary COPY is made of.
+//! Tests of the parts of a binary COPY.
 
 use super::{HEADER, TRAILER, reading, stream_of};
 use std::alloc::Global;
@@ -20,7 +20,7 @@ const FIRST: &[u8] = b"\0\x02\0\0\0\x04\0\0\0\x01\0\0\0\x01a";
 /// Its line.
 const FIRST_LINE: &[u8] = b"1\ta\n";
 
-/// The header, and these parts one after another.
+/// Returns the header, and these parts one after another.
 fn stream(alloc: Global, parts: &[&[u8]]) -> Result<Vec<u8>, Fail> {
     let mut stream = Vec::from_slice(alloc, HEADER)?;
     for part in parts {
@@ -29,7 +29,8 @@ fn stream(alloc: Global, parts: &[&[u8]]) -> Result<Vec<u8>, Fail> {
     Ok(stream)
 }
 
-/// Reading the stream ends with that fault, or with none where the text is empty, after these lines.
+/// Tests that reading the stream ends with this fault, or without one if the text is empty, after
+/// these lines.
 fn ends(alloc: Global, stream: &[u8], lines: &[u8], fault: &str) -> Result<(), Fail> {
     reading(alloc, NAMES, stream)?.is(lines, fault)
 }
@@ -92,7 +93,7 @@ fn rows_become_lines(rt: HostRuntime) -> Result<(), Fail> {
     Ok(())
 }
 
-/// The lines of the whole rows in the first `len` bytes of a stream of [`ROWS`].
+/// Returns the lines of the complete rows in the first `len` bytes of a stream of [`ROWS`].
 fn whole_lines(len: usize) -> &'static [u8] {
     let rows = len.saturating_sub(HEADER.len());
     if rows >= ROWS.len() {
@@ -163,7 +164,8 @@ fn headers_are_looked_at(rt: HostRuntime) -> Result<(), Fail> {
     Ok(())
 }
 
-/// Rows of NULL and a boolean. After the length of NULL comes what an array with a lower bound of 2 could be.
+/// Rows of NULL and a boolean. The bytes after the length of NULL could be an array with a lower
+/// bound of 2.
 const NULL_AND_TRUE: &[u8] =
     b"\0\x02\xff\xff\xff\xff\0\0\0\x01\x01\0\x02\xff\xff\xff\xff\0\0\0\x01\x01\0\x02\xff\xff\xff\xff\0\0\0\x01\x01";
 
@@ -174,7 +176,7 @@ fn null_is_no_array_with_a_lower_bound(rt: HostRuntime) -> Result<(), Fail> {
     outcome.is(b"\\N\tt\n\\N\tt\n\\N\tt\n", "")
 }
 
-/// A cell of these types is refused so.
+/// Cells of these types that are refused, and the faults.
 const REFUSED: [(&str, &[u8], &str); 5] = [
     // 10000-01-01 and 24:00:00, which `jiff` does not have
     (

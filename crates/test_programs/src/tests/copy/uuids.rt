@@ -17,7 +17,7 @@ const UUIDS: &[Row] = &[
     ),
 ];
 
-/// Texts that are none.
+/// Texts that are not values of their types.
 const NO_VALUES: &[(&str, &[u8])] = &[("uuid", b"a0eebc99")];
 
 #[test]

@@ -1,6 +1,0 @@
--- What the proof of `oid_is_read_back` answers by hand.
-use Rattle.pg_text.proofs.ReadBack.{unsigned_back}
-use Rattle.pg_text.proofs.laws.oid_is_read_back.Goals as goal
-
-pub returns : goal.returns
-returns c = unsigned_back

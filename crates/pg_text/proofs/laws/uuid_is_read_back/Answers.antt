@@ -1,6 +1,0 @@
--- What the proof of `uuid_is_read_back` answers by hand.
-use Rattle.pg_text.proofs.ReadBack.{uuid_back}
-use Rattle.pg_text.proofs.laws.uuid_is_read_back.Goals as goal
-
-pub returns : goal.returns
-returns c = uuid_back
