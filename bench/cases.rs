@@ -10,6 +10,8 @@ use crate::conversions::dates::{
     Date, DateInf, DateTime, EPOCH_SECS, Time, Timestamp, TimestampInf, UnixTime, date, date_time, time, timestamp,
     unix_time,
 };
+#[cfg(not(real_crate))]
+use crate::conversions::decimals::{Decimal, Numeric};
 use crate::conversions::frames::{frame_to_sql, in_order, params_to_sql, read_value, read_values, rewrite};
 use crate::conversions::json::{Number, Value};
 use crate::conversions::maps::Map;
@@ -20,7 +22,9 @@ use crate::conversions::numbers::Interval;
 use crate::conversions::numbers::{MacAddress, PgLsn, Uuid};
 use crate::conversions::texts::BitVec;
 use crate::conversions::types::Type;
-use crate::conversions::user_types::{hstore_type, item_type, lists_type, ltree_type};
+#[cfg(not(real_crate))]
+use crate::conversions::user_types::numeric_type;
+use crate::conversions::user_types::{float8_type, hstore_type, item_type, lists_type, ltree_type};
 use crate::conversions::user_values::InventoryItem;
 use crate::conversions::{Buf, Fault, FromSql, ToSql};
 use std::array;
@@ -62,6 +66,11 @@ impl Seed {
     /// What is made of the seed, or `None` at every eighth place.
     fn option<T>(self, make: impl Fn(Seed) -> T) -> Option<T> {
         (self.place % 8 != 7).then(|| make(self))
+    }
+
+    /// A finite number.
+    fn float(self) -> f64 {
+        f64::from_bits(u64::from_be_bytes(self.repeated()) & 0xbfff_ffff_ffff_ffff)
     }
 
     /// A date from 2000 to 2255, in the first eight months.
@@ -115,6 +124,14 @@ impl Seed {
     fn interval(self) -> Interval {
         let microseconds = i64::from_be_bytes(self.repeated());
         Interval { microseconds, days: self.number, months: i32::from(self.bytes()[0]) }
+    }
+
+    /// A number of nine to twelve digits before the point and two after it.
+    fn numeric(self) -> Numeric {
+        let [a, b, c, d] = self.bytes();
+        let digits = [u16::from(a) + 1, u16::from(b) * 39, u16::from(c) * 39, u16::from(d % 100) * 100];
+        let len = digits.iter().rposition(|digit| *digit != 0).map_or(0, |place| place + 1);
+        Numeric::Finite(Decimal { negative: self.number < 0, weight: 2, scale: 2, digits: digits[..len].to_vec() })
     }
 
     fn network(self) -> IpInet {
@@ -245,6 +262,9 @@ conversions_by_name! {
     "oid": values(COUNT, |seed| seed.number.cast_unsigned()), Type::OID, u32;
     "pg_lsn": values(COUNT, |seed| PgLsn::from(u64::from_be_bytes(seed.repeated()))), Type::PG_LSN, PgLsn;
     "int4?": values(COUNT, |seed| seed.option(|seed| seed.number)), Type::INT4, Option<i32>;
+    "float8": values(COUNT, Seed::float), float8_type(), f64;
+    #[cfg(not(real_crate))]
+    "numeric": values(COUNT, Seed::numeric), numeric_type(), Numeric;
     "text": texts(), Type::TEXT, String;
     "text-borrowed": texts(), Type::TEXT, &str;
     "ltree": texts(), ltree_type(), String;

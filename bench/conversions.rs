@@ -4,6 +4,7 @@
 #![allow(dead_code, reason = "each program has a part of them")]
 
 pub mod dates;
+pub mod decimals;
 pub mod frames;
 pub mod json;
 pub mod lists;
@@ -42,8 +43,16 @@ pub fn output() -> impl Write {
 }
 
 /// The number of a fault.
+#[cfg(not(equal_terms))]
 pub fn number_of(fault: &Fault) -> u8 {
     *fault as u8
+}
+
+/// The number of a fault.
+#[cfg(equal_terms)]
+pub fn number_of(fault: &Fault) -> u8 {
+    // SAFETY: by `repr(u8)` a fault begins with its number.
+    unsafe { *std::ptr::from_ref(fault).cast() }
 }
 
 /// What values are written to.

@@ -1,8 +1,6 @@
 //! Options, lists and arrays.
 
-#[cfg(not(equal_terms))]
-use super::frames::frame_to_sql;
-use super::frames::{count_to_sql, read_count, read_end, read_value, read_values};
+use super::frames::{count_to_sql, frame_to_sql, read_count, read_end, read_value, read_values};
 use super::types::Type;
 use super::{Fault, FromSql, IsNull, ToSql, accepts, to_sql_checked};
 
@@ -88,9 +86,18 @@ fn head_to_sql(count: usize, ty: &Type, out: &mut Vec<u8>) -> Result<usize, Faul
     Ok(flags)
 }
 
-/// Appends the array of these elements: the head, and the frame of each.
-#[cfg(not(equal_terms))]
+/// Appends the array of these elements. On equal terms a refusal leaves the buffer as it was.
 fn list_to_sql<T: ToSql>(values: &[T], ty: &Type, out: &mut Vec<u8>) -> Result<IsNull, Fault> {
+    let start = out.len();
+    let written = head_and_elements_to_sql(values, ty, out);
+    if cfg!(equal_terms) && written.is_err() {
+        out.truncate(start);
+    }
+    written
+}
+
+/// Appends the head, and the frame of each element.
+fn head_and_elements_to_sql<T: ToSql>(values: &[T], ty: &Type, out: &mut Vec<u8>) -> Result<IsNull, Fault> {
     let element = ty.element()?;
     out.reserve(20 + 8 * values.len());
     let flags = head_to_sql(values.len(), ty, out)?;
@@ -99,35 +106,6 @@ fn list_to_sql<T: ToSql>(values: &[T], ty: &Type, out: &mut Vec<u8>) -> Result<I
         has_null |= frame_to_sql(out, |out| value.to_sql(element, out))? == IsNull::Yes;
     }
     out[flags..flags + 4].copy_from_slice(&i32::from(has_null).to_be_bytes());
-    Ok(IsNull::No)
-}
-
-/// The same, but `out` is touched only after the last element: the cells stand in a buffer of their own first, and
-/// their lengths in a list.
-#[cfg(equal_terms)]
-fn list_to_sql<T: ToSql>(values: &[T], ty: &Type, out: &mut Vec<u8>) -> Result<IsNull, Fault> {
-    let element = ty.element()?;
-    let mut scratch = Vec::with_capacity(size_of_val(values));
-    let mut lens = Vec::with_capacity(values.len());
-    for value in values {
-        let start = scratch.len();
-        let is_null = value.to_sql(element, &mut scratch)?;
-        lens.push((is_null == IsNull::No).then(|| scratch.len() - start));
-    }
-    out.reserve(20 + 4 * lens.len() + scratch.len());
-    let flags = head_to_sql(lens.len(), ty, out)?;
-    let mut rest = scratch.as_slice();
-    for len in &lens {
-        let Some(len) = *len else {
-            out.extend_from_slice(&(-1i32).to_be_bytes());
-            continue;
-        };
-        let (cell, after) = rest.split_at(len);
-        count_to_sql(len, out)?;
-        out.extend_from_slice(cell);
-        rest = after;
-    }
-    out[flags..flags + 4].copy_from_slice(&i32::from(lens.contains(&None)).to_be_bytes());
     Ok(IsNull::No)
 }
 

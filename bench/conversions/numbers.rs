@@ -100,6 +100,7 @@ number!(i64, INT8);
 number!(u32, OID);
 number!(Interval, INTERVAL);
 fixed_bytes!(bool, is!(BOOL), |[byte]: [u8; 1]| Ok(byte != 0), |value| [u8::from(value)]);
+fixed_bytes!(f64, |ty: &Type| ty.name() == "float8" && ty.oid() == 701, |bytes| Ok(f64::from_be_bytes(bytes)), f64::to_be_bytes);
 fixed_bytes!(PgLsn, is!(PG_LSN), |bytes| Ok(PgLsn(u64::from_be_bytes(bytes))), |lsn: PgLsn| lsn.0.to_be_bytes());
 fixed_bytes!(MacAddress, is!(MACADDR), |bytes| Ok(MacAddress(bytes)), |address: MacAddress| address.0);
 fixed_bytes!(Uuid, is!(UUID), |bytes| Ok(Uuid(bytes)), |uuid: Uuid| uuid.0);

@@ -10,6 +10,15 @@ pub fn hstore_type() -> Type {
     user_type("hstore", 100_002, Kind::Simple)
 }
 
+/// FLOAT8, which the crate has a constant for.
+pub fn float8_type() -> Type {
+    Type::from_oid(701).unwrap_or_else(|| user_type("float8", 701, Kind::Simple))
+}
+
+pub fn numeric_type() -> Type {
+    user_type("numeric", 1700, Kind::Simple)
+}
+
 /// Lists of lists of numbers.
 pub fn lists_type() -> Type {
     user_type("lists", 100_000, Kind::Array(Type::INT4_ARRAY))

@@ -1,11 +1,13 @@
-//! The cases by their names.
+//! The cases, by name.
 
 use crate::work::{Made, Way, Work};
-use crate::{columns, dates, documents, lists, maps, numbers, records, small_values, texts, types};
+use crate::{
+    columns, dates, documents, floats, lists, maps, numbers, records, small_values, texts, types,
+};
 use postgres_types::private::BytesMut;
 use std::alloc::Global;
 
-/// The names of the cases, but for those of a megabyte and more. A conversion is read and written.
+/// The names of the cases, except those of a megabyte and more. A conversion is read and written.
 pub const NAMES: &[&str] = &[
     "read-bool",
     "write-bool",
@@ -23,6 +25,10 @@ pub const NAMES: &[&str] = &[
     "write-pg_lsn",
     "read-int4?",
     "write-int4?",
+    "read-float8",
+    "write-float8",
+    "read-numeric",
+    "write-numeric",
     "read-text",
     "write-text",
     "read-text-borrowed",
@@ -94,7 +100,7 @@ pub const NAMES: &[&str] = &[
     "type-from_oid",
 ];
 
-/// Does the case so many times.
+/// Runs the case `turns` times.
 pub fn run(alloc: Global, name: &str, turns: u32) -> Made {
     let work = Work {
         alloc,
@@ -111,10 +117,13 @@ pub fn run(alloc: Global, name: &str, turns: u32) -> Made {
     run_other(name, work)
 }
 
-/// Reads or writes values by the conversion of that name.
+/// Reads or writes values with the conversion of this name.
 fn run_conversion(name: &str, work: Work) -> Made {
     let mut frames = BytesMut::new(work.alloc);
     if let Some(made) = numbers::run(name, work, &mut frames) {
+        return Some(made);
+    }
+    if let Some(made) = floats::run(name, work, &mut frames) {
         return Some(made);
     }
     if let Some(made) = texts::run(name, work, &mut frames) {
@@ -129,7 +138,7 @@ fn run_conversion(name: &str, work: Work) -> Made {
     run_compound(name, work, &mut frames)
 }
 
-/// The same of conversions of values that hold others.
+/// Does the same with conversions of values that contain others.
 fn run_compound(name: &str, work: Work, frames: &mut BytesMut) -> Made {
     if let Some(made) = maps::run(name, work, frames) {
         return Some(made);
@@ -143,7 +152,7 @@ fn run_compound(name: &str, work: Work, frames: &mut BytesMut) -> Made {
     records::run(name, work, frames)
 }
 
-/// Does a case that is of no conversion.
+/// Runs a case that is not about a conversion.
 fn run_other(name: &str, work: Work) -> Made {
     if let Some(made) = columns::run(name, work) {
         return Some(made);

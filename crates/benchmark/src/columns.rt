@@ -7,7 +7,8 @@ use postgres_types::private::{BytesMut, read_value, read_values};
 use postgres_types::{Fault, Paired, ToSql, Type, frame_value, params_to_sql, rewrite};
 use std::alloc::Global;
 
-/// Does the case of that name, where it is of this file: there are as many parameters as a name states.
+/// Runs the case with this name, if it is in this file: there are as many parameters as a name
+/// states.
 pub fn run(name: &str, work: Work) -> Made {
     Some(match name {
         "row-8" => read_rows(work),
@@ -19,7 +20,7 @@ pub fn run(name: &str, work: Work) -> Made {
     })
 }
 
-/// Writes the frames of so many parameters, each a number.
+/// Writes the frames of `count` parameters, each of which is a number.
 fn bind_many(work: Work, count: u32) -> Result<u64, Fault> {
     let mut params: Vec<Box<dyn ToSql>> = Vec::new(work.alloc);
     let mut types = Vec::new(work.alloc);
@@ -58,7 +59,7 @@ fn bind(work: Work) -> Result<u64, Fault> {
     bind_turns(work, &params, &types)
 }
 
-/// Writes the frames of the parameters so many times, each time into the same buffer.
+/// Writes the frames of the parameters in each turn, each time into the same buffer.
 fn bind_turns(work: Work, params: &[Box<dyn ToSql>], types: &[Type]) -> Result<u64, Fault> {
     if params.len() != types.len() {
         return Err(Fault::user("not as many types as parameters"));
@@ -75,7 +76,7 @@ fn bind_turns(work: Work, params: &[Box<dyn ToSql>], types: &[Type]) -> Result<u
     Ok(mix_bytes(sum, out.as_slice()))
 }
 
-/// The frames of the same values.
+/// Returns the frames of the same values.
 fn row(alloc: Global) -> Result<BytesMut, Fault> {
     let mut out = BytesMut::new(alloc);
     frame_value(alloc, &1_000_000i32, &Type::INT4, &mut out)?;
@@ -94,7 +95,7 @@ fn row(alloc: Global) -> Result<BytesMut, Fault> {
     Ok(out)
 }
 
-/// Reads the row: the sum of what its columns hold.
+/// Reads the row, and returns the sum of the values of its columns.
 fn read_row(alloc: Global, row: &[u8]) -> Result<u64, Fault> {
     let mut buf = row;
     let first: i32 = read_value(alloc, &Type::INT4, &mut buf)?;
@@ -148,7 +149,7 @@ fn read_runs(work: Work) -> Result<u64, Fault> {
     Ok(sum)
 }
 
-/// Rewrites each cell, each turn into the same buffer.
+/// Rewrites each cell in each turn, into the same buffer.
 fn rewrite_turns<'a, T: Paired<'a>>(
     work: Work,
     cells: &'a [&'a [u8]],
@@ -177,7 +178,7 @@ fn rewrite_once<'a, T: Paired<'a>>(
     Ok(())
 }
 
-/// The cells of the frames.
+/// Returns the cells of the frames.
 fn cells_of<'a>(alloc: Global, frames: &'a [u8]) -> Result<Vec<&'a [u8]>, Fault> {
     let mut buf = frames;
     let mut cells = Vec::new(alloc);

@@ -7,7 +7,7 @@ use postgres_types::private::BytesMut;
 use postgres_types::{Date, Fault, Interval, Timestamp, Type, UnixTime};
 use std::alloc::Global;
 
-/// Does the case of that name, where it is of this file.
+/// Runs the case with this name, if it is in this file.
 pub fn run(name: &str, work: Work, frames: &mut BytesMut) -> Made {
     Some(match name {
         "date" => measure::<civil::Date>(work, frames, &Type::DATE),

@@ -8,7 +8,7 @@ use serde_json::{Value, json};
 use std::alloc::Global;
 use std::slice;
 
-/// Does the case of that name, where it is of this file: a document has as many objects as its name
+/// Runs the case with this name, if it is in this file: a document has as many objects as its name
 /// states, or is of about that size.
 pub fn run(name: &str, work: Work, frames: &mut BytesMut) -> Made {
     let count = match name {
@@ -35,7 +35,7 @@ impl FromSeed for Value {
     }
 }
 
-/// Reads or writes one document, an array of so many objects.
+/// Reads or writes one document, an array of `count` objects.
 fn documents(work: Work, frames: &mut BytesMut, count: u32) -> Result<u64, Fault> {
     let document = Value::Array(values(work.alloc, count)?);
     measure_values::<_, Value>(work, frames, &Type::JSONB, slice::from_ref(&document))

@@ -7,7 +7,8 @@ use postgres_types::{Fault, Kind, Type};
 use std::alloc::Global;
 use std::slice;
 
-/// Does the case of that name, where it is of this file: a list has as many elements as its name states.
+/// Runs the case with this name, if it is in this file: a list has as many elements as its name
+/// states.
 pub fn run(name: &str, work: Work, frames: &mut BytesMut) -> Made {
     if let Some(count) = stated(name, "int4[]-") {
         return Some(numbers(work, frames, count));

@@ -1,14 +1,15 @@
-//! Work of which `scripts/bench` takes the time: each conversion, rows of several columns,
-//! parameters, documents, and types.
+//! The work that `scripts/bench` measures: each conversion, rows of several columns, parameters,
+//! documents, and types.
 //!
-//! `benchmark CASE TURNS` does a case so many times, and prints its name and the checksum of what it
-//! made. Without arguments it does each case once, but for those of a megabyte and more.
+//! `benchmark CASE TURNS` runs a case that number of times, and prints its name and the checksum of
+//! what it made. Without arguments it runs each case once, except those of a megabyte and more.
 #![tactic(auto)]
 
 mod cases;
 mod columns;
 mod dates;
 mod documents;
+mod floats;
 mod lists;
 mod maps;
 mod numbers;
@@ -35,7 +36,7 @@ fn main(rt: HostRuntime) -> Result<()> {
     }
 }
 
-/// Does each of the cases once.
+/// Runs each of the cases once.
 fn show_once(rt: &impl Print, alloc: Global, cases: &[&str]) -> Result<()> {
     for case in cases {
         show(rt, alloc, case, 1)?;
@@ -43,7 +44,7 @@ fn show_once(rt: &impl Print, alloc: Global, cases: &[&str]) -> Result<()> {
     Ok(())
 }
 
-/// Does the case so many times, and prints its name and its checksum.
+/// Runs the case `turns` times, and prints its name and its checksum.
 fn show(rt: &impl Print, alloc: Global, case: &str, turns: u32) -> Result<()> {
     let sum = cases::run(alloc, case, turns).context("no such CASE")??;
     println!(rt; "{case} {sum:016x}")?;

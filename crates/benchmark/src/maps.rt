@@ -10,13 +10,14 @@ use std::slice;
 
 type Map = HashMap<String, Option<String>>;
 
-/// Does the case of that name, where it is of this file: a map has as many entries as its name states.
+/// Runs the case with this name, if it is in this file: a map has as many entries as its name
+/// states.
 pub fn run(name: &str, work: Work, frames: &mut BytesMut) -> Made {
     let entries = stated(name, "hstore-")?;
     Some(maps(work, frames, entries))
 }
 
-/// A map of so many entries, of which every eighth value is NULL.
+/// Returns a map of `entries` entries, of which every eighth value is NULL.
 fn map(alloc: Global, entries: u32) -> Result<Map, Fault> {
     let mut map = Map::new(alloc);
     let mut seed = Seed::first();

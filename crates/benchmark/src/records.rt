@@ -8,7 +8,7 @@ use postgres_types::Fault;
 use postgres_types::private::BytesMut;
 use std::alloc::Global;
 
-/// Does the case of that name, where it is of this file.
+/// Runs the case with this name, if it is in this file.
 pub fn run(name: &str, work: Work, frames: &mut BytesMut) -> Made {
     match name {
         "item" => Some(items(work, frames)),

@@ -8,7 +8,7 @@ use std::alloc::Global;
 use std::net::{IpAddr, Ipv4Addr};
 use uuid::Uuid;
 
-/// Does the case of that name, where it is of this file.
+/// Runs the case with this name, if it is in this file.
 pub fn run(name: &str, work: Work, frames: &mut BytesMut) -> Made {
     Some(match name {
         "addr" => measure::<IpAddr>(work, frames, &Type::INET),

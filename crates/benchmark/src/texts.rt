@@ -6,7 +6,7 @@ use postgres_types::private::BytesMut;
 use postgres_types::{BitVec, Fault, Kind, Type};
 use std::alloc::Global;
 
-/// Does the case of that name, where it is of this file: what is borrowed lies in its cell.
+/// Runs the case with this name, if it is in this file: what is borrowed lies in its cell.
 pub fn run(name: &str, work: Work, frames: &mut BytesMut) -> Made {
     Some(match name {
         "text" => measure::<String>(work, frames, &Type::TEXT),

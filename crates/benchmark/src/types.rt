@@ -1,10 +1,10 @@
-//! Copies, comparison and finding of Postgres types.
+//! Copying, comparing and finding Postgres types.
 
 use crate::sum::mix;
 use crate::work::{Made, Work, user_type};
 use postgres_types::{Fault, Kind, Type};
 
-/// Does the case of that name, where it is of this file.
+/// Runs the case with this name, if it is in this file.
 pub fn run(name: &str, work: Work) -> Made {
     Some(match name {
         "type-clone" => copies(work),
@@ -15,7 +15,7 @@ pub fn run(name: &str, work: Work) -> Made {
     })
 }
 
-/// Copies a built-in type so many times.
+/// Copies a built-in type in each turn.
 fn copies(work: Work) -> Result<u64, Fault> {
     let mut ty = Type::INT4_ARRAY;
     for _ in 0..work.turns {
@@ -24,7 +24,7 @@ fn copies(work: Work) -> Result<u64, Fault> {
     Ok(u64::from(ty.oid()))
 }
 
-/// Copies a user-defined type so many times.
+/// Copies a user-defined type in each turn.
 fn user_copies(work: Work) -> Result<u64, Fault> {
     let mut ty = user_type(work.alloc, "hstore", 100_002, Kind::Simple)?;
     for _ in 0..work.turns {

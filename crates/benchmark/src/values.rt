@@ -3,7 +3,7 @@
 use postgres_types::Fault;
 use std::alloc::Global;
 
-/// How many values a case of a conversion has.
+/// The number of values of the case of a conversion.
 pub const COUNT: u32 = 1_000;
 
 /// What a value is made of.
@@ -59,7 +59,7 @@ impl<T: FromSeed> FromSeed for Option<T> {
     }
 }
 
-/// So many values, each made of its seed.
+/// Returns `count` values, each made of its seed.
 pub fn values<T: FromSeed>(alloc: Global, count: u32) -> Result<Vec<T>, Fault> {
     let mut values = Vec::new(alloc);
     let mut seed = Seed::first();

@@ -1,4 +1,4 @@
-//! Reading and writing over and over.
+//! Reading and writing again and again.
 
 use crate::sum::{mix, mix_bytes};
 use crate::values::{COUNT, FromSeed, values};
@@ -21,10 +21,10 @@ pub struct Work {
     pub turns: u32,
 }
 
-/// The checksum of what a case made, or `None` where there is no case of that name.
+/// The checksum of what a case made, or `None` if there is no case with this name.
 pub type Made = Option<Result<u64, Fault>>;
 
-/// How many items a name states after that prefix.
+/// Returns the number of items that the name states after this prefix.
 pub fn stated(name: &str, prefix: &str) -> Option<u32> {
     name.strip_prefix(prefix)?.parse().ok()
 }
@@ -56,8 +56,8 @@ fn append_frames<T: ToSql>(
     Ok(())
 }
 
-/// Writes the values' frames so many times, each time into the same buffer: the checksum of their lengths and of the
-/// last frames.
+/// Writes the frames of the values in each turn, each time into the same buffer. Returns the
+/// checksum of their lengths and of the last frames.
 pub fn write_turns<T: ToSql>(work: Work, values: &[T], ty: &Type) -> Result<u64, Fault> {
     let mut out = BytesMut::new(work.alloc);
     let mut sum = 0;
@@ -69,7 +69,7 @@ pub fn write_turns<T: ToSql>(work: Work, values: &[T], ty: &Type) -> Result<u64,
     Ok(mix_bytes(sum, out.as_slice()))
 }
 
-/// Reads so many values from the front of the frames.
+/// Reads a number of values from the front of the frames.
 fn read_frames<'a, T: FromSql<'a> + ToSql>(
     alloc: Global,
     frames: &'a [u8],
@@ -87,8 +87,8 @@ fn read_frames<'a, T: FromSql<'a> + ToSql>(
     Ok(())
 }
 
-/// Reads the values from their frames so many times, each time into the same list: the checksum of the last values'
-/// frames.
+/// Reads the values from their frames in each turn, each time into the same list. Returns the
+/// checksum of the frames of the last values.
 pub fn read_turns<'a, T: FromSql<'a> + ToSql>(
     work: Work,
     frames: &'a [u8],
@@ -104,7 +104,8 @@ pub fn read_turns<'a, T: FromSql<'a> + ToSql>(
     Ok(mix_bytes(0, again.as_slice()))
 }
 
-/// Writes the values, or reads them as an `R`, as the case says. The frames that are read go into the buffer.
+/// Writes the values, or reads them as an `R`, as the case states. The frames that are read are
+/// written to the buffer.
 pub fn measure_values<'a, T: ToSql, R: FromSql<'a> + ToSql>(
     work: Work,
     frames: &'a mut BytesMut,
@@ -130,7 +131,7 @@ pub fn measure_as<'a, T: FromSeed + ToSql, R: FromSql<'a> + ToSql>(
     measure_values::<T, R>(work, frames, ty, values.as_slice())
 }
 
-/// Does the same with values that are read as what they are.
+/// Does the same with values that are read as their own type.
 pub fn measure<'a, T: FromSeed + FromSql<'a> + ToSql>(
     work: Work,
     frames: &'a mut BytesMut,

@@ -6,10 +6,11 @@ use postgres_types::private::read_value;
 use postgres_types::{Oid, Type};
 use std::alloc::Global;
 
-/// How many bytes come before the rows: the signature, the flags, and the length of an extension, here 0.
+/// The length of the header before the rows: the signature, the flags, and the length of an
+/// extension, which is 0 here.
 const HEADER: usize = 19;
 
-/// The rows of the catalog.
+/// Reads the rows of the catalog.
 pub(super) fn read_rows<'a>(alloc: Global, buf: &mut &'a [u8]) -> Result<Vec<TypeRow<'a>>> {
     let most = begin(buf)?;
     let mut rows = Vec::new(alloc);
@@ -22,7 +23,7 @@ pub(super) fn read_rows<'a>(alloc: Global, buf: &mut &'a [u8]) -> Result<Vec<Typ
     bail!("no trailer")
 }
 
-/// A row of the catalog.
+/// Reads a row of the catalog.
 fn read_row<'a>(alloc: Global, buf: &mut &'a [u8]) -> Result<TypeRow<'a>> {
     Ok(TypeRow {
         oid: read_value(alloc, &Type::OID, buf)?,
@@ -37,10 +38,10 @@ fn read_row<'a>(alloc: Global, buf: &mut &'a [u8]) -> Result<TypeRow<'a>> {
     })
 }
 
-/// A value's cell, and the OID of its type.
+/// The OID of a type, and the cell of a value of it.
 type Value<'a> = (Oid, Option<&'a [u8]>);
 
-/// The rows of an OID and a value.
+/// Reads the rows of an OID and a value.
 pub(super) fn read_values<'a>(alloc: Global, buf: &mut &'a [u8]) -> Result<Vec<Value<'a>>> {
     let most = begin(buf)?;
     let mut values = Vec::new(alloc);
@@ -55,7 +56,7 @@ pub(super) fn read_values<'a>(alloc: Global, buf: &mut &'a [u8]) -> Result<Vec<V
     bail!("no trailer")
 }
 
-/// Passes over the header. It answers more than how many rows can come.
+/// Skips the header. Returns a number that is greater than that of the rows.
 fn begin(buf: &mut &[u8]) -> Result<usize> {
     let Some((_, rest)) = buf.split_at_checked(HEADER) else {
         bail!("no header");
@@ -64,7 +65,7 @@ fn begin(buf: &mut &[u8]) -> Result<usize> {
     Ok(rest.len())
 }
 
-/// Passes over the number of columns. It answers whether there is a row, and not the trailer.
+/// Skips the number of columns. Returns whether a row follows; otherwise it was the trailer.
 fn is_tuple(buf: &mut &[u8], columns: i16) -> Result<bool> {
     let Some((count, rest)) = buf.split_first_chunk::<2>() else {
         bail!("no trailer");

@@ -1,4 +1,4 @@
-//! The lines of types.
+//! The lines of the types.
 
 use anyhow::Result;
 use postgres_types::{Field, KindRef, Type};
@@ -23,7 +23,7 @@ pub(super) fn show<W: Write>(ty: &Type, output: &mut W) -> Result<()> {
     Ok(())
 }
 
-/// Prints a kind that holds a type.
+/// Prints a kind that has another type in it.
 fn show_part<W: Write>(kind: &str, part: &Type, output: &mut W) -> Result<()> {
     let oid = part.oid();
     let name = part.name();

@@ -1,9 +1,9 @@
-//! Makes the types of a server, and reads values by them. Standard input has two binary COPYs: that of
-//! `pg_client::catalog::QUERY`, and one of an OID and a value of its type in each row.
+//! Makes the types of a server, and reads values of them. Standard input has two binary COPYs: that
+//! of `pg_client::catalog::QUERY`, and one with the OID of a type and a value of it in each row.
 //!
-//! It prints a line for each type, in the order of the rows: the OID, the schema, the name and the kind; then a line
-//! for each row that makes no type; and then, of each value, its type and what was read. An empty input is
-//! left alone.
+//! It prints a line for each type, in the order of the rows: the OID, the schema, the name and the
+//! kind; then a line for each row that is refused; and then, for each value, its type and what was
+//! read. For an empty input it prints nothing.
 #![tactic(auto)]
 
 mod copies;

@@ -1,4 +1,4 @@
-//! The lines of values.
+//! The lines of the values.
 
 use anyhow::{Result, bail};
 use own_types::composite::Purchase;
@@ -14,7 +14,7 @@ use std::alloc::Global;
 use std::fmt::Debug;
 use std::io::Write;
 
-/// Reads the cell as the Rust type of its type's name, and prints what was read.
+/// Reads the cell as the Rust type for the name of the Postgres type, and prints what was read.
 pub(super) fn show_value<W: Write>(
     alloc: Global,
     ty: &Type,

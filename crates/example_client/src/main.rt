@@ -1,4 +1,4 @@
-//! Reads rows of nine columns, binds four parameters, and names what is refused.
+//! Reads rows of nine columns, binds four parameters, and prints the faults of what is refused.
 #![tactic(auto)]
 
 use anyhow::Result;
@@ -24,7 +24,7 @@ struct Event {
     done: bool,
 }
 
-/// Its columns.
+/// The columns of the row.
 fn event_columns() -> [Column; 9] {
     [
         Column::new("id", Type::INT8),
@@ -80,7 +80,7 @@ const LATE: [u8; 143] = [
     0, 0, 0, 8, 2, 32, 0, 4, 10, 0, 0, 1, 0, 0, 0, 1, 1,
 ];
 
-/// What there is to say of the body of a row.
+/// Returns the text of the row in the body of a DataRow message, or of its fault.
 fn describe(alloc: Global, body: &[u8]) -> Result<String> {
     match read_event(alloc, body, &event_columns()) {
         Ok(event) => Ok(format!(in alloc; "{event:?}")?),

@@ -1,4 +1,4 @@
-//! Shows a row whose columns are known only at run time, by the names and the OIDs of their types.
+//! Prints a row whose columns are known only at run time, by the names and the OIDs of their types.
 #![tactic(auto)]
 
 use anyhow::Result;
@@ -8,7 +8,7 @@ use postgres_types::{Fault, FromSql, Oid, Type};
 use std::alloc::Global;
 use std::fmt::Display;
 
-/// The columns that a RowDescription message names.
+/// Returns the columns of the fields of a RowDescription message.
 fn columns_of(alloc: Global, fields: &[(&str, Oid)]) -> Result<Vec<Column>> {
     let mut columns = Vec::new(alloc);
     for (name, oid) in fields {
@@ -18,7 +18,8 @@ fn columns_of(alloc: Global, fields: &[(&str, Oid)]) -> Result<Vec<Column>> {
     Ok(columns)
 }
 
-/// The text of the column at that place, of that type. A type other than these is `WrongType`.
+/// Returns the text of the column at that index, which has that type. A type that is none of these
+/// is refused with `WrongType`.
 fn show(alloc: Global, row: &Row<'_, '_>, place: usize, ty: &Type) -> Result<String> {
     if ty.is(&Type::INT8) {
         show_as::<i64>(alloc, row, place)
@@ -29,7 +30,7 @@ fn show(alloc: Global, row: &Row<'_, '_>, place: usize, ty: &Type) -> Result<Str
     }
 }
 
-/// The text of a value that is read as a `T`, or `NULL`.
+/// Returns the text of the value, which is read as a `T`, or `NULL`.
 fn show_as<'a, T: FromSql<'a> + Display>(
     alloc: Global,
     row: &Row<'a, '_>,

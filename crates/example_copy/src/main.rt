@@ -1,4 +1,4 @@
-//! Reads the ids of a binary COPY that lies in a slice, and names what is refused.
+//! Reads the ids of a binary COPY from a slice, and prints the faults of what is refused.
 #![tactic(auto)]
 
 use anyhow::Result;
@@ -22,7 +22,7 @@ const COPY: &[u8] = b"PGCOPY\n\xff\r\n\0\0\0\0\0\0\0\0\0\
     \0\x02\0\0\0\x08\0\0\0\0\0\0\0\x05\0\0\0\x02ja\
     \0\x02\0\0\0\x08\0\0\0\0\0\0\0\x06\xff\xff\xff\xff\xff\xff";
 
-/// What there is to say of the ids of a binary COPY.
+/// Returns the text of the ids of a binary COPY, or of the fault.
 fn describe(alloc: Global, bytes: &[u8]) -> Result<String> {
     let columns = [
         Column::new("id", Type::INT8),

@@ -1,2 +1,2 @@
--- The words of the examples.
+-- Definitions of the examples.
 pub mod Ratings

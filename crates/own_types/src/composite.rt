@@ -1,4 +1,5 @@
-//! A composite type of eight fields, of which one is a composite and one an array of composites.
+//! A composite type with eight fields: one of them is a composite value, and one an array of
+//! composite values.
 ghost use Rattle.std.specs.Prelude.{[], ◌∷◌};
 ghost use Rattle.postgres_types.specs.CompositeFields.{and8, end};
 ghost use Rattle.postgres_types.specs.Conversion.{ap, codes, refl};

@@ -1,4 +1,4 @@
-//! Domains: one with a constraint, and one whose constraint is the server's to check.
+//! Domains: one whose constraint is checked here, and one whose constraint only the server checks.
 ghost use Rattle.std.specs.Prelude.{◌&&◌};
 ghost use Rattle.postgres_types.specs.Conversion.{ap, codes, int_le, pos, refl, user};
 

@@ -1,4 +1,4 @@
-//! Types of a user's own, as docs/OWN-TYPES.md shows them.
+//! User-defined types, as docs/OWN-TYPES.md shows them.
 #![tactic(auto)]
 
 pub mod composite;

@@ -1,4 +1,5 @@
-//! A composite type with a composite and an array of composites, each of them a struct.
+//! A composite type with a composite value and an array of composite values, each of which is a
+//! struct.
 ghost use Rattle.std.specs.Prelude.{[], ◌∷◌};
 ghost use Rattle.postgres_types.specs.CompositeFields.{and, end};
 ghost use Rattle.postgres_types.specs.Conversion.{ap, codes, refl};

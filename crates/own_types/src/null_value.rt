@@ -1,4 +1,5 @@
-//! A value for NULL: a rating by stars, sent as INT2, of which NULL is the value "unrated".
+//! A type with a value for NULL: a rating in stars, sent as INT2, where NULL is the value
+//! "unrated".
 ghost use Rattle.own_types.specs.Ratings.{stars};
 ghost use Rattle.std.specs.Prelude.{◌≡◌};
 ghost use Rattle.postgres_types.specs.Conversion.{BackKept, BackOption, Equal, EveryCell, Int2, ReadsOption};
@@ -12,7 +13,7 @@ use postgres_types::protocol::{int2_from_sql, int2_to_sql};
 use postgres_types::{Fault, Format, FromSql, IsNull, Paired, ToSql, Type, check_type};
 use std::alloc::Global;
 
-/// A number of stars, or none yet, which is NULL.
+/// A number of stars, or no rating, which is NULL.
 #[derive(Debug, Clone, Copy, PartialEq, Eq)]
 pub enum Rating {
     /// NULL.

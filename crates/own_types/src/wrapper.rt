@@ -1,4 +1,4 @@
-//! A generic wrapper: what it holds, under a name of its own.
+//! A generic wrapper: any value, as a type of its own.
 ghost use Rattle.postgres_types.specs.Conversion.{ReadsThrough, Through, codes, inside_equivalence, through_lawful};
 ghost use Rattle.postgres_types.specs.Conversion.{through_single};
 
@@ -6,7 +6,7 @@ use postgres_types::private::BytesMut;
 use postgres_types::{Fault, Format, FromSql, IsNull, Paired, ToSql, Type, check_type};
 use std::alloc::Global;
 
-/// A value with a name of its own.
+/// A value as a type of its own.
 #[derive(Debug, PartialEq, Drop)]
 pub struct Tagged<T>(pub T);
 

@@ -20,15 +20,15 @@ use Rattle.pg_client.specs.declared.placed_fault.PlacedFault.{PlacedFault}
 abbrev pub out_of : Bind → MutBor Filled
 out_of bind = bind.out
 
--- how many were pushed
+-- the number of parameters that were pushed
 abbrev pub count_of : Bind → ℕ
 count_of bind = bind.count
 
--- the most parameters: their number has two bytes, without a sign
+-- the greatest number of parameters: it is an unsigned number of two bytes
 abbrev pub max_params : ℕ
 max_params = 65535
 
--- what a parameter is written as after n others: one too many is Transmit, and one in the text format User
+-- what a parameter is written as after n others: one too many is Transmit, and one in the text format is User
 abbrev pub in_binary : Format → Wire → Wire
 in_binary Binary w = w
 in_binary Text w = Err (user (codes "parameter in text format"))
@@ -36,8 +36,7 @@ in_binary Text w = Err (user (codes "parameter in text format"))
 abbrev pub param_wire : ℕ → Format → Wire → Wire
 param_wire n format w = if n == max_params then Err transmit else in_binary format w
 
--- what a buffer holds while parameters of these cells are bound, after the bytes before: 0 stands in the place of their
--- number
+-- what a buffer has while parameters with these cells are bound, after the bytes before: their number is still 0
 pub record Binds (before : List ℕ) (cells : List Cell) (bind : Bind) : Type 0 where
   -- the frames
   pub bytes : List ℕ
@@ -45,9 +44,9 @@ pub record Binds (before : List ℕ) (cells : List Cell) (bind : Bind) : Type 0 
   pub frames_are : frames cells ≡ Some bytes
   -- and follow the number
   pub items_are : (out_of bind).now.items ≡ (before ++ (all_binary ++ to_be_bytes w16 0)) ++ bytes
-  -- where the number stands
+  -- the offset of the number
   pub at_is : bind.at ≡ length before + 4
-  -- how many they are
+  -- the number of the cells
   pub count_is : count_of bind ≡ length cells
 
 -- the frame of the parameter was appended; or it is refused at its place, or memory ran out, and the bytes are as they
@@ -57,7 +56,7 @@ PushesFrame w n old new (Ok done) = FrameFollows w old new
 PushesFrame w n old new (Err f) =
     (new ≡ old) × (f.place ≡ place.Parameter n) × IfSome (refusal_of f.fault) (λ r. element_frame_cell w ≡ Err r)
 
--- the cell that was written is bound after the others; where it is refused, they are as they were
+-- the cell that was written is bound after the others; if it is refused, they are as they were
 abbrev pub BindsMore : Wire → List ℕ → List Cell → Bind → Result ⊤ PlacedFault → Type 0
 BindsMore w before cells bind (Ok done) = (c : Cell) × (w ≡ Ok c) × Binds before (cells ++ c ∷ []) bind
 BindsMore w before cells bind (Err f) = Binds before cells bind

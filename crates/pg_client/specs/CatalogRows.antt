@@ -1,4 +1,4 @@
--- How a row of the catalog says that its type is built: `pg_type.typtype`, and `a` for an array.
+-- How a row of the catalog gives the kind of its type: `pg_type.typtype`, and `a` for an array.
 use Rattle.std.specs.Prelude.{ℕ, ℤ, pos, negsuc, ◌==◌, if◌then◌else◌, Option, Some, None}
 use Rattle.pg_client.specs.declared.catalog.kinds.TypeKind.{TypeKind}
 use Rattle.pg_client.specs.declared.catalog.kinds.TypeKind.TheVariants.{Base, Enum, Pseudo, Array, Range, Multirange}

@@ -35,7 +35,7 @@ refused_of catalog = catalog.refused.items
 abbrev pub NotBuiltIn : ℕ → Type 0
 NotBuiltIn oid = (row : _) → row_oid row ≢ oid
 
--- this is the type of an OID: a built-in one that has it, or, where none has it, that of the table
+-- this is the type with an OID: the built-in one that has it or, if none has, that of the table
 abbrev pub IsTypeOf : Table → ℕ → Content → Type 0
 IsTypeOf table oid ty =
     (IsBuiltIn ty × (oid_of ty ≡ oid)) ⊎
@@ -45,20 +45,20 @@ IsTypeOf table oid ty =
 abbrev pub IsUnknown : Table → ℕ → Type 0
 IsUnknown table oid = NotBuiltIn oid × (get nat_cmp table oid ≡ None)
 
--- the kind holds the type of that OID
+-- the kind contains the type with this OID
 abbrev pub Holds : (Content → KindContent) → Table → ℕ → KindContent → Type 0
 Holds of_part table oid kind = (part : Content) × IsTypeOf table oid part × (kind ≡ of_part part)
 
--- a field of that name and of the type of that OID
+-- a field with this name and the type with this OID
 abbrev pub IsField : Table → List ℕ → ℕ → Field → Type 0
 IsField table name oid field = (field_name field ≡ name) × IsTypeOf table oid (content (field_type field))
 
--- the fields of these names, and of the types of these OIDs, as many
+-- the fields with these names and the types with these OIDs, in the same number
 abbrev pub AreFields : Table → List (Bor (List ℕ)) → List ℕ → List Field → Type 0
 AreFields table names oids fields = (length oids ≡ length names)
     × AllZip (λ column field. IsField table column.0.now column.1 field) (zip names oids) fields
 
--- the kind that a row describes, whose letter stands for the first
+-- the kind that a row with this letter describes
 abbrev pub IsKind : Table → TypeRow → TypeKind → KindContent → Type 0
 IsKind table row Base kind = kind ≡ SimpleKind
 IsKind table row Enum kind = kind ≡ EnumKind (map (λ label. label.now) row.labels.items)
@@ -101,7 +101,7 @@ IsWhyNoFields table names oids (Unknown oid) = Contains oids oid × IsUnknown ta
 IsWhyNoFields table names oids Fields = length oids ≢ length names
 IsWhyNoFields table names oids _ = ⊥
 
--- the fault says why a row of that kind makes no type
+-- the fault says why a row of this kind makes no type
 abbrev pub IsWhyNoKind : Table → TypeRow → TypeKind → TypeFault → Type 0
 IsWhyNoKind table row Base fault = fault ≡ Memory
 IsWhyNoKind table row Enum fault = fault ≡ Memory
@@ -123,7 +123,7 @@ AddsOrHas table row after =
     (((built_in : _) × (row_oid built_in ≡ row.oid)) × (after.entries ≡ table.entries)) ⊎
     (NotBuiltIn row.oid × Adds table row after)
 
--- the fault says why the type of a row is not added: there is one of its OID, or it describes no kind
+-- the fault says why the type of a row is not added: there is one with its OID, or the row describes no kind
 abbrev pub IsWhyNotAdded : Table → TypeRow → TypeFault → Type 0
 IsWhyNotAdded table row Memory = Unit {0}
 IsWhyNotAdded table row Duplicate = IsSome (get nat_cmp table row.oid)

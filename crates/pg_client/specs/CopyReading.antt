@@ -1,4 +1,4 @@
--- Reading the rows of a binary COPY (documentation of the command COPY, "Binary Format").
+-- Reading the rows of a binary COPY ("Binary Format" in the documentation of the command COPY).
 use Rattle.std.specs.Prelude.{◌≡◌, ◌≢◌, ◌⊎◌, ◌+◌, ℕ, List, [], ◌∷◌, ◌++◌, length, Option, Some, None}
 use Rattle.pg_base.specs.Cells.{Cell, frames}
 use Rattle.pg_client.specs.Rows.{IsUnread, frames_of}
@@ -16,20 +16,20 @@ use Rattle.pg_tuples.specs.Tuples.{BeginsCopy, IsCopy, trailer}
 abbrev pub columns_in : CopyRows → List Column
 columns_in copy = copy.columns.now
 
--- what is left of the bytes: the tuples that are to come, and the trailer
+-- the rest of the bytes: the tuples to come, and the trailer
 abbrev pub left_of : CopyRows → List ℕ
 left_of copy = copy.rest.now
 
--- how many rows came
+-- the number of rows that were returned
 abbrev pub count_of : CopyRows → ℕ
 count_of copy = copy.count
 
--- of these bytes a header and the tuples of these rows were taken
+-- a header and the tuples of these rows were taken from these bytes
 abbrev pub HasRead : List ℕ → List (List Cell) → CopyRows → Type 0
 HasRead bytes rows copy =
     (t : List ℕ) × BeginsCopy rows t × (bytes ≡ t ++ left_of copy) × (count_of copy ≡ length rows)
 
--- the row of cells, one for each column, of which none was taken
+-- the row of these cells, one for each column, of which none was taken
 abbrev pub IsRowOfCells : List Column → List Cell → Row → Type 0
 IsRowOfCells columns cells row =
     (length cells ≡ length columns) × (frames cells ≡ Some (frames_of row)) × IsUnread columns row
@@ -50,7 +50,7 @@ RefusesStart bytes (Header fault) = RefusesHeader bytes fault
 RefusesStart bytes TruncatedHeader = EndsInHeader bytes ⊎ EndsInExtension bytes
 RefusesStart bytes fault = ⊥
 
--- what is left is refused with this fault, which names the next row
+-- the rest is refused with this fault, which names the next row
 abbrev pub RefusesNext : CopyRows → CopyFault → Type 0
 RefusesNext copy (Tuple row fault) =
     (row ≡ count_of copy + 1) × RefusesTupleOf (length (columns_in copy)) (left_of copy) fault

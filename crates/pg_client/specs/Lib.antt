@@ -1,4 +1,4 @@
--- The words of this crate's contracts.
+-- Definitions for the contracts of this crate.
 pub mod BindBytes
 pub mod Binding
 pub mod CatalogRows

@@ -9,19 +9,19 @@ use Rattle.pg_client.specs.declared.placed_fault.Place.{Place}
 use Rattle.pg_client.specs.declared.placed_fault.Place.TheVariants.{Row, Column, Bind, Parameter}
 use Rattle.pg_client.specs.declared.placed_fault.PlacedFault.{PlacedFault}
 
--- the name of a column between quotes, where it has one
+-- the name of a column in quotes, if it has one
 abbrev pub quoted_name : Option ArrayString → List ℕ
 quoted_name None = codes ""
 quoted_name (Some name) = codes " \"" ++ (name.bytes ++ codes "\"")
 
--- what a place prints: columns and parameters are counted from 1
+-- the text of a place: columns and parameters are counted from 1
 abbrev pub place_text : Place → List ℕ
 place_text Row = codes "row"
 place_text (Column place name) = codes "column " ++ (decimal (place + 1) ++ quoted_name name)
 place_text Bind = codes "bind"
 place_text (Parameter place) = codes "parameter " ++ decimal (place + 1)
 
--- the name of a column, where there is one and it has one
+-- the name of a column, if there is one and it has one
 abbrev pub name_of_column : Option ResultColumn → Option ArrayString
 name_of_column None = None
 name_of_column (Some column) = column.name
@@ -30,21 +30,21 @@ name_of_column (Some column) = column.name
 abbrev pub column_place : List ResultColumn → ℕ → Place
 column_place columns place = Column place (name_of_column (slice_get columns place))
 
--- the fault is this one, at that place
+-- the fault is this one, at this place
 abbrev pub IsFaultAt : Place → Refusal → PlacedFault → Type 0
 IsFaultAt place r f = (f.place ≡ place) × (refusal_of f.fault ≡ Some r)
 
--- the call answered this fault, at that place
+-- the result is this fault, at this place
 abbrev pub RefusesAt : {A : Type 0} → Place → Refusal → Result A PlacedFault → Type 0
 RefusesAt place r (Ok v) = ⊥
 RefusesAt place r (Err f) = IsFaultAt place r f
 
--- what the call answered is an outcome that R allows, and a fault at that place, unless memory ran out
+-- the result is an outcome that R allows, a fault being at this place, unless memory ran out
 abbrev pub AnswersAt : {A : Type 0} → Place → (Outcome A → Type 0) → Result A PlacedFault → Type 0
 AnswersAt place R (Ok v) = R (Ok v)
 AnswersAt place R (Err f) = (f.place ≡ place) × IfSome (refusal_of f.fault) (λ r. R (Err r))
 
--- the call did not answer Memory
+-- the result is not Memory
 abbrev pub NeverMemoryAt : {A : Type 0} → Result A PlacedFault → Type 0
 NeverMemoryAt (Ok v) = Unit {0}
 NeverMemoryAt (Err f) = IsSome (refusal_of f.fault)

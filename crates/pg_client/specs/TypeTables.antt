@@ -10,6 +10,6 @@ use Rattle.pg_types.specs.Content.{content, oid_of}
 abbrev pub Table : Type 0
 Table = BTreeMap ℕ PgType
 
--- each type of the table has the OID under which it stands
+-- each type of the table has the OID that is its key
 abbrev pub HasOwnOids : Table → Type 0
 HasOwnOids table = (oid : ℕ) → ForSome (get nat_cmp table oid) (λ own. oid_of (content own) ≡ oid)

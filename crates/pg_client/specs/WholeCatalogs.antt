@@ -1,4 +1,4 @@
--- What a catalog has of the rows that it was made of.
+-- What a catalog has of the rows from which it was made.
 use Rattle.std.specs.Prelude.{◌≡◌, ℕ, List, map, Some, IsSome}
 use Rattle.std.specs.Option.{IsSomeAnd}
 use Rattle.std.specs.List.{Contains, slice_get}
@@ -17,28 +17,28 @@ use Rattle.pg_client.specs.declared.catalog.refused.RefusedType.{RefusedType}
 abbrev pub IsDescribed : Table → List TypeRow → Content → Type 0
 IsDescribed table rows ty = (place : ℕ) × IsSomeAnd (slice_get rows place) (λ row. Describes table row ty)
 
--- each type of the table is what one of the rows describes
+-- each type of the table is the one that one of the rows describes
 abbrev pub AreDescribed : Table → List TypeRow → Type 0
 AreDescribed table rows =
     (oid : ℕ) (own : PgType) → get nat_cmp table oid ≡ Some own → IsDescribed table rows (content own)
 
--- an OID has a type, built-in or of the table, or that of a refused row
+-- an OID is accounted for: it has a type, built-in or of the table, or it is that of a refused row
 abbrev pub IsTold : Table → List RefusedType → ℕ → Type 0
 IsTold table refused oid =
     ((built_in : _) × (row_oid built_in ≡ oid)) ⊎
     (IsSome (get nat_cmp table oid) ⊎ Contains (map (λ own. own.oid) refused) oid)
 
--- each row is told
+-- each row is accounted for
 abbrev pub AreTold : Table → List RefusedType → List TypeRow → Type 0
 AreTold table refused rows =
     (place : ℕ) (row : TypeRow) → slice_get rows place ≡ Some row → IsTold table refused row.oid
 
--- the rows at these places are told
+-- the rows at these indices are accounted for
 abbrev pub AreToldAt : Table → List RefusedType → List TypeRow → List ℕ → Type 0
 AreToldAt table refused rows places =
     (place : ℕ) (row : TypeRow) → Contains places place → slice_get rows place ≡ Some row → IsTold table refused row.oid
 
--- each type that there is besides those of the first table is described where those were, and what was told still is
+-- if the types of the first table are described, so are those of the second, and what was accounted for still is
 abbrev pub Keeps : List TypeRow → Table → List RefusedType → Table → List RefusedType → Type 0
 Keeps rows table refused table' refused' =
     (AreDescribed table rows → AreDescribed table' rows)

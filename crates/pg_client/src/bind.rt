@@ -14,28 +14,29 @@ use postgres_types::private::BytesMut;
 use postgres_types::{Fault, Format, ToSql, Type, frame_value};
 use std::alloc::Global;
 
-/// The most parameters of a Bind message: their number has 2 bytes, without a sign.
+/// The greatest number of parameters of a Bind message: it is an unsigned number of 2 bytes.
 pub const MAX_PARAMS: u16 = 65_535;
 
-/// One format code, which stands for all: that of the binary format.
+/// One format code for all: that of the binary format.
 const ALL_BINARY: [u8; 4] = [0, 1, 0, 1];
 
-/// The same, and the place of the number of parameters.
+/// The same format code, followed by 2 bytes for the number of parameters.
 const HEAD: [u8; 6] = [0, 1, 0, 1, 0, 0];
 
-/// The parameters of a Bind message, which are appended to a buffer: one format code for all, the
-/// number of the parameters in 2 bytes, the frame of each one's cell, and one format code for all
-/// columns of the result. The code is 1 in 2 bytes, that of the binary format.
+/// The parameters of a Bind message, which are appended to a buffer: one format code for all of
+/// them, their number in 2 bytes, the frame of each one's cell, and one format code for all result
+/// columns. The format code is 1 in 2 bytes, that of the binary format. The numbers are big-endian.
 ///
-/// What the message has before, the portal and the statement, the caller appends before.
-/// [`finish`](Bind::finish) puts the number right: until then the buffer holds no whole message.
+/// The caller appends what precedes them in the message: the portal and the statement.
+/// [`finish`](Bind::finish) sets the number of parameters: until then the message in the buffer is
+/// incomplete.
 #[derive(Debug, Drop)]
 pub struct Bind<'b> {
     out: &'b mut BytesMut,
     alloc: Global,
-    /// Where the number of parameters stands.
+    /// The offset of the number of parameters.
     at: usize,
-    /// How many were pushed.
+    /// The number of parameters that were pushed.
     count: u16,
     ghost placed: { at + 2 ≤ length out.now.items },
 }
@@ -43,7 +44,7 @@ pub struct Bind<'b> {
 impl<'b> Bind<'b> {
     ghost use Rattle.pg_client.specs.Binding.{Binds, BindsMore, HoldsBind, PushesFrame, count_of, out_of, param_wire};
 
-    /// Parameters that are appended to the buffer, none so far. `Memory`, at [`Place::Bind`],
+    /// Starts an empty list of parameters at the end of the buffer. `Memory`, at [`Place::Bind`],
     /// leaves its bytes as they were.
     pub fn new(alloc: Global, out: &'b mut BytesMut) -> Result<Bind<'b>, PlacedFault>
         ensures binds { IfOk result (Binds out.old.items []) }
@@ -64,12 +65,12 @@ impl<'b> Bind<'b> {
 
     /// Appends the frame of the value, owned or borrowed, as [`frame_value`] does.
     ///
-    /// A refusal is at the parameter's place, counted from 0: that of its checked writing;
-    /// `Transmit` where its cell passes 2,147,483,647 bytes, or where it is one more than
-    /// [`MAX_PARAMS`]; `User`, with the text `parameter in text format`, where its conversion
-    /// writes that. It leaves the buffer's bytes as they were, `Memory` too, and further parameters
-    /// can be pushed. Where the buffer has room for the frame, a value that is written by room is
-    /// never refused with `Memory`.
+    /// An error has the place of the parameter, counted from 0, and the fault of its checked
+    /// writing; `Transmit` if its cell exceeds 2,147,483,647 bytes, or if there are already
+    /// [`MAX_PARAMS`] parameters; or `User`, with the text `parameter in text format`, if its
+    /// conversion writes the text format. An error, `Memory` included, leaves the buffer's bytes as
+    /// they were, and further parameters can be pushed. If the buffer has room for the frame, and
+    /// writing the value needs only that room (`by_room`), the call never fails with `Memory`.
     pub fn push<T: ToSql>(&mut self, value: &T, ty: &Type) -> Result<(), PlacedFault>
         ensures same_reference { (out_of self.new).ghost_name ≡ (out_of self.old).ghost_name }
         ensures frame { PushesFrame (param_wire (count_of self.old) (T.format (content ty.now) value.now)
@@ -113,8 +114,8 @@ impl<'b> Bind<'b> {
         Ok(())
     }
 
-    /// Puts the number of the parameters into its place, and appends the format code of the
-    /// result's columns. `Memory`, at [`Place::Bind`], leaves the bytes as they were.
+    /// Sets the number of parameters, and appends the format code of the result columns. `Memory`,
+    /// at [`Place::Bind`], leaves the bytes as they were.
     pub fn finish(self) -> Result<(), PlacedFault>
         ensures ok { OnOk result ((before : List ℕ) (cells : List Cell) → Binds before cells self.entry
             → HoldsBind before cells self.exit.0.now.items) }
@@ -126,8 +127,7 @@ impl<'b> Bind<'b> {
     }
 }
 
-/// Appends the format code of the result's columns, and puts the number of the parameters into its
-/// place.
+/// Appends the format code of the result columns, and sets the number of parameters.
 fn end(at: usize, count: u16, out: &mut BytesMut) -> Result<(), PlacedFault>
     requires { at + 2 ≤ length out.old.items }
     ensures ok { OnOk result (out.new.items ≡ with_count at count (out.old.items ++ all_binary)) }
@@ -141,7 +141,7 @@ fn end(at: usize, count: u16, out: &mut BytesMut) -> Result<(), PlacedFault>
     Ok(())
 }
 
-/// Writes the number over the 2 bytes from that place on, big-endian.
+/// Overwrites the 2 bytes from offset `at` with the number, big-endian.
 fn set_count(at: usize, count: u16, out: &mut BytesMut)
     requires { at + 2 ≤ length out.old.items }
     ensures { out.new.items ≡ with_count at count out.old.items }

@@ -1,4 +1,4 @@
-//! The types of a database, from the rows of its catalog.
+//! The types of a database, from the rows of its system catalogs.
 ghost use Rattle.std.specs.Prelude.{◌≡◌, ℕ, List, [], None, Some, IfErr, IfNone, IfOk, IfSome, OnErr, OnOk, slice_get};
 ghost use Rattle.std.specs.Cow.{cow_value};
 ghost use Rattle.pg_client.specs.TypeTables.{HasOwnOids};
@@ -15,8 +15,9 @@ mod refused;
 
 pub use refused::{RefusedType, TypeFault};
 
-/// The query whose rows are all types of a database, each with the columns of a [`TypeRow`] in their
-/// order. It needs PostgreSQL 14 or later, takes no parameter, and a `WHERE` may be added for a part of them.
+/// The query whose rows are all types of a database, each with the columns of a [`TypeRow`] in
+/// order. It needs PostgreSQL 14 or later and takes no parameters. A `WHERE` clause may be added to
+/// select some of the types.
 pub const QUERY: &str = "\
 SELECT t.oid, t.typname AS name, n.nspname AS schema,
     CASE WHEN t.typtype = 'b' AND t.typelem <> 0
@@ -33,7 +34,7 @@ FROM pg_catalog.pg_type t
 JOIN pg_catalog.pg_namespace n ON n.oid = t.typnamespace
 LEFT JOIN pg_catalog.pg_range r ON t.oid IN (r.rngtypid, r.rngmultitypid)";
 
-/// A row of [`QUERY`]: a type, as the server's catalog describes it.
+/// A row of [`QUERY`]: a type, as the system catalogs describe it.
 #[derive(Debug, Drop)]
 pub struct TypeRow<'a> {
     /// Its OID: `pg_type.oid`.
@@ -42,29 +43,31 @@ pub struct TypeRow<'a> {
     pub name: &'a str,
     /// Its schema: `pg_namespace.nspname`.
     pub schema: &'a str,
-    /// Its kind by a letter, `pg_type.typtype`: `b` for a base type, `c` for a composite type, `d` for a domain, `e`
-    /// for an enumerated type, `p` for a pseudo-type, `r` for a range, `m` for a multirange; and `a` for an array.
+    /// Its kind as a letter, from `pg_type.typtype`: `b` for a base type, `c` for a composite type,
+    /// `d` for a domain, `e` for an enumerated type, `p` for a pseudo-type, `r` for a range, `m`
+    /// for a multirange; and `a` for an array.
     pub kind: i8,
-    /// The OID of the elements of an array, `pg_type.typelem`, or of the bounds of a range or a multirange,
-    /// `pg_range.rngsubtype`.
+    /// The OID of the element type of an array, `pg_type.typelem`, or of the bounds of a range or a
+    /// multirange, `pg_range.rngsubtype`.
     pub element: Oid,
-    /// The OID of the type that a domain is based on: `pg_type.typbasetype`.
+    /// The OID of the underlying type of a domain: `pg_type.typbasetype`.
     pub base: Oid,
-    /// The labels of an enumerated type, in their order: `pg_enum.enumlabel`.
+    /// The labels of an enumerated type, in order: `pg_enum.enumlabel`.
     pub labels: Vec<&'a str>,
-    /// The names of the fields of a composite type, in their order: `pg_attribute.attname`.
+    /// The names of the fields of a composite type, in order: `pg_attribute.attname`.
     pub field_names: Vec<&'a str>,
     /// The OIDs of their types: `pg_attribute.atttypid`.
     pub field_types: Vec<Oid>,
 }
 
-/// The types of a database by OID, and with them the built-in ones.
+/// The types of a database by OID, including the built-in ones.
 ///
-/// Types share their parts. A server refuses to make a composite type that contains itself, through arrays, domains and
-/// ranges too, so a recursive row comes from no query of one statement; it is refused as [`TypeFault::Recursive`].
+/// Types share their parts. A server refuses to create a composite type that contains itself, also
+/// through arrays, domains and ranges, so a single query never gives a recursive row; such a row is
+/// refused as [`TypeFault::Recursive`].
 #[derive(Debug, Drop)]
 pub struct Catalog {
-    /// Those that are not built in.
+    /// The types that are not built in.
     types: BTreeMap<Oid, Type>,
     refused: Vec<RefusedType>,
     ghost own_oids: { HasOwnOids types },
@@ -75,7 +78,7 @@ impl Catalog {
     ghost use Rattle.pg_client.specs.WholeCatalogs.{AreDescribed, AreTold, AreToldAt, IsTold, Keeps};
     ghost use Rattle.pg_client.specs.declared.catalog.TypeRow.{TypeRow as Row};
 
-    /// The built-in types alone.
+    /// Creates a catalog of the built-in types only.
     pub fn built_in(alloc: Global) -> Catalog
         ensures types { (table_of result).entries ≡ [] }
         ensures refused { refused_of result ≡ [] }
@@ -86,11 +89,12 @@ impl Catalog {
         }
     }
 
-    /// The types of these rows, which come in any order. A row that makes no type is one of
-    /// [`refused`](Catalog::refused), and the others are made: only `Memory` refuses them all.
+    /// Creates a catalog from these rows, which may come in any order. A row that makes no type is
+    /// listed in [`refused`](Catalog::refused), and the others are made. The only error is
+    /// `Memory`.
     ///
-    /// Each type is what one of the rows describes, and each row is told: its OID has a type, or is that of a refused
-    /// row. Where two rows have an OID, the one that comes first stands.
+    /// Each type is the one that one of the rows describes, and the OID of each row has a type or
+    /// is listed as refused. If several rows have the same OID, the first one is used.
     pub fn new(alloc: Global, rows: &[TypeRow<'_>]) -> Result<Catalog, Fault>
         ensures described { IfOk result (λ catalog. AreDescribed (table_of catalog) rows.now) }
         ensures told { IfOk result (λ catalog. AreTold (table_of catalog) (refused_of catalog) rows.now) }
@@ -103,7 +107,7 @@ impl Catalog {
         Ok(catalog)
     }
 
-    /// The type of this OID: the built-in one, or that of a row.
+    /// Returns the type with this OID, a built-in one or that of a row; `None` if there is none.
     pub fn get(&self, oid: Oid) -> Option<Cow<'_, Type>>
         ensures oid { IfSome result (λ ty. oid_of (content (cow_value ty)) ≡ oid) }
         ensures some { IfSome result (λ ty. IsTypeOf (table_of self.now) oid (content (cow_value ty))) }
@@ -115,20 +119,22 @@ impl Catalog {
         }
     }
 
-    /// The rows whose types were not made, each with why.
+    /// Returns the rows that made no type, each with its fault.
     pub fn refused(&self) -> &[RefusedType]
         ensures { result.now ≡ refused_of self.now }
     {
         self.refused.as_slice()
     }
 
-    /// Adds the type of a row, all of whose parts are in the catalog. A row that has a built-in type's OID is that
-    /// type, and adds nothing.
+    /// Adds the type of a row, all of whose parts are in the catalog. A row with the OID of a
+    /// built-in type adds nothing.
     ///
-    /// It is [`Duplicate`](TypeFault::Duplicate) where the OID has a type, [`Kind`](TypeFault::Kind) where the letter
-    /// is unknown, [`Unknown`](TypeFault::Unknown) where the OID of a part is that of no type,
-    /// [`Fields`](TypeFault::Fields) where the fields' names and types are not as many, and
-    /// [`Memory`](TypeFault::Memory). A fault leaves the catalog as it was, and [`refused`](Catalog::refused) too.
+    /// It fails with [`Duplicate`](TypeFault::Duplicate) if the OID has a type,
+    /// [`Kind`](TypeFault::Kind) if the letter of the kind is unknown,
+    /// [`Unknown`](TypeFault::Unknown) if a part has an OID without a type,
+    /// [`Fields`](TypeFault::Fields) if the numbers of names and types of the fields differ, and
+    /// [`Memory`](TypeFault::Memory). A fault leaves the catalog, and its refused rows, as they
+    /// were.
     pub fn add(&mut self, alloc: Global, row: &TypeRow<'_>) -> Result<(), TypeFault>
         ensures ok { OnOk result (AddsOrHas (table_of self.old) row.now (table_of self.new)) }
         ensures kept { OnErr result ((table_of self.new).entries ≡ (table_of self.old).entries) }
@@ -149,7 +155,7 @@ impl Catalog {
         Ok(())
     }
 
-    /// Adds the type of a row, or the row to those that are refused.
+    /// Adds the type of a row, or adds the row to the refused ones.
     fn add_or_refuse(&mut self, alloc: Global, row: &TypeRow<'_>) -> Result<(), Fault>
         ensures told { OnOk result (IsTold (table_of self.new) (refused_of self.new) row.now.oid) }
         ensures keeps { OnOk result ((rows : List Row) (place : ℕ) → slice_get rows place ≡ Some row.now
@@ -167,7 +173,8 @@ impl Catalog {
         }
     }
 
-    /// Adds the types of the rows at these places in turn, and what makes none to the refused ones.
+    /// Adds the types of the rows at these indices in order, and those that make no type to the
+    /// refused ones.
     fn add_each(
         &mut self,
         alloc: Global,
@@ -185,7 +192,7 @@ impl Catalog {
         Ok(())
     }
 
-    /// Adds the type of the row at that place, or the row to those that are refused.
+    /// Adds the type of the row at this index, or adds the row to the refused ones.
     fn add_at(&mut self, alloc: Global, rows: &[TypeRow<'_>], place: usize) -> Result<(), Fault>
         ensures told { OnOk result ((row : Row) → slice_get rows.now place ≡ Some row
             → IsTold (table_of self.new) (refused_of self.new) row.oid) }
@@ -200,7 +207,7 @@ impl Catalog {
         Ok(())
     }
 
-    /// Adds the rows at these places, which contain themselves, to those that are refused.
+    /// Adds the rows at these indices, which contain themselves, to the refused ones.
     fn refuse_each(
         &mut self,
         alloc: Global,
@@ -218,7 +225,7 @@ impl Catalog {
         Ok(())
     }
 
-    /// Adds the row at that place, which contains itself, to those that are refused.
+    /// Adds the row at this index, which contains itself, to the refused ones.
     fn refuse_at(&mut self, alloc: Global, rows: &[TypeRow<'_>], place: usize) -> Result<(), Fault>
         ensures told { OnOk result ((row : Row) → slice_get rows.now place ≡ Some row
             → IsTold (table_of self.new) (refused_of self.new) row.oid) }
@@ -233,7 +240,7 @@ impl Catalog {
         Ok(())
     }
 
-    /// Adds the row to those that are refused.
+    /// Adds the row to the refused ones.
     fn refuse(&mut self, alloc: Global, row: &TypeRow<'_>, fault: TypeFault) -> Result<(), Fault>
         ensures told { OnOk result (IsTold (table_of self.new) (refused_of self.new) row.now.oid) }
         ensures keeps { OnOk result ((rows : List Row) → Keeps rows (table_of self.old) (refused_of self.old)
@@ -249,7 +256,7 @@ impl Catalog {
     }
 }
 
-/// The row at that place.
+/// Returns the row at this index.
 fn row_at<'r, 'a>(rows: &'r [TypeRow<'a>], place: usize) -> Option<&'r TypeRow<'a>>
     ensures some { IfSome result (λ row. slice_get rows.now place ≡ Some row.now) }
     ensures none { IfNone result (slice_get rows.now place ≡ None) }

@@ -4,24 +4,25 @@ ghost use Rattle.std.specs.Prelude.{◌≡◌, ◌<◌, None, IfSome, IfNone, le
 use arrayvec::ArrayString;
 use postgres_types::Type;
 
-/// The most bytes of a column's name: a server's names have at most `NAMEDATALEN - 1`.
+/// The greatest length in bytes of a column's name: a server's names have at most `NAMEDATALEN - 1`
+/// bytes.
 pub const NAME_LEN: usize = 63;
 
-/// The name of a column, in place.
+/// The name of a column, stored in the column itself.
 pub type ColumnName = ArrayString<NAME_LEN>;
 
-/// A column of a result, as a RowDescription message names it.
+/// A column of a result, as a RowDescription message describes it.
 #[derive(Debug, Drop)]
 pub struct Column {
-    /// Its name, where it has one.
+    /// Its name, if it has one.
     pub name: Option<ColumnName>,
     /// The type of its values.
     pub ty: Type,
 }
 
 impl Column {
-    /// A column of that name and type. A name of more than [`NAME_LEN`] bytes, which no server
-    /// sends, is left out.
+    /// Creates a column with this name and type. A name of more than [`NAME_LEN`] bytes, which no
+    /// server sends, is left out.
     pub fn new(name: &str, ty: Type) -> Column
         ensures ty { result.ty ≡ ty }
         ensures name { IfSome result.name (λ own. own.bytes ≡ name.now) }
@@ -31,7 +32,7 @@ impl Column {
         Column { name, ty }
     }
 
-    /// A column of that type, without a name.
+    /// Creates a column of this type, without a name.
     pub fn unnamed(ty: Type) -> Column
         ensures { result ≡ record { name = None; ty = ty } }
     {

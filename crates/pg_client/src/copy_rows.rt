@@ -13,13 +13,13 @@ pub enum CopyFault {
     /// The header is refused.
     #[error("header: {0}")]
     Header(HeaderFault),
-    /// The bytes end in the header, or before it.
+    /// The bytes end in or before the header.
     #[error("header: truncated")]
     TruncatedHeader,
-    /// The tuple of that row is refused.
+    /// The tuple of this row is refused.
     #[error("row {row}: {fault}")]
     Tuple { row: usize, fault: TupleFault },
-    /// The bytes end before the trailer, in the tuple of that row or before it.
+    /// The bytes end before the trailer, in or before the tuple of this row.
     #[error("row {row}: truncated")]
     Truncated { row: usize },
     /// Bytes come after the trailer.
@@ -27,16 +27,16 @@ pub enum CopyFault {
     Trailing,
 }
 
-/// The rows of a binary COPY, `COPY t TO STDOUT (FORMAT binary)`, whose bytes stand in a slice: a header, a tuple for
-/// each row, and a trailer. A tuple is laid out as the body of a DataRow message.
+/// The rows of a binary COPY, as of `COPY t TO STDOUT (FORMAT binary)`, in a slice: a header, a
+/// tuple for each row, and a trailer. A tuple has the layout of the body of a DataRow message.
 ///
-/// It takes no memory.
+/// It does not allocate.
 #[derive(Debug, Drop)]
 pub struct CopyRows<'a, 'c> {
     columns: &'c [Column],
-    /// The tuples that are to come, and the trailer.
+    /// The tuples to come, and the trailer.
     rest: &'a [u8],
-    /// How many rows came.
+    /// The number of rows that were returned.
     count: usize,
     ghost counted: { (count + 1) + length rest.now < 2 ^ 64 },
 }
@@ -45,10 +45,10 @@ impl<'a, 'c> CopyRows<'a, 'c> {
     ghost use Rattle.pg_client.specs.CopyReading.{HasRead, NoneTaken, ReadsNext, RefusesNext, RefusesStart};
     ghost use Rattle.pg_client.specs.CopyReading.{columns_in, count_of, left_of};
 
-    /// The rows of the COPY that is these bytes, which have these columns.
+    /// Starts reading the COPY in these bytes, whose rows have these columns.
     ///
-    /// It takes the header: the signature, the flags, of which no critical one may be set, and the header extension,
-    /// which is passed over. The tuples are not looked at.
+    /// It reads the header: the signature, the flags, none of whose critical ones may be set, and
+    /// the header extension, which is skipped. The tuples are not checked.
     pub fn new(bytes: &'a [u8], columns: &'c [Column]) -> Result<CopyRows<'a, 'c>, CopyFault>
         ensures columns { IfOk result (λ rows. columns_in rows ≡ columns.entry.now) }
         ensures reads { IfOk result (HasRead bytes.entry.now []) }
@@ -70,11 +70,11 @@ impl<'a, 'c> CopyRows<'a, 'c> {
         }
     }
 
-    /// The next row, or `None` at the trailer, after which no byte may come.
+    /// Returns the next row, or `None` at the trailer, after which no byte may come.
     ///
-    /// A row is one of a whole tuple, of as many columns as there are, each with the length of NULL or of its bytes. A
-    /// refusal names the first check that fails, and leaves the place where it was. Each row leaves fewer bytes, so a
-    /// loop over all rows ends.
+    /// A row is a complete tuple with as many columns as `columns`, each with the length -1 of NULL
+    /// or as many bytes as its length says. An error is that of the first check that fails, and
+    /// leaves the position as it was. Each row leaves fewer bytes, so a loop over all rows ends.
     pub fn next(&mut self) -> Result<Option<Row<'a, 'c>>, CopyFault>
         ensures columns { columns_in self.new ≡ columns_in self.old }
         ensures reads { IfOk result (λ row. (bytes : List ℕ) (rows : List (List Cell)) → HasRead bytes rows self.old
@@ -86,8 +86,11 @@ impl<'a, 'c> CopyRows<'a, 'c> {
         let row = self.count + 1;
         match front_of(self.rest, self.columns.len()) {
             Ok(Front::Tuple { frames, rest }) => {
-                self.rest = rest;
-                self.count = row;
+                *self = CopyRows {
+                    columns: self.columns,
+                    rest,
+                    count: row,
+                };
                 Ok(Some(Row::unread(frames, self.columns)))
             }
             Ok(Front::Trailer(after)) => {
@@ -102,7 +105,7 @@ impl<'a, 'c> CopyRows<'a, 'c> {
         }
     }
 
-    /// How many rows came: the number of the last one, where one came.
+    /// Returns the number of rows that were returned, which is the number of the last one.
     pub fn count(&self) -> usize
         ensures { result ≡ count_of self.now }
     {

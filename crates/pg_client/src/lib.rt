@@ -1,9 +1,10 @@
-//! What a client reads and writes: the row of a DataRow message, the rows of a binary COPY, the parameters of a Bind
-//! message, and the types of its server.
+//! What a client reads and writes: the row of a DataRow message, the rows of a binary COPY, the
+//! parameters of a Bind message, and the types of its server.
 //!
-//! [`Row`] reads columns in turn or in any order, [`CopyRows`] gives the rows of a COPY, and [`Bind`] appends
-//! parameters to a buffer. A refusal names the column or the parameter ([`PlacedFault`]), or the row of a COPY
-//! ([`CopyFault`]). [`catalog`] makes types of what the server's catalog says.
+//! [`Row`] reads columns one after another or in any order, [`CopyRows`] gives the rows of a COPY,
+//! and [`Bind`] appends parameters to a buffer. A fault names the column or the parameter
+//! ([`PlacedFault`]), or the row of a COPY ([`CopyFault`]). [`catalog`] makes types from the system
+//! catalogs of the server.
 #![tactic(auto)]
 
 mod bind;

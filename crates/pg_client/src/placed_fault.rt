@@ -1,4 +1,4 @@
-//! Faults, and where they were met.
+//! Faults and their places.
 ghost use Rattle.std.specs.Prelude.{◌≡◌, ◌+◌};
 
 use crate::column::ColumnName;
@@ -6,20 +6,21 @@ use postgres_types::Fault;
 use std::error::Error;
 use std::fmt;
 
-/// A part of a message. Columns and parameters are counted from 0, and shown from 1.
+/// A part of a message. Columns and parameters are counted from 0, and printed from 1.
 #[derive(Debug, Clone, Copy)]
 pub enum Place {
-    /// A row as a whole: its number of columns, or what comes after its columns.
+    /// A row as a whole: its number of columns, or the bytes after its columns.
     Row,
-    /// The column at that place, and its name, where it has one.
+    /// The column at this index, and its name, if it has one.
     Column(usize, Option<ColumnName>),
     /// The parameters of a Bind message as a whole.
     Bind,
-    /// The parameter at that place.
+    /// The parameter at this index.
     Parameter(usize),
 }
 
-/// Shows `row`, `column 3 "at"`, `column 3` where the column has no name, `bind`, or `parameter 2`.
+/// Writes `row`, `column 3 "at"`, or `column 3` if the column has no name, `bind`, or
+/// `parameter 2`.
 impl fmt::Display for Place {
     ghost use Rattle.std.specs.Prelude.{Some};
     ghost use Rattle.pg_client.specs.Places.{place_text};
@@ -39,23 +40,23 @@ impl fmt::Display for Place {
     }
 }
 
-/// The number of what stands at that place.
+/// Returns the number, counted from 1, of the column or parameter at this index.
 fn number(place: usize) -> u128
     ensures { result ≡ place + 1 }
 {
     place as u128 + 1
 }
 
-/// A refusal of a column or of a parameter, or of a message as a whole: its fault, and the place.
+/// The fault of a column, of a parameter or of a message as a whole, and its place.
 #[derive(Debug, Drop)]
 pub struct PlacedFault {
-    /// Where it was met.
+    /// Where the fault was found.
     pub place: Place,
-    /// Why the value is not read or not written.
+    /// Why the value could not be read or written.
     pub fault: Fault,
 }
 
-/// Shows the place and the fault in one line: `column 3 "at": invalid buffer size`.
+/// Writes the place and the fault in one line: `column 3 "at": invalid buffer size`.
 impl fmt::Display for PlacedFault {
     fn fmt<W: fmt::Write>(&self, f: &mut fmt::Formatter<W>) -> fmt::Result {
         let place = &self.place;
@@ -67,7 +68,7 @@ impl fmt::Display for PlacedFault {
 impl Error for PlacedFault {}
 
 impl PlacedFault {
-    /// The fault at that place.
+    /// Creates the fault at this place.
     pub fn new(place: Place, fault: Fault) -> PlacedFault
         ensures { result ≡ record { place = place; fault = fault } }
     {

@@ -16,26 +16,26 @@ use postgres_types::private::read_value;
 use postgres_types::{Fault, FromSql, Type, check_type, from_sql_nullable};
 use std::alloc::Global;
 
-/// The body of a DataRow message: the number of columns in 2 bytes, big-endian, and of each column
-/// the frame of its cell, a length of 4 bytes, -1 for NULL, and that many bytes.
+/// The body of a DataRow message: the number of columns in 2 bytes, and for each column the frame
+/// of its cell, a length of 4 bytes, -1 for NULL, and as many bytes. The numbers are big-endian.
 ///
-/// A row takes no memory. Values take that of their types.
+/// A row does not allocate; its values may.
 #[derive(Debug, Drop)]
 pub struct Row<'a, 'c> {
     columns: &'c [Column],
     /// The frames of all columns.
     frames: &'a [u8],
-    /// How many columns were taken in turn.
+    /// The number of columns that `next` has taken.
     taken: usize,
-    /// The frames after theirs.
+    /// The frames after those columns.
     rest: &'a [u8],
 }
 
 impl<'a, 'c> Row<'a, 'c> {
-    /// The row of that body, which has these columns.
+    /// Creates the row of this body, which has these columns.
     ///
-    /// A truncated number of columns is `Size`, and another number, a negative one too, is
-    /// `FieldCount`, at [`Place::Row`]. The frames are not looked at.
+    /// A truncated number of columns is refused with `Size`, and any other number, also a negative
+    /// one, with `FieldCount`, at [`Place::Row`]. The frames are not checked.
     pub fn new(body: &'a [u8], columns: &'c [Column]) -> Result<Row<'a, 'c>, PlacedFault>
         ensures { IsRowOf body.entry.now columns.entry.now result }
     {
@@ -48,7 +48,7 @@ impl<'a, 'c> Row<'a, 'c> {
         Ok(Row::unread(frames, columns))
     }
 
-    /// The row of these frames, of which no column was taken.
+    /// Creates the row of these frames, of which no column was taken.
     pub(crate) fn unread(frames: &'a [u8], columns: &'c [Column]) -> Row<'a, 'c>
         ensures { (frames_of result ≡ frames.entry.now) × IsUnread columns.entry.now result }
     {
@@ -60,13 +60,13 @@ impl<'a, 'c> Row<'a, 'c> {
         }
     }
 
-    /// Reads the column at that place, counted from 0, in any order and as often as wanted: answers
-    /// what `read_value` reads of its frame.
+    /// Reads the column at index `place`, counted from 0, in any order and as often as wanted. It
+    /// reads the frame as `read_value` does.
     ///
-    /// A refusal is at the column. It is the fault of the conversion, or `WrongType` with the name
-    /// `T` where `T` does not accept the column's type. Where the frame of the column, or of one
-    /// before it, is truncated, it is `Size`, at that one; where there is no column at the place it
-    /// is `User`, with the text `no such column`.
+    /// An error has the place of the column. It is the fault of the conversion, or `WrongType` with
+    /// the name `T` if `T` does not accept the type of the column. A truncated frame of the column,
+    /// or of one before it, is refused with `Size` at that column, and an index without a column
+    /// with `User` and the text `no such column`.
     pub fn get<T: FromSql<'a>>(&self, alloc: Global, place: usize) -> Result<T, PlacedFault>
         ensures column { IfSome (slice_get (columns_of self.now) place) (λ column. ReadsColumn place
             (columns_of self.now)
@@ -87,9 +87,9 @@ impl<'a, 'c> Row<'a, 'c> {
         }
     }
 
-    /// Reads the next column in turn, as [`get`](Row::get) does, and moves on to the one after it,
-    /// whether its value is answered or refused. Where its frame is truncated, or there is no
-    /// further column, the row stays as it was.
+    /// Reads the next column as [`get`](Row::get) does, and advances to the one after it, whether
+    /// the call returns a value or a fault. If its frame is truncated, or there is no further
+    /// column, the row is unchanged.
     pub fn next<T: FromSql<'a>>(&mut self, alloc: Global) -> Result<T, PlacedFault>
         ensures column { IfSome (slice_get (columns_of self.old) (taken_of self.old)) (λ column. ReadsNext
             (ReadsAs (T.accepted (content column.ty)) (content column.ty) (T.reads (content column.ty)))
@@ -112,11 +112,12 @@ impl<'a, 'c> Row<'a, 'c> {
         }
     }
 
-    /// Ends the reading in turn. Columns that [`next`](Row::next) has not taken are passed over, so
-    /// a row of which some are not wanted, or which is read by [`get`](Row::get), ends the same.
+    /// Ends reading the row. Columns that [`next`](Row::next) has not taken are skipped, so a row
+    /// of which some columns are not wanted, or which is read with [`get`](Row::get), ends in the
+    /// same way.
     ///
-    /// Bytes that trail the last column are `Size`, at [`Place::Row`]; where the frame of a column
-    /// is truncated it is `Size`, at the column.
+    /// Trailing bytes after the last column are refused with `Size` at [`Place::Row`], and a
+    /// truncated frame of a column with `Size` at that column.
     pub fn finish(self, alloc: Global) -> Result<(), PlacedFault>
         ensures { EndsRow (columns_of self.entry) (taken_of self.entry)
             (length (columns_of self.entry) - taken_of self.entry) (rest_of self.entry) result }
@@ -135,7 +136,7 @@ impl<'a, 'c> Row<'a, 'c> {
     }
 }
 
-/// The column at that place.
+/// Returns the column at this index.
 fn column_at(columns: &[Column], place: usize) -> Option<&Column>
     ensures some { IfSome result (λ column. slice_get columns.now place ≡ Some column.now) }
     ensures none { IfNone result (slice_get columns.now place ≡ None) }
@@ -143,7 +144,7 @@ fn column_at(columns: &[Column], place: usize) -> Option<&Column>
     columns.get(place)
 }
 
-/// The place of a column.
+/// Returns the place of a column.
 fn place_of(columns: &[Column], place: usize) -> Place
     ensures { result ≡ column_place columns.now place }
 {
@@ -153,15 +154,15 @@ fn place_of(columns: &[Column], place: usize) -> Place
     }
 }
 
-/// The fault of a place that has no column.
+/// Returns the fault for an index without a column.
 fn no_column(place: usize) -> PlacedFault
     ensures { IsFaultAt (Place.Column place None) (user (codes "no such column")) result }
 {
     PlacedFault::new(Place::Column(place, None), Fault::user("no such column"))
 }
 
-/// Takes the framed cell at the front of the slice: every negative length is NULL. Where it is
-/// truncated it answers `Size`, and the slice stands as `read_value` leaves it.
+/// Takes the framed cell from the front of the slice; every negative length is NULL. A truncated
+/// cell is refused with `Size`, and the slice is as `read_value` leaves it.
 #[tactic(auto, using(crate::proofs::CellsTaken::cell_taken))]
 fn take_cell<'a>(alloc: Global, buf: &mut &'a [u8]) -> Result<Option<&'a [u8]>, Fault>
     ensures { TakesCell buf.old.now result buf.new.now }
@@ -169,8 +170,8 @@ fn take_cell<'a>(alloc: Global, buf: &mut &'a [u8]) -> Result<Option<&'a [u8]>, 
     read_value(alloc, &Type::BYTEA, buf)
 }
 
-/// Passes over so many framed cells at the front of the slice. Where one is truncated it answers
-/// how many stand before it, and the slice stands at its start.
+/// Skips `count` framed cells at the front of the slice. If one is truncated it returns the number
+/// of cells before it, and the slice begins at that cell.
 fn pass_cells(alloc: Global, count: usize, buf: &mut &[u8]) -> Result<(), usize>
     ensures { PassesCells count buf.old.now result buf.new.now }
 {
@@ -202,7 +203,7 @@ fn convert<'a, T: FromSql<'a>>(
     }
 }
 
-/// Reads a cell of that type, which is `WrongType` where `T` does not accept it.
+/// Reads a cell of this type; fails with `WrongType` if `T` does not accept the type.
 fn read_as<'a, T: FromSql<'a>>(alloc: Global, ty: &Type, cell: Option<&'a [u8]>) -> Result<T, Fault>
     ensures outcome { Answers (ReadsAs (T.accepted (content ty.now)) (content ty.now) (T.reads (content ty.now))
         (cell_of cell.entry)) result }

@@ -1,11 +1,11 @@
-//! Checks of a row: its answer, and what a refusal leaves.
+//! Checks of a row: its result, and what a refusal leaves in the buffer.
 
 use crate::outcome::{RowFault, holds};
 use postgres_types::private::BytesMut;
 use postgres_types::{Fault, FromSql, IsNull, Paired, ToSql, Type, from_sql_nullable, rewrite};
 use std::alloc::Global;
 
-/// What stands in a buffer before a write.
+/// The content of a buffer before a write.
 pub const BEFORE: &[u8] = b"before";
 
 /// A buffer that is written to.
@@ -13,7 +13,8 @@ pub fn buffer(alloc: Global) -> Result<BytesMut, RowFault> {
     Ok(BytesMut::copy_from_slice(alloc, BEFORE)?)
 }
 
-/// The write appended the cell, of which `None` is NULL. Where it was refused, the buffer is as it was.
+/// Tests that the write appended the cell (`None` is NULL), or that it was refused and the buffer
+/// is as it was.
 fn wrote(
     answer: Result<IsNull, Fault>,
     out: &BytesMut,
@@ -29,7 +30,7 @@ fn wrote(
     }
 }
 
-/// The fault has that number.
+/// Tests that the fault has this number.
 fn has_code(fault: Fault, code: u32) -> Result<(), RowFault> {
     if fault.code() == code {
         Ok(())
@@ -38,7 +39,8 @@ fn has_code(fault: Fault, code: u32) -> Result<(), RowFault> {
     }
 }
 
-/// The write was refused with the fault of that number, or for memory, and the buffer is as it was.
+/// Tests that the write was refused with the fault of this number or with `Memory`, and that the
+/// buffer is as it was.
 fn refused(answer: Result<IsNull, Fault>, out: &BytesMut, code: u32) -> Result<(), RowFault> {
     holds(out.as_slice() == BEFORE)?;
     match answer {
@@ -47,7 +49,7 @@ fn refused(answer: Result<IsNull, Fault>, out: &BytesMut, code: u32) -> Result<(
     }
 }
 
-/// What writing a value of an accepted type answers.
+/// Writes a value to an accepted type.
 fn write<T: ToSql>(
     alloc: Global,
     value: &T,
@@ -61,21 +63,21 @@ fn write<T: ToSql>(
     }
 }
 
-/// The value is written as the cell.
+/// Tests that the value is written as the cell.
 pub fn writes<T: ToSql>(alloc: Global, value: &T, ty: &Type, cell: &[u8]) -> Result<(), RowFault> {
     let mut out = buffer(alloc)?;
     let answer = write(alloc, value, ty, &mut out);
     wrote(answer, &out, Some(cell))
 }
 
-/// The value is written as NULL.
+/// Tests that the value is written as NULL.
 pub fn writes_null<T: ToSql>(alloc: Global, value: &T, ty: &Type) -> Result<(), RowFault> {
     let mut out = buffer(alloc)?;
     let answer = write(alloc, value, ty, &mut out);
     wrote(answer, &out, None)
 }
 
-/// Writing the value is refused with the fault of that number.
+/// Tests that writing the value is refused with the fault of this number.
 pub fn refuses_value<T: ToSql>(
     alloc: Global,
     value: &T,
@@ -87,7 +89,7 @@ pub fn refuses_value<T: ToSql>(
     refused(answer, &out, code)
 }
 
-/// The cell is rewritten as that other cell.
+/// Tests that the cell is rewritten as the other cell.
 pub fn rewrites<'a, T: Paired<'a>>(
     alloc: Global,
     ty: &Type,
@@ -99,7 +101,7 @@ pub fn rewrites<'a, T: Paired<'a>>(
     wrote(answer, &out, Some(written))
 }
 
-/// What reading a cell of an accepted type answers.
+/// Reads a cell of an accepted type.
 pub fn read<'a, T: FromSql<'a>>(
     alloc: Global,
     ty: &Type,
@@ -112,7 +114,7 @@ pub fn read<'a, T: FromSql<'a>>(
     }
 }
 
-/// The cell is read as the value.
+/// Tests that the cell is read as the value.
 pub fn reads<'a, T: FromSql<'a> + PartialEq>(
     alloc: Global,
     ty: &Type,
@@ -123,7 +125,7 @@ pub fn reads<'a, T: FromSql<'a> + PartialEq>(
     holds(found == value)
 }
 
-/// Reading the cell is refused with the fault of that number.
+/// Tests that reading the cell is refused with the fault of this number.
 pub fn refuses<'a, T: FromSql<'a>>(
     alloc: Global,
     ty: &Type,

@@ -17,7 +17,8 @@ const NULL: [u8; 5] = [0xff, 0xff, 0xff, 0xff, 0];
 /// The length 5, and one byte.
 const TRUNCATED: [u8; 5] = [0, 0, 0, 5, 9];
 
-/// Framed cells that are no INT4, each before a byte that is left, and the numbers of their faults.
+/// Framed cells that are not an INT4, each followed by a byte that remains, and the numbers of
+/// their faults.
 const REFUSED: [(&[u8], u32); 3] = [
     (&NULL, WAS_NULL),
     (&TRUNCATED, SIZE),
@@ -53,7 +54,7 @@ pub fn rows(alloc: Global, tally: &mut Tally) {
     ]);
 }
 
-/// The framed cell is read as the value, and a byte is left. It is left out of memory too.
+/// Tests that the framed cell is read as the value and a byte remains, also if an allocation fails.
 fn takes<'a, T: FromSql<'a> + PartialEq>(
     alloc: Global,
     ty: &Type,
@@ -69,7 +70,7 @@ fn takes<'a, T: FromSql<'a> + PartialEq>(
     holds(answer? == value)
 }
 
-/// The framed INT4 is refused with the fault of that number, and a byte is left.
+/// Tests that the framed INT4 is refused with the fault of this number, and a byte remains.
 fn refuses_integer(alloc: Global, bytes: &[u8], code: u32) -> Result<(), RowFault> {
     let mut buf = bytes;
     let answer: Result<i32, Fault> = read_value(alloc, &Type::INT4, &mut buf);
@@ -97,8 +98,8 @@ fn takes_list(alloc: Global) -> Result<(), RowFault> {
     takes(alloc, &Type::INT4_ARRAY, &ARRAY, list)
 }
 
-/// The cells are read as the values, and a byte is left. Out of memory, the slice stands after a cell: at one of these
-/// lengths.
+/// Tests that the cells are read as the values, and a byte remains. If an allocation fails, the
+/// slice begins after a cell: at one of these lengths.
 fn takes_run<'a, T: FromSql<'a> + PartialEq>(
     alloc: Global,
     ty: &Type,

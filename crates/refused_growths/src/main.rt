@@ -1,8 +1,8 @@
-//! Reads and writes each worked row of the library in turn, and says how many gave their answer and how many met a
-//! refused growth. It fails where a row has another answer than its own or out of memory, or where a refusal left
-//! something.
+//! Reads and writes the rows of the library's tests one after another, and prints how many gave the
+//! expected result and how many failed because of an allocation. It fails if a row gives a result
+//! that is neither the expected one nor `Memory`, or if a refusal left something in a buffer.
 //!
-//! `.ci/memory` runs it with each growth of memory refused.
+//! `.ci/memory` runs it, and lets each allocation fail in turn.
 #![tactic(auto)]
 
 mod arrays;

@@ -1,14 +1,14 @@
-//! What rows came to.
+//! The results of rows.
 
 use postgres_types::Fault;
 use std::alloc::{AllocError, AllocFailed};
 
-/// Why a row did not give its answer.
+/// Why a row did not give the expected result.
 #[derive(Debug, Clone, Copy, PartialEq, Eq)]
 pub enum RowFault {
-    /// Memory was refused.
+    /// An allocation failed.
     Memory,
-    /// The answer is another, or a refusal left something.
+    /// The result is another one, or a refusal left something in the buffer.
     Other,
 }
 
@@ -39,7 +39,7 @@ impl From<jiff::Error> for RowFault {
     }
 }
 
-/// Fails where the condition does not hold.
+/// Fails if the condition is false.
 pub fn holds(condition: bool) -> Result<(), RowFault> {
     if condition {
         Ok(())
@@ -48,7 +48,8 @@ pub fn holds(condition: bool) -> Result<(), RowFault> {
     }
 }
 
-/// How many rows gave their answer, how many met a refused growth, and the first that did neither.
+/// The number of rows that gave the expected result, of those that failed because of an allocation,
+/// and the first row that did neither.
 #[derive(Debug, Drop)]
 pub struct Tally {
     pub own: u32,
@@ -65,14 +66,14 @@ impl Tally {
         }
     }
 
-    /// Notes what each row came to.
+    /// Records the result of each row.
     pub fn note_all(&mut self, rows: &[(&'static str, Result<(), RowFault>)]) {
         for (name, row) in rows {
             self.note(*name, *row);
         }
     }
 
-    /// Notes what the row of that name came to.
+    /// Records the result of the row with this name.
     pub fn note(&mut self, name: &'static str, row: Result<(), RowFault>) {
         match row {
             Ok(()) => self.own = self.own.saturating_add(1),

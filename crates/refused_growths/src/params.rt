@@ -22,8 +22,8 @@ pub fn rows(alloc: Global, tally: &mut Tally) {
     ]);
 }
 
-/// What framing the parameters after `BEFORE` answers. Where it is refused for memory, the place is one of the list and
-/// the buffer is as it was.
+/// Frames the parameters after `BEFORE`. Tests that an error has the index of a parameter and
+/// leaves the buffer as it was.
 fn frame(
     alloc: Global,
     params: &[Box<dyn ToSql>],

@@ -1,4 +1,4 @@
-//! hstore, ltree, documents and log positions.
+//! hstore, ltree, documents and log sequence numbers.
 
 use crate::checks::{reads, refuses, rewrites, writes};
 use crate::outcome::{RowFault, Tally, holds};
@@ -37,7 +37,7 @@ const TWO: [u8; 23] = [
     0, 0, 0, 2, 0, 0, 0, 1, b'a', 0, 0, 0, 1, b'b', 0, 0, 0, 1, b'c', 0xff, 0xff, 0xff, 0xff,
 ];
 
-/// Texts of log positions, and how they are displayed.
+/// Texts of log sequence numbers, and how they are displayed.
 const POSITIONS: [(&str, &str); 3] = [
     ("16/B374D848", "16/B374D848"),
     ("1FFFFFFFF/0", "FFFFFFFF/0"),

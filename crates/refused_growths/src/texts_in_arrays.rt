@@ -1,4 +1,4 @@
-//! Arrays of texts: the texts that were read are dropped where what comes after them is refused.
+//! Arrays of texts: the texts that were read are dropped if what follows them is refused.
 
 use crate::checks::{reads, refuses};
 use crate::outcome::{RowFault, Tally};

@@ -8,7 +8,7 @@ use std::alloc::Global;
 /// The number of `WrongType`.
 const WRONG_TYPE: u32 = 3;
 
-/// What a refused option displays.
+/// The text of the fault of a refused option.
 const REFUSED: &str = "cannot convert between the Rust type `Option` and the Postgres type `text`";
 
 pub fn rows(alloc: Global, tally: &mut Tally) {

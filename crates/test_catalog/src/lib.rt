@@ -1,4 +1,4 @@
-//! The types that the rows of a catalog make.
+//! The types that are made from the rows of a catalog.
 #![tactic(auto)]
 
 #[cfg(test)]

@@ -1,4 +1,5 @@
-//! Rows and Bind messages of a client: what is read and written, what is refused, and at which place.
+//! Rows and Bind messages of a client: what is read and written, what is refused, and the place of
+//! the fault.
 #![tactic(auto)]
 
 #[cfg(test)]

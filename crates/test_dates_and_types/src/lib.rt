@@ -1,6 +1,6 @@
-//! Dates, times, timestamps and intervals: rows from PostgreSQL's formats, run through the library's public names. And
-//! types, kinds, fields and faults: their tables, texts and laws; that a call that takes no memory needs none; and that
-//! a row that does not hold fails.
+//! Dates, times, timestamps and intervals, with rows of PostgreSQL's formats, by the public names
+//! of the library; types, kinds, fields and faults, with their tables, texts and laws; calls that
+//! do not allocate; and tests that fail as they should.
 #![tactic(auto)]
 
 #[cfg(test)]

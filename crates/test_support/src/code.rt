@@ -1,4 +1,4 @@
-//! The numbers of faults, by their names.
+//! The numbers of the faults, by their names.
 
 pub const MEMORY: u32 = 1;
 

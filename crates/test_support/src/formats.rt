@@ -1,4 +1,4 @@
-//! Tables of a format, by all the calls that answer by it.
+//! Tables of a format, tested with every function that reads or writes it.
 
 use crate::{appends, parses, refuses, spells, takes_no_memory};
 use postgres_types::private::BytesMut;
@@ -7,8 +7,9 @@ use std::alloc::Global;
 use std::fmt::Debug;
 use std::test::Fail;
 
-/// A table of a format whose values take no memory: each value is written as its cell, and the cell is read as the
-/// value, also where every growth is refused. Each of the other cells is refused with the fault of that number.
+/// A table of a format whose values are read and written without allocating: each value is written
+/// as its cell, and the cell is read as the value, also if every allocation fails. Each of the
+/// other cells is refused with the fault of its number.
 pub fn has_cells<'a, T: FromSql<'a> + ToSql + PartialEq>(
     alloc: Global,
     ty: &Type,
@@ -20,8 +21,8 @@ pub fn has_cells<'a, T: FromSql<'a> + ToSql + PartialEq>(
     refuses::<T>(alloc, ty, others)
 }
 
-/// A table of a format without a Postgres type: one function appends each value's cell, and the other reads the cell as
-/// the value, also where every growth is refused.
+/// A table of a format without a Postgres type: one function appends the cell of each value, and
+/// the other reads the cell as the value, also if every allocation fails.
 pub fn has_functions<
     'a,
     T: Copy + PartialEq + Debug,

@@ -1,5 +1,5 @@
-//! What the tests share: rows of a value and its cell, run through the library's public names. Each
-//! call fails with what was found and what was expected.
+//! Helpers of the tests: rows of a value and its cell, which are tested with the public functions
+//! of the library. Each helper fails with what was found and what was expected.
 #![tactic(auto)]
 
 pub mod code;
@@ -30,17 +30,17 @@ pub use writing::{
     writes_null,
 };
 
-/// What stands in a buffer before a call that writes to it.
+/// The content of a buffer before a function writes to it.
 const BEFORE: &[u8] = b"before";
 
-/// What a row is and what it was to be.
+/// What was found and what was expected.
 #[derive(Debug, Drop)]
 struct Differs<T> {
     found: T,
     expected: T,
 }
 
-/// Fails where the two are not equal.
+/// Fails if the two are not equal.
 pub fn same<T: PartialEq + Debug + Drop>(found: T, expected: T) -> Result<(), Fail> {
     if found == expected {
         Ok(())
@@ -49,7 +49,7 @@ pub fn same<T: PartialEq + Debug + Drop>(found: T, expected: T) -> Result<(), Fa
     }
 }
 
-/// Fails with that text where the condition does not hold.
+/// Fails with that text if the condition is false.
 pub fn holds(condition: bool, text: &'static str) -> Result<(), Fail> {
     if condition {
         Ok(())

@@ -1,13 +1,13 @@
-//! Memory that is refused.
+//! Allocations that fail.
 
 use std::alloc::Global;
 use std::test::Fail;
 
-/// All the memory that the heap gives, in blocks that nothing touches, the smallest last. Later
-/// growths are refused until some of it is let go.
+/// Takes all the memory that the heap gives, in blocks that are never written, the smallest last.
+/// Later allocations fail until some of it is freed.
 ///
-/// No address is free then, so the stack cannot grow either: what a test calls after this, it calls
-/// once before, with ample memory.
+/// No address space is left then, so that the stack cannot grow either. So a test has to make the
+/// calls that follow once before, while there is memory.
 pub fn hoard(alloc: Global) -> Result<Vec<Vec<u8>>, Fail> {
     let mut blocks = Vec::with_capacity(alloc, 2_000_000)?;
     for halvings in 0..38u32 {
@@ -16,7 +16,7 @@ pub fn hoard(alloc: Global) -> Result<Vec<Vec<u8>>, Fail> {
     Ok(blocks)
 }
 
-/// Takes blocks of that size until one is refused, or the list is full.
+/// Takes blocks of that size until an allocation fails, or the list is full.
 fn take_blocks(alloc: Global, size: usize, blocks: &mut Vec<Vec<u8>>) {
     for _ in blocks.len()..blocks.capacity() {
         let Ok(block) = Vec::with_capacity(alloc, size) else {

@@ -7,7 +7,7 @@ use postgres_types::{ToSql, Type, params_to_sql};
 use std::alloc::Global;
 use std::test::Fail;
 
-/// The frames of the parameters are appended to what was there.
+/// Tests that the frames of the parameters are appended to the buffer.
 pub fn binds(
     alloc: Global,
     params: &[Box<dyn ToSql>],

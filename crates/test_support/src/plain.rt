@@ -1,4 +1,4 @@
-//! Rows of the plain functions of formats, which need no Postgres type.
+//! Tables of plain functions, which need no Postgres type.
 
 use crate::without_memory::{Answered, Target, answer_without_memory, gives, yes};
 use crate::{hoard, same};
@@ -8,7 +8,7 @@ use std::alloc::Global;
 use std::fmt::Debug;
 use std::test::Fail;
 
-/// The function appends each value's cell to a buffer with exactly its room.
+/// Tests that the function appends the cell of each value to a buffer with exactly the room for it.
 fn appends_by_room<T: Copy, F: Fn(Global, T, &mut BytesMut) -> Result<(), Fault>>(
     alloc: Global,
     append: &F,
@@ -25,8 +25,8 @@ fn appends_by_room<T: Copy, F: Fn(Global, T, &mut BytesMut) -> Result<(), Fault>
     Ok(())
 }
 
-/// A table of a format: the function appends each value's cell to an empty buffer, and, where every growth is refused,
-/// to one with exactly its room.
+/// Tests that the function appends the cell of each value to an empty buffer and, while every
+/// allocation fails, to one with exactly the room for it.
 pub fn appends<T: Copy, F: Fn(Global, T, &mut BytesMut) -> Result<(), Fault>>(
     alloc: Global,
     append: F,
@@ -45,7 +45,7 @@ pub fn appends<T: Copy, F: Fn(Global, T, &mut BytesMut) -> Result<(), Fault>>(
     )
 }
 
-/// The function reads each cell as its value.
+/// Tests that the function reads each cell as its value.
 fn gives_values<'a, T: Copy + PartialEq, F: Fn(&'a [u8]) -> Result<T, Fault>>(
     parse: &F,
     rows: &[(T, &'a [u8])],
@@ -58,7 +58,7 @@ fn gives_values<'a, T: Copy + PartialEq, F: Fn(&'a [u8]) -> Result<T, Fault>>(
     Ok(())
 }
 
-/// A table of a format: the function reads each cell as its value, and takes no memory.
+/// Tests that the function reads each cell as its value, without allocating.
 pub fn parses<'a, T: Copy + PartialEq + Debug, F: Fn(&'a [u8]) -> Result<T, Fault>>(
     alloc: Global,
     parse: F,
@@ -77,7 +77,7 @@ pub fn parses<'a, T: Copy + PartialEq + Debug, F: Fn(&'a [u8]) -> Result<T, Faul
     Ok(())
 }
 
-/// The number of the answer's fault; 0 where there is none.
+/// Returns the number of the fault, or 0 if there is none.
 pub fn fault_code<T: Drop>(answer: Result<T, Fault>) -> u32 {
     match answer {
         Ok(_) => 0,

@@ -1,4 +1,4 @@
-//! Rows of reading.
+//! Tables of reading.
 
 use crate::code::SIZE;
 use crate::same;
@@ -7,7 +7,7 @@ use std::alloc::Global;
 use std::fmt::Debug;
 use std::test::Fail;
 
-/// What reading the cell answers; a type that is not accepted is not read.
+/// Reads the cell. A type that is not accepted is refused.
 pub fn read<'a, T: FromSql<'a>>(
     alloc: Global,
     ty: &Type,
@@ -19,7 +19,7 @@ pub fn read<'a, T: FromSql<'a>>(
     from_sql_nullable(alloc, ty, cell)
 }
 
-/// The cell is read as the value.
+/// Tests that the cell is read as the value.
 pub fn reads<'a, T: FromSql<'a> + PartialEq + Debug>(
     alloc: Global,
     ty: &Type,
@@ -30,7 +30,7 @@ pub fn reads<'a, T: FromSql<'a> + PartialEq + Debug>(
     same(found, value)
 }
 
-/// The number of the fault that the cell is refused with; 0 where it is read.
+/// Returns the number of the fault with which the cell is refused, or 0 if it is read.
 pub fn refusal<'a, T: FromSql<'a>>(alloc: Global, ty: &Type, cell: Option<&'a [u8]>) -> u32 {
     match read::<T>(alloc, ty, cell) {
         Ok(_) => 0,
@@ -38,7 +38,7 @@ pub fn refusal<'a, T: FromSql<'a>>(alloc: Global, ty: &Type, cell: Option<&'a [u
     }
 }
 
-/// A table of a format: each cell is refused with the fault of that number.
+/// Tests that each cell is refused with the fault of its number.
 pub fn refuses<'a, T: FromSql<'a>>(
     alloc: Global,
     ty: &Type,
@@ -50,8 +50,8 @@ pub fn refuses<'a, T: FromSql<'a>>(
     Ok(())
 }
 
-/// Each proper front of the cell is refused with the fault of its number, from the empty one on, and 0
-/// where it is read; those without a number have another size than the format's.
+/// Tests that each proper prefix of the cell, from the empty one on, is refused with the fault of
+/// its number, or read if the number is 0. Prefixes without a number are refused with `Size`.
 pub fn refuses_fronts<'a, T: FromSql<'a>>(
     alloc: Global,
     ty: &Type,

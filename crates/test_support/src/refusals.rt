@@ -1,4 +1,4 @@
-//! Values that both calls of writing refuse.
+//! Values that both functions for writing refuse.
 
 use crate::{BEFORE, refuses_value, same};
 use postgres_types::private::BytesMut;
@@ -6,8 +6,8 @@ use postgres_types::{ToSql, Type};
 use std::alloc::Global;
 use std::test::Fail;
 
-/// Writing the value to that type, which is accepted, is refused by both calls with the fault of
-/// that number, and appends nothing.
+/// Tests that both functions for writing refuse the value for that type, which is accepted, with
+/// the fault of that number, and append nothing.
 pub fn refuses_both<T: ToSql>(alloc: Global, value: &T, ty: &Type, code: u32) -> Result<(), Fail> {
     refuses_value(alloc, value, ty, code)?;
     if !T::accepts(ty) {

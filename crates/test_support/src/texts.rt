@@ -1,16 +1,16 @@
-//! Texts by Display and Debug.
+//! Texts of `Display` and `Debug`.
 
 use crate::same;
 use std::alloc::Global;
 use std::fmt::{Debug, Display};
 use std::test::Fail;
 
-/// The value's text by Display.
+/// Tests the text of `Display`.
 pub fn displays<T: Display>(alloc: Global, value: &T, text: &str) -> Result<(), Fail> {
     same(format!(in alloc; "{value}")?.as_str(), text)
 }
 
-/// The value's text by Debug.
+/// Tests the text of `Debug`.
 pub fn debugs<T: Debug>(alloc: Global, value: &T, text: &str) -> Result<(), Fail> {
     same(format!(in alloc; "{value:?}")?.as_str(), text)
 }

@@ -1,16 +1,16 @@
-//! Types and times that rows speak of, and which types a conversion accepts.
+//! Types and times for tables, and the types that a conversion accepts.
 
 use crate::same;
 use postgres_types::{Fault, FromSql, Kind, ToSql, Type, UnixTime};
 use std::alloc::Global;
 use std::test::Fail;
 
-/// A user-defined type of kind Simple.
+/// Makes a user-defined type of kind `Simple`.
 pub fn simple_type(alloc: Global, name: &str, oid: u32, schema: &str) -> Result<Type, Fault> {
     user_type(alloc, name, oid, Kind::Simple, schema)
 }
 
-/// A user-defined type.
+/// Makes a user-defined type.
 pub fn user_type(
     alloc: Global,
     name: &str,
@@ -23,7 +23,7 @@ pub fn user_type(
     Type::new(alloc, name, oid, kind, schema)
 }
 
-/// A table of acceptance: both directions accept each type, or neither does.
+/// Tests which types are accepted: both directions accept a type, or neither does.
 pub fn accepts<'a, T: FromSql<'a> + ToSql>(rows: &[(Type, bool)]) -> Result<(), Fail> {
     for (ty, accepted) in rows {
         same(<T as FromSql>::accepts(ty), *accepted)?;
@@ -32,7 +32,7 @@ pub fn accepts<'a, T: FromSql<'a> + ToSql>(rows: &[(Type, bool)]) -> Result<(), 
     Ok(())
 }
 
-/// The time of that second and nanosecond.
+/// Makes the time of that second and nanosecond.
 pub fn unix(secs: i64, nanos: u32) -> Result<UnixTime, Fail> {
     match UnixTime::new(secs, nanos) {
         Some(time) => Ok(time),

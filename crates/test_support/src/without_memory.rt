@@ -1,4 +1,5 @@
-//! Calls that take no memory: with exactly the room of what they append, they answer where every growth is refused.
+//! Calls that do not allocate: with exactly the room for what they append, they succeed while every
+//! allocation fails.
 ghost use Rattle.std.specs.Prelude.{◌≤◌, length};
 
 use crate::code::WAS_NULL;
@@ -8,10 +9,11 @@ use postgres_types::{Fault, FromSql, IsNull, REASON_LEN, ToSql, Type};
 use std::alloc::Global;
 use std::test::Fail;
 
-/// All calls have answered their values, or the name of one that has not.
+/// `Ok` if all calls returned the expected values; otherwise a fault with the name of the one that
+/// did not.
 pub type Answered = Result<(), Fault>;
 
-/// What is said of the call of that name holds.
+/// Returns a fault with that name if the condition is false.
 pub fn yes(answered: bool, name: &'static str) -> Answered
     requires { length name.now ≤ REASON_LEN }
 {
@@ -22,14 +24,14 @@ pub fn yes(answered: bool, name: &'static str) -> Answered
     }
 }
 
-/// A buffer with exactly the room of what is appended, which is at most 64 bytes.
+/// A buffer with exactly the room for what is appended, which is at most 64 bytes.
 #[derive(Debug, Drop)]
 pub struct Target {
     pub out: BytesMut,
 }
 
 impl Target {
-    /// Leaves room for so many bytes.
+    /// Leaves room for `len` bytes.
     pub fn leave(&mut self, len: usize) -> Answered {
         let Some(filled) = self.out.capacity().checked_sub(len) else {
             return Err(Fault::user("the buffer is too small"));
@@ -37,15 +39,15 @@ impl Target {
         yes(self.out.resize(filled, 0).is_ok(), "the buffer has no room")
     }
 
-    /// The cell was appended, and fills the buffer.
+    /// Whether the cell was appended and fills the buffer.
     pub fn has(&self, cell: &[u8]) -> bool {
         self.out.ends_with(cell) && self.out.len() == self.out.capacity()
     }
 }
 
-/// The calls answer their values with exactly the room that they take, and so where every growth is refused.
+/// Tests that the calls succeed with exactly the room that they need, while every allocation fails.
 ///
-/// The stack cannot grow where all address space is taken, so the calls are made before that too.
+/// The stack cannot grow while all address space is taken, so that the calls are made once before.
 pub fn answer_without_memory<F: Fn(Global, &mut Target) -> Answered>(
     alloc: Global,
     calls: F,
@@ -64,7 +66,7 @@ pub fn answer_without_memory<F: Fn(Global, &mut Target) -> Answered>(
     Ok(())
 }
 
-/// The answer is that value.
+/// Whether the result is that value.
 pub fn gives<T: PartialEq + Drop>(found: Result<T, Fault>, value: T) -> bool {
     match found {
         Ok(found) => found == value,
@@ -72,7 +74,7 @@ pub fn gives<T: PartialEq + Drop>(found: Result<T, Fault>, value: T) -> bool {
     }
 }
 
-/// The answer is a value equal to that one.
+/// Whether the result is a value equal to that one.
 fn is_value<T: PartialEq + Drop>(found: Result<T, Fault>, value: &T) -> bool {
     match found {
         Ok(found) => found == *value,
@@ -80,7 +82,7 @@ fn is_value<T: PartialEq + Drop>(found: Result<T, Fault>, value: &T) -> bool {
     }
 }
 
-/// The answer is an option of a value equal to that one.
+/// Whether the result is `Some` of a value equal to that one.
 fn is_some<T: PartialEq + Drop>(found: Result<Option<T>, Fault>, value: &T) -> bool {
     match found {
         Ok(Some(found)) => found == *value,
@@ -88,7 +90,7 @@ fn is_some<T: PartialEq + Drop>(found: Result<Option<T>, Fault>, value: &T) -> b
     }
 }
 
-/// The cell is read as the value, by itself and as an option.
+/// Tests that the cell is read as the value, by a `T` and by an option of it.
 fn reads_cell<'a, T: FromSql<'a> + PartialEq>(
     alloc: Global,
     ty: &Type,
@@ -103,7 +105,7 @@ fn reads_cell<'a, T: FromSql<'a> + PartialEq>(
     yes(is_some(option, value), "from_sql of an option")
 }
 
-/// NULL is refused by a `T`, and is an option of it.
+/// Tests that a `T` refuses NULL, and that an option of it reads it.
 fn reads_null<'a, T: FromSql<'a>>(alloc: Global, ty: &Type) -> Answered {
     let null = fault_code(read::<T>(alloc, ty, None));
     yes(null == WAS_NULL, "from_sql_null")?;
@@ -111,7 +113,8 @@ fn reads_null<'a, T: FromSql<'a>>(alloc: Global, ty: &Type) -> Answered {
     yes(option == 0, "from_sql_null of an option")
 }
 
-/// The value is written as the cell by each call, into a buffer with exactly its room.
+/// Tests that each function for writing writes the value as the cell, into a buffer with exactly
+/// the room for it.
 fn writes_cell<T: ToSql>(
     alloc: Global,
     ty: &Type,
@@ -133,7 +136,7 @@ fn writes_cell<T: ToSql>(
     yes(gives(written, IsNull::No) && target.has(cell), "to_sql")
 }
 
-/// Each row is read and written, and NULL is refused.
+/// Tests that each row is read and written, and that NULL is refused.
 fn answers<'a, T: FromSql<'a> + ToSql + PartialEq>(
     alloc: Global,
     ty: &Type,
@@ -147,8 +150,9 @@ fn answers<'a, T: FromSql<'a> + ToSql + PartialEq>(
     reads_null::<T>(alloc, ty)
 }
 
-/// A table of a format whose values take no memory: where every growth is refused, each cell is read as the value, and
-/// the value is written as the cell into a buffer with exactly its room.
+/// Tests a table of a format whose values are read and written without allocating: while every
+/// allocation fails, each cell is read as the value, and the value is written as the cell into a
+/// buffer with exactly the room for it.
 pub fn takes_no_memory<'a, T: FromSql<'a> + ToSql + PartialEq>(
     alloc: Global,
     ty: &Type,
@@ -157,7 +161,8 @@ pub fn takes_no_memory<'a, T: FromSql<'a> + ToSql + PartialEq>(
     answer_without_memory(alloc, |alloc, target| answers(alloc, ty, rows, target))
 }
 
-/// The value is written as the cell into a buffer with exactly its room, where every growth is refused.
+/// Tests that the value is written as the cell into a buffer with exactly the room for it, while
+/// every allocation fails.
 pub fn writes_by_room<T: ToSql>(
     alloc: Global,
     ty: &Type,
@@ -169,7 +174,7 @@ pub fn writes_by_room<T: ToSql>(
     })
 }
 
-/// Where every growth is refused, NULL is refused by a `T`, and is an option of it.
+/// Tests that, while every allocation fails, a `T` refuses NULL, and an option of it reads it.
 pub fn null_takes_no_memory<'a, T: FromSql<'a>>(alloc: Global, ty: &Type) -> Result<(), Fail> {
     reads_null::<T>(alloc, ty)?;
     let blocks = hoard(alloc)?;

@@ -1,4 +1,4 @@
-//! Rows of writing.
+//! Tables of writing.
 
 use crate::code::WRONG_TYPE;
 use crate::{BEFORE, read, reads, same, simple_type};
@@ -8,7 +8,8 @@ use std::alloc::Global;
 use std::fmt::Debug;
 use std::test::Fail;
 
-/// The value is written as the cell by each call: after what was there, and into an empty buffer.
+/// Tests that each function for writing writes the value as the cell, after the content of a buffer
+/// and into an empty one.
 pub fn writes<T: ToSql>(alloc: Global, value: &T, ty: &Type, cell: &[u8]) -> Result<(), Fail> {
     let mut out = BytesMut::copy_from_slice(alloc, BEFORE)?;
     same(value.to_sql_checked(alloc, ty, &mut out)?, IsNull::No)?;
@@ -20,7 +21,7 @@ pub fn writes<T: ToSql>(alloc: Global, value: &T, ty: &Type, cell: &[u8]) -> Res
     writes_unchecked(alloc, value, ty, cell)
 }
 
-/// Where the type is accepted, the value is written as the cell into an empty buffer.
+/// Tests that the value is written as the cell into an empty buffer, if the type is accepted.
 fn writes_unchecked<T: ToSql>(
     alloc: Global,
     value: &T,
@@ -35,14 +36,15 @@ fn writes_unchecked<T: ToSql>(
     Ok(())
 }
 
-/// The value is written as NULL, which appends nothing.
+/// Tests that the value is written as NULL, which appends nothing.
 pub fn writes_null<T: ToSql>(alloc: Global, value: &T, ty: &Type) -> Result<(), Fail> {
     let mut out = BytesMut::copy_from_slice(alloc, BEFORE)?;
     same(value.to_sql_checked(alloc, ty, &mut out)?, IsNull::Yes)?;
     same(out.as_slice(), BEFORE)
 }
 
-/// Writing the value to that type is refused with the fault of that number, and appends nothing.
+/// Tests that writing the value to that type is refused with the fault of that number, and appends
+/// nothing.
 pub fn refuses_value<T: ToSql>(alloc: Global, value: &T, ty: &Type, code: u32) -> Result<(), Fail> {
     let mut out = BytesMut::copy_from_slice(alloc, BEFORE)?;
     let refused = value.to_sql_checked(alloc, ty, &mut out);
@@ -50,7 +52,7 @@ pub fn refuses_value<T: ToSql>(alloc: Global, value: &T, ty: &Type, code: u32) -
     same(out.as_slice(), BEFORE)
 }
 
-/// A table of refusals: writing each value to the type is refused with the fault of its number.
+/// Tests that writing each value to the type is refused with the fault of its number.
 pub fn refuses_values<T: ToSql>(alloc: Global, ty: &Type, rows: &[(T, u32)]) -> Result<(), Fail> {
     for (value, code) in rows {
         refuses_value(alloc, value, ty, *code)?;
@@ -58,13 +60,15 @@ pub fn refuses_values<T: ToSql>(alloc: Global, ty: &Type, rows: &[(T, u32)]) -> 
     Ok(())
 }
 
-/// The user-defined type odd, which no type of the library accepts, is refused, under that name.
+/// Tests that the user-defined type `odd`, which no type of the library accepts, is refused, with
+/// the Rust type's name in the text of the fault.
 pub fn refuses_odd<T: ToSql>(alloc: Global, value: &T, rust: &str) -> Result<(), Fail> {
     let odd = simple_type(alloc, "odd", 99_999, "public")?;
     refuses_type(alloc, value, &odd, rust)
 }
 
-/// The type is refused, under that name, and nothing is written.
+/// Tests that the type is refused, with the Rust type's name in the text of the fault, and that
+/// nothing is written.
 pub fn refuses_type<T: ToSql>(alloc: Global, value: &T, ty: &Type, rust: &str) -> Result<(), Fail> {
     refuses_value(alloc, value, ty, WRONG_TYPE)?;
     let mut out = BytesMut::new(alloc);
@@ -78,7 +82,7 @@ pub fn refuses_type<T: ToSql>(alloc: Global, value: &T, ty: &Type, rust: &str) -
     same(text.as_str(), expected.as_str())
 }
 
-/// The cell is read as a `T` and written as that other cell.
+/// Tests that the cell is read as a `T` and written as the other cell.
 pub fn rewrites<'a, T: Paired<'a>>(
     alloc: Global,
     ty: &Type,
@@ -90,7 +94,7 @@ pub fn rewrites<'a, T: Paired<'a>>(
     same(out.as_slice(), written)
 }
 
-/// The value is written as the cell, which is read back as that other value.
+/// Tests that the value is written as the cell, and the cell is read back as the other value.
 pub fn reads_back<'a, T: Paired<'a> + PartialEq + Debug>(
     alloc: Global,
     ty: &Type,
@@ -102,7 +106,7 @@ pub fn reads_back<'a, T: Paired<'a> + PartialEq + Debug>(
     reads(alloc, ty, cell, back)
 }
 
-/// A table of a format: each value is written as its cell, and the cell is read as the value.
+/// Tests that each value is written as its cell, and the cell is read as the value.
 pub fn spells<'a, T: FromSql<'a> + ToSql + PartialEq>(
     alloc: Global,
     ty: &Type,

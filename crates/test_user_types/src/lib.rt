@@ -1,4 +1,5 @@
-//! The conversions of the module `odd`, in every wrapper, the types of docs/OWN-TYPES.md, and those of `pg_record`.
+//! The conversions of the module `odd`, in every wrapper, the types of docs/OWN-TYPES.md, and those
+//! of `pg_record`.
 #![tactic(auto)]
 
 #[cfg(test)]

@@ -10,7 +10,7 @@ use super::{Catalog, TypeFault, TypeRow};
 use postgres_types::{Field, Kind, Oid, Type};
 use std::alloc::Global;
 
-/// How the catalog says that a type is built.
+/// The kind of a type, as the system catalogs give it.
 #[derive(Debug, Clone, Copy, PartialEq, Eq)]
 pub(super) enum TypeKind {
     Base,
@@ -24,7 +24,7 @@ pub(super) enum TypeKind {
 }
 
 impl TypeKind {
-    /// The kind of that letter.
+    /// Returns the kind for this letter, or `None` if it is unknown.
     pub(super) fn from_letter(letter: i8) -> Option<TypeKind>
         ensures { result ≡ kind_of_letter letter }
     {
@@ -42,7 +42,8 @@ impl TypeKind {
     }
 }
 
-/// The OIDs of a row's parts: of its elements, of its base type, or of its fields.
+/// Returns the OIDs of the parts of a row: of its elements, of its underlying type, or of its
+/// fields.
 pub(super) fn parts<'r>(row: &'r TypeRow<'_>) -> &'r [Oid] {
     match TypeKind::from_letter(row.kind) {
         Some(TypeKind::Array | TypeKind::Range | TypeKind::Multirange) => {
@@ -54,7 +55,7 @@ pub(super) fn parts<'r>(row: &'r TypeRow<'_>) -> &'r [Oid] {
     }
 }
 
-/// The kind of a row's type, whose parts are in the catalog.
+/// Returns the kind of the type of a row, whose parts are in the catalog.
 #[tactic(auto, using(pg_types::proofs::Fields::composite_content))]
 pub(super) fn kind_of(
     alloc: Global,
@@ -83,7 +84,7 @@ pub(super) fn kind_of(
     }
 }
 
-/// A part of a type: the type of that OID.
+/// Returns a part of a type: the type with this OID.
 fn part(catalog: &Catalog, oid: Oid) -> Result<Type, TypeFault>
     ensures part { IfOk result (λ ty. IsTypeOf (table_of catalog.now) oid (content ty)) }
     ensures why { IfErr result (IsWhyNoPart (table_of catalog.now) oid) }
@@ -97,7 +98,7 @@ fn part(catalog: &Catalog, oid: Oid) -> Result<Type, TypeFault>
     }
 }
 
-/// The labels, owned.
+/// Copies the labels.
 fn labels(alloc: Global, labels: &[&str]) -> Result<Vec<String>, TypeFault>
     ensures labels { IfOk result (λ owned. map string_bytes owned.items ≡ map (λ label. label.now) labels.now) }
     ensures refused { IfErr result (λ fault. fault ≡ Memory) }
@@ -109,7 +110,7 @@ fn labels(alloc: Global, labels: &[&str]) -> Result<Vec<String>, TypeFault>
     Ok(owned)
 }
 
-/// The fields of these names and types.
+/// Creates the fields with these names and types.
 fn fields(
     alloc: Global,
     catalog: &Catalog,
@@ -130,7 +131,7 @@ fn fields(
     Ok(fields)
 }
 
-/// The type of these parts.
+/// Creates a user-defined type from its parts.
 pub(super) fn user_defined(
     alloc: Global,
     name: String,

@@ -1,4 +1,4 @@
-//! The order in which types are made: each after its parts.
+//! The order in which types are made: each one after its parts.
 ghost use Rattle.std.specs.Prelude.{◌≡◌, false, length, IfOk, OnOk};
 ghost use Rattle.pg_client.specs.RowPlaces.{HasPlaces, IsOrderOf};
 
@@ -8,16 +8,16 @@ use postgres_types::Oid;
 use std::alloc::{AllocError, Global};
 use std::collections::BTreeMap;
 
-/// The places of rows.
+/// The order of rows, as indices.
 #[derive(Drop)]
 pub(super) struct Order {
-    /// Those of rows that can be made, each after those of its parts.
+    /// The rows that can be made, each after its parts.
     pub(super) places: Vec<usize>,
-    /// Those of rows that contain themselves, or a row that does.
+    /// The rows that contain themselves, or a row that does.
     pub(super) recursive: Vec<usize>,
 }
 
-/// The order of the rows.
+/// Returns the order of the rows.
 pub(super) fn parts_first(alloc: Global, rows: &[TypeRow<'_>]) -> Result<Order, AllocError>
     ensures { IfOk result (IsOrderOf (length rows.now)) }
 {
@@ -37,7 +37,8 @@ pub(super) fn parts_first(alloc: Global, rows: &[TypeRow<'_>]) -> Result<Order, 
     Ok(Order { places, recursive })
 }
 
-/// For each of so many rows, the places of those that it is a part of: none so far.
+/// Returns an empty list for each of `rows` rows, for the indices of the rows of which it is a
+/// part.
 fn no_users(alloc: Global, rows: usize) -> Result<Vec<Vec<usize>>, AllocError> {
     let mut users = Vec::new(alloc);
     for _ in 0..rows {
@@ -46,7 +47,8 @@ fn no_users(alloc: Global, rows: usize) -> Result<Vec<Vec<usize>>, AllocError> {
     Ok(users)
 }
 
-/// Of each row, how many of its parts are rows, to whose users it is added.
+/// Returns for each row how many of its parts are rows, and adds the row to the users of each of
+/// them.
 fn count_parts(
     alloc: Global,
     rows: &[TypeRow<'_>],
@@ -63,7 +65,7 @@ fn count_parts(
     Ok(counts)
 }
 
-/// The place of each OID's row, the first where there are more.
+/// Returns the index of the row of each OID, the first one if there are more.
 fn places_by_oid(alloc: Global, rows: &[TypeRow<'_>]) -> Result<BTreeMap<Oid, usize>, AllocError> {
     let mut places = BTreeMap::new(alloc);
     for (place, row) in rows.iter().enumerate() {
@@ -72,7 +74,8 @@ fn places_by_oid(alloc: Global, rows: &[TypeRow<'_>]) -> Result<BTreeMap<Oid, us
     Ok(places)
 }
 
-/// Adds the row at that place to the users of those of its parts that are rows: how many they are.
+/// Adds the row at index `place` to the users of those of its parts that are rows. Returns how many
+/// they are.
 fn add_user(
     place: usize,
     parts: &[Oid],
@@ -91,7 +94,8 @@ fn add_user(
     Ok(count)
 }
 
-/// The places of the rows that wait for parts, by how many these are, or of those that do not.
+/// Returns the indices of the rows that wait for parts, according to `counts`, if `wait` is true,
+/// and of the others otherwise.
 fn places_of(alloc: Global, counts: &[usize], wait: bool) -> Result<Vec<usize>, AllocError>
     ensures { IfOk result (λ places. HasPlaces wait counts.now places.items) }
 {
@@ -104,7 +108,7 @@ fn places_of(alloc: Global, counts: &[usize], wait: bool) -> Result<Vec<usize>, 
     Ok(places)
 }
 
-/// A part of these rows has come: those that wait for no other are ready.
+/// Records that a part of these rows is made: those that wait for no other part are ready.
 fn release(users: &[usize], counts: &mut [usize], ready: &mut Vec<usize>) -> Result<(), AllocError>
     ensures length { length counts.new ≡ length counts.old }
     ensures ready { OnOk result (HasPlaces false counts.old ready.old.items
@@ -116,7 +120,7 @@ fn release(users: &[usize], counts: &mut [usize], ready: &mut Vec<usize>) -> Res
     Ok(())
 }
 
-/// A part of that row has come: it is ready where it waits for no other.
+/// Records that a part of this row is made: it is ready if it waits for no other part.
 fn release_one(user: usize, counts: &mut [usize], ready: &mut Vec<usize>) -> Result<(), AllocError>
     ensures length { length counts.new ≡ length counts.old }
     ensures ready { OnOk result (HasPlaces false counts.old ready.old.items

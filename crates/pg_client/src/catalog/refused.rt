@@ -9,13 +9,13 @@ use std::fmt;
 /// Why a row of the catalog makes no type.
 #[derive(Debug, Clone, Copy, PartialEq, Eq, thiserror::Error)]
 pub enum TypeFault {
-    /// Memory was refused.
+    /// An allocation failed.
     #[error("out of memory")]
     Memory,
-    /// The letter of its kind is none of those that a [`TypeRow`](super::TypeRow) may have.
+    /// The letter of its kind is not one of those of a [`TypeRow`](super::TypeRow).
     #[error("unknown kind {0}")]
     Kind(i8),
-    /// A part of it has this OID, which is that of no type of the catalog.
+    /// A part of it has this OID, which no type of the catalog has.
     #[error("no type has OID {0}")]
     Unknown(Oid),
     /// It contains itself, or a type that does.
@@ -24,7 +24,7 @@ pub enum TypeFault {
     /// Its fields have more names than types, or fewer.
     #[error("fields with other numbers of names and types")]
     Fields,
-    /// Another row has its OID.
+    /// Another row has the same OID.
     #[error("another row has its OID")]
     Duplicate,
 }
@@ -56,11 +56,11 @@ pub struct RefusedType {
     pub oid: Oid,
     /// Its name, without the schema.
     pub name: String,
-    /// Why it makes none.
+    /// Why the row makes no type.
     pub fault: TypeFault,
 }
 
-/// Shows the name, the OID and the fault: `type "node" (OID 16400): the type contains itself`.
+/// Writes the name, the OID and the fault: `type "node" (OID 16400): the type contains itself`.
 impl fmt::Display for RefusedType {
     fn fmt<W: fmt::Write>(&self, f: &mut fmt::Formatter<W>) -> fmt::Result {
         let RefusedType { oid, name, fault } = self;

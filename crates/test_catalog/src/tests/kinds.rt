@@ -7,7 +7,7 @@ use std::alloc::Global;
 use std::test::Fail;
 use test_support::{holds, same, user_type};
 
-/// Types of each kind, of which each has parts that come after it or before it.
+/// Types of each kind. Each of them has parts that come after it or before it.
 fn all_kinds(alloc: Global) -> Result<Vec<TypeRow<'static>>, Fail> {
     let mut rows = Vec::new(alloc);
     rows.push(row(alloc, 101, "_purchase", b'a', 102, 0))?;
@@ -29,7 +29,7 @@ fn all_kinds(alloc: Global) -> Result<Vec<TypeRow<'static>>, Fail> {
     Ok(rows)
 }
 
-/// The type of an OID, which is that one.
+/// Tests that the catalog has this type at its OID.
 fn is(catalog: &Catalog, expected: Type) -> Result<(), Fail> {
     let Some(found) = catalog.get(expected.oid()) else {
         return Err(Fail::from("no type"));
@@ -77,7 +77,7 @@ fn purchase(alloc: Global) -> Result<Type, Fail> {
     made(alloc, "purchase", 102, Kind::Composite(fields))
 }
 
-/// The catalog has each of those types.
+/// Tests that the catalog has each of these types.
 fn has_all_kinds(alloc: Global, catalog: &Catalog) -> Result<(), Fail> {
     is(
         catalog,

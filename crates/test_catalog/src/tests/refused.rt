@@ -1,4 +1,4 @@
-//! Rows that make no type, beside others that do.
+//! Rows that make no type, among others that do.
 
 use super::rows::{composite, row};
 use pg_client::catalog::{Catalog, TypeFault, TypeRow};
@@ -7,7 +7,8 @@ use std::alloc::Global;
 use std::test::Fail;
 use test_support::{displays, holds, same};
 
-/// Exactly these rows are refused, in this order and with these faults, and none of them is a type.
+/// Tests that exactly these rows are refused, in this order and with these faults, and that none of
+/// them is a type.
 fn refuses(
     alloc: Global,
     rows: &[TypeRow<'_>],

@@ -5,7 +5,7 @@ use postgres_types::Oid;
 use std::alloc::Global;
 use std::test::Fail;
 
-/// A row of that OID, name and kind, with an element or a base type where it has one.
+/// Returns a row with this OID, name and kind, with an element or a base type if it has one.
 pub(super) fn row<'a>(
     alloc: Global,
     oid: Oid,

@@ -8,7 +8,7 @@ use std::alloc::Global;
 use std::test::Fail;
 use test_support::{hoard, same};
 
-/// What the message has before its parameters: an unnamed portal and an unnamed statement.
+/// The part of the message before the parameters: an unnamed portal and an unnamed statement.
 const BEFORE: [u8; 2] = [0, 0];
 
 #[test]
@@ -132,7 +132,8 @@ fn bind_number(alloc: Global, number: i32, out: &mut BytesMut) -> Result<(), Pla
     bind.finish()
 }
 
-/// What binding one int4 answers and appends where a buffer has so much room, and memory is refused.
+/// Binds one int4 into a buffer with `room` spare bytes while every allocation fails: returns the
+/// result, and what was appended.
 fn bind_into(alloc: Global, room: usize) -> Result<(Result<(), PlacedFault>, Vec<u8>), Fail> {
     bind_number(alloc, 7, &mut BytesMut::new(alloc))?;
     let mut out = BytesMut::with_capacity(alloc, 64)?;

@@ -1,4 +1,4 @@
-//! The rows of a binary COPY: which come, what is refused, and where the reading stands then.
+//! The rows of a binary COPY: which are returned, what is refused, and the position afterwards.
 
 use super::rows::item_columns;
 use pg_client::{Column, CopyFault, CopyRows, HeaderFault, TupleFault};
@@ -7,8 +7,8 @@ use std::alloc::Global;
 use std::test::Fail;
 use test_support::{displays, same};
 
-/// Two rows, 7, `ja` and true, and 8, NULL and false, after a header with a flag that is not critical and an
-/// extension of 3 bytes.
+/// Two rows, 7, `ja` and true, and 8, NULL and false, after a header with a flag that is not
+/// critical and an extension of 3 bytes.
 const COPY: [u8; 64] = [
     b'P', b'G', b'C', b'O', b'P', b'Y', b'\n', 0xff, b'\r', b'\n', 0, //
     0, 0, 0, 1, 0, 0, 0, 3, 0xff, 0xff, 9, //
@@ -17,7 +17,7 @@ const COPY: [u8; 64] = [
     0xff, 0xff,
 ];
 
-/// Where its first tuple begins, its second one, and the trailer.
+/// The offsets of its first tuple, its second one, and the trailer.
 const FIRST: usize = 22;
 
 const SECOND: usize = 43;
@@ -27,10 +27,10 @@ const TRAILER: usize = 62;
 /// A header with no flag and no extension.
 const HEADER: [u8; 19] = *b"PGCOPY\n\xff\r\n\0\0\0\0\0\0\0\0\0";
 
-/// Takes all rows: how many came before the trailer.
+/// Reads all rows, and returns how many there are before the trailer.
 fn count_rows(bytes: &[u8], columns: &[Column]) -> Result<usize, CopyFault> {
     let mut rows = CopyRows::new(bytes, columns)?;
-    // Each row has two bytes at least.
+    // Each row has at least two bytes.
     for _ in bytes {
         if rows.next()?.is_none() {
             break;
@@ -39,7 +39,7 @@ fn count_rows(bytes: &[u8], columns: &[Column]) -> Result<usize, CopyFault> {
     Ok(rows.count())
 }
 
-/// The bytes are no COPY, with that text.
+/// Tests that the bytes are refused with a fault of this text.
 fn is_refused(alloc: Global, bytes: &[u8], text: &str) -> Result<(), Fail> {
     match count_rows(bytes, &item_columns()) {
         Ok(_) => Err(Fail::from("not refused")),
@@ -47,14 +47,14 @@ fn is_refused(alloc: Global, bytes: &[u8], text: &str) -> Result<(), Fail> {
     }
 }
 
-/// The header is refused, with these bytes after the signature.
+/// Tests that a header with these bytes after the signature is refused with a fault of this text.
 fn refuses_header(alloc: Global, flags: &[u8], text: &str) -> Result<(), Fail> {
     let mut bytes = COPY[..11].to_vec(alloc)?;
     bytes.extend_from_slice(flags)?;
     is_refused(alloc, bytes.as_slice(), text)
 }
 
-/// What stands in the place of the second tuple is refused, with that text.
+/// Tests that these bytes are refused in the place of the second tuple, with a fault of this text.
 fn refuses_tuple(alloc: Global, tuple: &[u8], text: &str) -> Result<(), Fail> {
     let mut bytes = COPY[..SECOND].to_vec(alloc)?;
     bytes.extend_from_slice(tuple)?;

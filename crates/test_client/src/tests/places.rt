@@ -20,7 +20,7 @@ fn places_are_counted_from_one(rt: HostRuntime) -> Result<(), Fail> {
     displays(alloc, &fault, "column 3 \"at\": invalid buffer size")
 }
 
-/// Whether a column of a name of so many bytes has it.
+/// Whether a column keeps a name of `len` bytes.
 fn keeps_name(alloc: Global, len: usize) -> Result<bool, Fail> {
     let mut name = String::new(alloc);
     for _ in 0..len {

@@ -17,7 +17,8 @@ fn columns_that_were_not_taken_are_passed_over(rt: HostRuntime) -> Result<(), Fa
     Ok(row.finish(alloc)?)
 }
 
-/// The row of the body does not end, with that text, whether its first column was taken or not.
+/// Tests that ending the row of this body fails with this text, whether its first column was taken
+/// or not.
 fn does_not_end(alloc: Global, body: &[u8], text: &str) -> Result<(), Fail> {
     let columns = item_columns();
     refused(alloc, Row::new(body, &columns)?.finish(alloc), text)?;

@@ -1,4 +1,4 @@
-//! Columns that are refused, and where the row stands then.
+//! Columns that are refused, and the position of the row afterwards.
 
 use super::rows::{ITEM, item_columns};
 use pg_client::{Column, PlacedFault, Row};
@@ -7,7 +7,7 @@ use std::alloc::Global;
 use std::test::Fail;
 use test_support::{displays, hoard, same, simple_type};
 
-/// The text of what was refused.
+/// Returns the text of the fault.
 pub fn refused<T: Drop>(
     alloc: Global,
     answer: Result<T, PlacedFault>,
@@ -19,7 +19,7 @@ pub fn refused<T: Drop>(
     }
 }
 
-/// The column at that place is refused as a `T`, with that text.
+/// Tests that the column at this index is refused as a `T`, with a fault of this text.
 fn refuses_column<'a, T: FromSql<'a>>(
     alloc: Global,
     body: &'a [u8],

@@ -1,4 +1,4 @@
-//! Columns that are read in turn and in any order.
+//! Columns that are read one after another and in any order.
 
 use pg_client::{Column, Row};
 use postgres_types::Type;
@@ -50,7 +50,7 @@ fn columns_are_read_in_any_order(rt: HostRuntime) -> Result<(), Fail> {
     Ok(row.finish(alloc)?)
 }
 
-/// The name in the row, which is borrowed from its body.
+/// Returns the name in the row, borrowed from its body.
 fn name_of<'a>(alloc: Global, body: &'a [u8]) -> Result<Option<&'a str>, Fail> {
     let columns = item_columns();
     let row = Row::new(body, &columns)?;

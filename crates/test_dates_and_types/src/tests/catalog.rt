@@ -5,7 +5,7 @@ use std::borrow::Cow;
 use std::test::Fail;
 use test_support::{displays, holds, same};
 
-/// An OID, its type, the type's name and, of an array, the type of its elements.
+/// An OID, its type, the name of the type and, for an array, the type of its elements.
 type Row = (Oid, Type, &'static str, Option<Type>);
 
 const CATALOG: [Row; 53] = [
@@ -79,7 +79,7 @@ const CATALOG: [Row; 53] = [
     (3807, Type::JSONB_ARRAY, "_jsonb", Some(Type::JSONB)),
 ];
 
-/// The OID names the type, which has that OID and name and is an array of those elements.
+/// Tests that the type of the OID is this one, with this name and, for an array, these elements.
 fn is_in_catalog((oid, ty, name, element): &Row) -> Result<(), Fail> {
     is_of_oid(ty, *oid)?;
     same(ty.name(), *name)?;

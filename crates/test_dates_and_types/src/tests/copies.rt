@@ -30,7 +30,7 @@ fn kinds(alloc: Global) -> Result<Vec<Kind>, Fail> {
     ]?)
 }
 
-/// The kind, and a type of it, have copies.
+/// Tests that the kind, and a type of it, have equal copies.
 fn is_copied(alloc: Global, kind: Kind) -> Result<(), Fail> {
     let copy = kind.try_clone(alloc)?;
     holds(copy == kind, "another kind")?;

@@ -1,4 +1,5 @@
-//! Texts by Debug of types, and of what holds one. Those of a value's type stand with its rows.
+//! Texts of `Debug` of types, and of values that have one. Those of a value's own type are tested
+//! with its rows.
 
 use postgres_types::{Field, Format, IsNull, Kind, Type, WrongType};
 use std::test::Fail;

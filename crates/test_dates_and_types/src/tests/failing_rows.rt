@@ -1,4 +1,4 @@
-//! A row that does not hold fails.
+//! Tests that a helper fails for a row that is wrong.
 
 use postgres_types::{Fault, Type};
 use std::io::Eprint;
@@ -15,7 +15,7 @@ const SEVEN: [u8; 4] = [0, 0, 0, 7];
 
 const EIGHT: [u8; 4] = [0, 0, 0, 8];
 
-/// The row fails. A failure can't be dropped, so it is reported.
+/// Tests that the row fails. A failure cannot be dropped, so it is printed.
 fn fails(rt: &impl Eprint, row: Result<(), Fail>) -> Result<(), Fail> {
     let failed = row.is_err();
     let _status = row.report(rt);

@@ -21,7 +21,7 @@ const LAST: [u8; 8] = [0x7f, 0xff, 0xff, 0xff, 0xff, 0xff, 0xff, 0xff];
 
 const FIRST: [u8; 8] = [0x80, 0, 0, 0, 0, 0, 0, 0];
 
-/// Each cell is read as a `T`, which is written as that cell.
+/// Tests that each cell is read as a `T`, which is written as that cell.
 fn rewrites_all<'a, T: Paired<'a>>(
     alloc: Global,
     ty: &Type,
@@ -63,7 +63,7 @@ fn null_is_no_date(rt: HostRuntime) -> Result<(), Fail> {
     same(format, Format::Binary)
 }
 
-/// The number for a cell that is read.
+/// The number of a cell that is read, and not refused.
 const READ: u32 = 0;
 
 const CELLS_OF_NO_DAY: [(Option<&[u8]>, u32); 4] = [
@@ -102,7 +102,8 @@ const REFUSED_TIMESTAMPS: [(Option<&[u8]>, u32); 4] = [
     (None, WAS_NULL),
 ];
 
-/// Timestamps are written to the type as their cells, which are read back and rewritten; other cells are refused.
+/// Tests that timestamps are written to the type as their cells, which are read back and rewritten,
+/// and that other cells are refused.
 fn spells_timestamps(alloc: Global, ty: &Type) -> Result<(), Fail> {
     let base = unix(946_684_800, 0)?;
     let before = unix(946_684_799, 999_999_000)?;

@@ -9,8 +9,8 @@ use test_support::{
     accepts, debugs, has_cells, has_functions, holds, refuses_type, rewrites, spells,
 };
 
-/// Microseconds, days and months, and their cell. The third row is of
-/// `1 mon 2 days 00:00:03`, the last two are those that PostgreSQL takes for infinities.
+/// Microseconds, days and months, and their cell. The third row is of `1 mon 2 days 00:00:03`, the
+/// last two are those that PostgreSQL reads as infinities.
 const INTERVALS: [((i64, i32, i32), &[u8]); 6] = [
     ((1, 2, 3), b"\0\0\0\0\0\0\0\x01\0\0\0\x02\0\0\0\x03"),
     (
@@ -35,7 +35,7 @@ const INTERVALS: [((i64, i32, i32), &[u8]); 6] = [
     ),
 ];
 
-/// Of these cells the first wants a byte, and the second has one more.
+/// The first cell lacks a byte, and the second one has one more.
 const OTHER_CELLS: [(Option<&[u8]>, u32); 4] = [
     (Some(b"\0\0\0\0\0\0\0\x01\0\0\0\x02\0\0\0"), SIZE),
     (Some(b"\0\0\0\0\0\0\0\x01\0\0\0\x02\0\0\0\x03\0"), SIZE),

@@ -1,4 +1,4 @@
-//! Calls with ample memory, and where all memory is taken.
+//! Calls with enough memory, and while every allocation fails.
 
 use postgres_types::private::BytesMut;
 use postgres_types::{ToSql, Type, from_sql_nullable};
@@ -7,8 +7,8 @@ use std::test::Fail;
 use test_support::code::{MEMORY, WRONG_TYPE};
 use test_support::{hoard, holds, same};
 
-/// The numbers of the faults of five calls: a write into `room`, a write into `full`, a write of
-/// NULL, a reading that takes memory, and a write that is refused for its type.
+/// Returns the numbers of the faults of five calls: a write into `room`, a write into `full`, a
+/// write of NULL, a read that allocates, and a write that is refused because of its type.
 fn codes(alloc: Global, room: &mut BytesMut, full: &mut BytesMut) -> [Option<u32>; 5] {
     let written = 7i32.to_sql(alloc, &Type::INT4, room).err();
     let refused = 7i32.to_sql(alloc, &Type::INT4, full).err();
@@ -18,7 +18,7 @@ fn codes(alloc: Global, room: &mut BytesMut, full: &mut BytesMut) -> [Option<u32
     [written, refused, null, unread, wrong].map(|fault| fault.map(|fault| fault.code()))
 }
 
-/// A write into a buffer with room takes no memory.
+/// A write into a buffer with room does not allocate.
 #[test]
 fn writes_into_room_are_not_refused(rt: HostRuntime) -> Result<(), Fail> {
     let alloc = rt.alloc();

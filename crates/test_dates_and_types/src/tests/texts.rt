@@ -1,4 +1,5 @@
-//! The texts of intervals, dates and timestamps, by `interval_out`, `date_out`, `timestamp_out` and `timestamptz_out`.
+//! The texts of intervals, dates and timestamps, by `interval_out`, `date_out`, `timestamp_out` and
+//! `timestamptz_out`.
 
 use jiff::civil;
 use postgres_types::{Date, Fault, Interval, Timestamp, UnixTime};

@@ -25,7 +25,8 @@ const ROWS: [(i64, u32, [u8; 8]); 5] = [
     (9_224_318_721_654, 775_807_000, LAST),
 ];
 
-/// Each timestamp is written to the type as its cell, which is read back as the timestamp.
+/// Tests that each timestamp is written to the type as its cell, which is read back as the
+/// timestamp.
 fn reads_back_rows(alloc: Global, ty: &Type) -> Result<(), Fail> {
     for (secs, nanos, cell) in ROWS {
         let time = unix(secs, nanos)?;
@@ -91,7 +92,7 @@ fn finer_timestamps_are_truncated_toward_2000(rt: HostRuntime) -> Result<(), Fai
     Ok(())
 }
 
-/// Timestamps of more microseconds than 8 bytes hold.
+/// Timestamps whose microseconds do not fit in 8 bytes.
 const OUT_OF_RANGE: [(i64, u32); 4] = [
     (9_224_318_721_654, 775_808_000),
     (-9_222_425_352_055, 224_191_000),

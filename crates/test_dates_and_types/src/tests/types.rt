@@ -94,7 +94,7 @@ fn type_is_cloned(ty: &Type) -> Result<(), Fail> {
     holds(same_kind_ref(&ty.kind(), &shared.kind()), "another kind")
 }
 
-/// The kind and a type of that kind are cloned as equal ones.
+/// Tests that the kind, and a type of that kind, have equal clones.
 fn is_cloned(alloc: Global, kind: Kind) -> Result<(), Fail> {
     kind_is_cloned(alloc, &kind)?;
     let whole = user_type(alloc, "whole", 16_404, kind, "app")?;
@@ -134,7 +134,7 @@ fn a_type_without_parts_is_cloned(rt: HostRuntime) -> Result<(), Fail> {
     type_is_cloned(&app)
 }
 
-/// The field has that name and type, and is cloned as an equal one.
+/// Tests that the field has this name and type, and an equal clone.
 fn is_field(alloc: Global, field: &Field, name: &str, ty: &Type) -> Result<(), Fail> {
     same(field.name(), name)?;
     same(field.type_(), ty)?;

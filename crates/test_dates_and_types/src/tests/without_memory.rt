@@ -1,4 +1,4 @@
-//! Calls that take no memory, beside reading and writing of values.
+//! Calls that do not allocate, apart from reading and writing of values.
 
 use postgres_types::private::{BytesMut, read_be_i32, read_value};
 use postgres_types::{
@@ -63,7 +63,7 @@ fn integers_and_positions() -> Answered {
 /// The frame of the text `ab`, and a trailing byte.
 const AB: &[u8] = &[0, 0, 0, 2, b'a', b'b', 9];
 
-/// Values are read from the front of a slice.
+/// Reads values from the front of a slice.
 fn first_values(alloc: Global) -> Answered {
     let mut buf = AB;
     let text = read_value::<&str>(alloc, &Type::TEXT, &mut buf);
@@ -84,7 +84,7 @@ fn types_and_positions_are_answered(rt: HostRuntime) -> Result<(), Fail> {
     })
 }
 
-/// Writing NULL answers so, and appends nothing.
+/// Tests that writing NULL returns `IsNull::Yes`, and appends nothing.
 fn writes_null<T: ToSql>(alloc: Global, ty: &Type, target: &mut Target) -> Answered {
     target.leave(0)?;
     let written = None::<T>.to_sql_checked(alloc, ty, &mut target.out);
@@ -101,7 +101,7 @@ fn null_is_written(rt: HostRuntime) -> Result<(), Fail> {
     })
 }
 
-/// A built-in type that is not accepted is refused as such.
+/// Tests that a built-in type that is not accepted is refused with `WrongType`.
 fn refuses_type<T: ToSql>(alloc: Global, value: &T) -> Answered {
     let mut out = BytesMut::new(alloc);
     let checked = value.to_sql_checked(alloc, &Type::CIDR, &mut out);
@@ -110,7 +110,8 @@ fn refuses_type<T: ToSql>(alloc: Global, value: &T) -> Answered {
     yes(fault_code(named) == WRONG_TYPE, "to_sql_checked_as")
 }
 
-/// The list, the map, the text, the bits and the document are refused as parameters of CIDR.
+/// Tests that the list, the map, the text, the bits and the document are refused as parameters of
+/// CIDR.
 fn refuses_types(alloc: Global, map: &Map, list: &Vec<i32>, text: &String) -> Answered {
     refuses_type(alloc, &7i32)?;
     refuses_type(alloc, map)?;

@@ -1,5 +1,6 @@
 //! The composite types of docs/OWN-TYPES.md. The cells are laid out as `record_send` lays them out:
-//! the number of fields, and of each field the OID of its type, the length of its cell and the cell.
+//! the number of fields, and of each field the OID of its type, the length of its cell and the
+//! cell.
 
 use own_types::composite::Purchase;
 use own_types::nested_composite::{Address, Parcel};
@@ -54,7 +55,7 @@ const PARCEL: [&[u8]; 10] = [
     b"\0\0\0\x02\0\0\0\x19\0\0\0\x05Oak 2\0\0\0\x19\0\0\0\x03Ulm",
 ];
 
-/// The parts one after another.
+/// Returns the parts, one after another.
 fn joined(alloc: Global, parts: &[&[u8]]) -> Result<Vec<u8>, Fault> {
     let mut cell = Vec::new(alloc);
     for part in parts {
@@ -175,8 +176,8 @@ fn a_purchase_is_written_and_read(rt: HostRuntime) -> Result<(), Fail> {
     spells(alloc, &purchase_type(alloc)?, &[(value, cell.as_slice())])
 }
 
-/// The cell of a purchase is read and written again. What this asks of the fields takes long to prove, so it stands
-/// alone.
+/// Tests that the cell of a purchase is read and written again. The proof of what this needs of the
+/// fields takes long, so it is a function of its own.
 fn is_rewritten(alloc: Global, ty: &Type, cell: &[u8]) -> Result<(), Fail> {
     rewrites::<Composite<Purchase>>(alloc, ty, cell, cell)
 }
@@ -210,12 +211,12 @@ const NO_ADDRESSES: [(&str, [(&str, Type); 2]); 4] = [
     ("address", [("street", Type::INT4), ("city", Type::TEXT)]),
 ];
 
-/// The type is accepted as that of an address, or is not.
+/// Tests whether the type is accepted as that of an address.
 fn accepts_address(ty: Type, accepted: bool) -> Result<(), Fail> {
     accepts::<Composite<Address>>(&[(ty, accepted)])
 }
 
-/// No composite type of the table is accepted.
+/// Tests that no composite type of the table is accepted.
 fn accepts_none(alloc: Global, rows: &[(&str, [(&str, Type); 2])]) -> Result<(), Fail> {
     for (name, fields) in rows {
         accepts_address(composite(alloc, name, 0x4002, fields)?, false)?;
@@ -284,7 +285,7 @@ fn other_cells_are_refused(rt: HostRuntime) -> Result<(), Fail> {
     refuses::<Composite<Address>>(rt.alloc(), &ty, &OTHER_CELLS)
 }
 
-/// A parcel whose part at that place is another is refused with the fault of that number.
+/// Tests that a parcel with another part at this index is refused with the fault of this number.
 fn refuses_part(alloc: Global, place: usize, part: &[u8], code: u32) -> Result<(), Fail> {
     let mut parts = PARCEL;
     if let Some(at) = parts.get_mut(place) {

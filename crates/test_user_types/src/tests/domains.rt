@@ -1,5 +1,5 @@
-//! Domains by `Newtype`: `percentage` over INT2, `email` over TEXT, a domain over a domain and one over an
-//! enumerated type.
+//! Domains by `Newtype`: `percentage` over INT2, `email` over TEXT, a domain over a domain and one
+//! over an enumerated type.
 ghost use Rattle.postgres_types.specs.Conversion.{ap, codes, int_le, pos, refl, user};
 
 use own_types::domain::{Email, Percentage};

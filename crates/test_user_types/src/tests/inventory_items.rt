@@ -1,4 +1,5 @@
-//! The composite type `InventoryItem`, written by hand and as a view: both answer alike on every row.
+//! The composite type `InventoryItem`, written by hand and as a view: both read and write each row
+//! alike.
 
 use super::view::Item;
 use pg_record::InventoryItem;
@@ -211,7 +212,7 @@ const COMPOSITES: [(&str, [&str; 3], [Type; 3], bool); 8] = [
     ("item", NAMES, ITEM, false),
 ];
 
-/// Those composite types are accepted that the table says.
+/// Tests that exactly those composite types are accepted that the table states.
 fn accepts_items<'a, T: FromSql<'a> + ToSql>(
     alloc: Global,
     rows: &[(&str, [&str; 3], [Type; 3], bool)],
@@ -223,7 +224,7 @@ fn accepts_items<'a, T: FromSql<'a> + ToSql>(
     Ok(())
 }
 
-/// No type of fewer fields is accepted, nor one of another kind.
+/// Tests that neither a type with fewer fields is accepted, nor one of another kind.
 fn accepts_no_other<'a, T: FromSql<'a> + ToSql>(alloc: Global) -> Result<(), Fail> {
     let two = composite(alloc, "InventoryItem", &NAMES[..2], &ITEM[..2])?;
     accepts::<T>(&[(two, false)])?;

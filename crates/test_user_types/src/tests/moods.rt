@@ -48,7 +48,7 @@ fn its_name_and_labels_in_any_order_are_accepted(rt: HostRuntime) -> Result<(), 
     Ok(())
 }
 
-/// A type of its name and of that kind is not accepted.
+/// Tests that a type of this name and another kind is not accepted.
 fn is_no_mood(alloc: Global, kind: Kind) -> Result<(), Fail> {
     let ty = user_type(alloc, "Mood", 100_005, kind, "public")?;
     accepts::<Mood>(&[(ty, false)])

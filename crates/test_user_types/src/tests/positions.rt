@@ -1,4 +1,4 @@
-//! A composite type whose fields are read without memory, and so are its records.
+//! A composite type whose fields are read without allocating, so that its records are too.
 ghost use Rattle.std.specs.Prelude.{[], ◌∷◌};
 ghost use Rattle.postgres_types.specs.CompositeFields.{and, end};
 ghost use Rattle.postgres_types.specs.Conversion.{ap, codes, refl};
@@ -51,7 +51,7 @@ impl Record for Position {
     }
 }
 
-/// No cell of a position is refused for memory.
+/// Reading a cell of a position never fails with `Memory`.
 fn positions_are_read_without_memory() {
     fields_read_without_memory::<Option<PgLsn>, End>();
     fields_read_without_memory::<i32, And<Option<PgLsn>, End>>();

@@ -12,7 +12,7 @@ use std::test::Fail;
 use test_support::code::USER;
 use test_support::{refuses_both, spells, user_type};
 
-/// A number, and one that is refused in writing where it is odd.
+/// A number, and one that is refused in writing if it is odd.
 #[derive(Debug, PartialEq, Drop)]
 struct Pair {
     first: i32,

@@ -25,7 +25,7 @@ const DOMAINS: [(&str, Type, &str, bool); 5] = [
     ("sessionid", Type::BYTEA, "public", false),
 ];
 
-/// Those domains are accepted that the table says.
+/// Tests that exactly those domains are accepted that the table states.
 fn accepts_domains(alloc: Global, rows: &[(&str, Type, &str, bool)]) -> Result<(), Fail> {
     for (name, member, schema, accepted) in rows {
         let kind = Kind::Domain(member.try_clone()?);
@@ -40,7 +40,7 @@ fn a_domain_over_bytea_is_accepted(rt: HostRuntime) -> Result<(), Fail> {
     accepts_domains(rt.alloc(), &DOMAINS)
 }
 
-/// The type is not accepted.
+/// Tests that the type is not accepted.
 fn is_none(ty: Type) -> Result<(), Fail> {
     accepts::<SessionId>(&[(ty, false)])
 }

@@ -163,7 +163,7 @@ const BUILT_IN: [(&str, Type); 14] = [
     ("undo", Type::PG_LSN),
 ];
 
-/// The type `survey`, with the OIDs of the server whose cells stand below: of `level` 0x4001, of
+/// The type `survey`, with the OIDs of the server whose cells are below: of `level` 0x4001, of
 /// `percentage` 0x4008, of `email` 0x400b and of the arrays of `address` 0x400e.
 fn survey_type(alloc: Global) -> Result<Type, Fault> {
     let mut fields = Vec::new(alloc);
@@ -248,7 +248,7 @@ const NULLS: [u8; 316] = [
     0, 0, 1, 0, 0, 0, 1, 0xff, 0xff, 0xff, 0xff, 0, 0, 0x40, 1, 0xff, 0xff, 0xff, 0xff,
 ];
 
-/// And of the same with `'{a,b}'`, `'n'`, `4`, `'2000-01-01 00:00:02+00'`, `'0/1'`, `'a@b'`,
+/// The same, with `'{a,b}'`, `'n'`, `4`, `'2000-01-01 00:00:02+00'`, `'0/1'`, `'a@b'`,
 /// `ARRAY[ROW('Elm 2', 'Ulm')::address, NULL]` and `'staff'`.
 const NO_NULLS: [u8; 380] = [
     0, 0, 0, 0x14, 0, 0, 0, 0x15, 0, 0, 0, 2, 0, 1, 0, 0, 0, 0x17, 0, 0, 0, 4, 0, 0, 0, 2, 0, 0, 0,

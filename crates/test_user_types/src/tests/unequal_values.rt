@@ -1,4 +1,4 @@
-//! Values that differ are not equal, so that the comparisons of the other tests say something.
+//! Values that differ are not equal, so that the comparisons of the other tests can fail.
 
 use super::composites::address;
 use own_types::domain::{Email, Percentage};
@@ -12,7 +12,7 @@ use std::alloc::{AllocError, Global};
 use std::test::Fail;
 use test_support::holds;
 
-/// Each value is equal to itself, and to none of the others.
+/// Tests that each value is equal to itself, and to none of the others.
 fn differ<T: PartialEq>(values: &[T]) -> Result<(), Fail> {
     for (place, value) in values.iter().enumerate() {
         for (other_place, other) in values.iter().enumerate() {

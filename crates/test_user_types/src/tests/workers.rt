@@ -64,7 +64,7 @@ pub fn domain(alloc: Global, name: &str, oid: u32, underlying: Type) -> Result<T
     user_type(alloc, name, oid, Kind::Domain(underlying), "public")
 }
 
-/// The type `worker`, with the OIDs of the server whose cells stand below: of `level` 0x4001, of
+/// The type `worker`, with the OIDs of the server whose cells are below: of `level` 0x4001, of
 /// `percentage` 0x4008, of `email` 0x400b and of its arrays 0x400a.
 fn worker_type(alloc: Global) -> Result<Type, Fault> {
     let email = domain(alloc, "email", 0x400b, Type::TEXT)?;

@@ -28,7 +28,7 @@ const NUMBERS: [u8; 36] = [
     4, 0, 0, 0, 4,
 ];
 
-/// The cell is rewritten as itself, alone, in an option and in a box.
+/// Tests that the cell is rewritten as itself, alone, in an option and in a box.
 fn is_kept<'a, T: Paired<'a>>(alloc: Global, ty: &Type, cell: &'a [u8]) -> Result<(), Fail> {
     rewrites::<T>(alloc, ty, cell, cell)?;
     rewrites::<Option<T>>(alloc, ty, cell, cell)?;
@@ -36,7 +36,7 @@ fn is_kept<'a, T: Paired<'a>>(alloc: Global, ty: &Type, cell: &'a [u8]) -> Resul
     rewrites::<Option<Box<T>>>(alloc, ty, cell, cell)
 }
 
-/// The array of two elements is rewritten as itself, in each type of list that grows.
+/// Tests that the array of two elements is rewritten as itself, in each type of list that grows.
 fn is_kept_in_lists<'a, T: Paired<'a>>(
     alloc: Global,
     ty: &Type,
@@ -47,7 +47,7 @@ fn is_kept_in_lists<'a, T: Paired<'a>>(
     rewrites::<Vec<Option<Box<T>>>>(alloc, ty, cell, cell)
 }
 
-/// Infinity is rewritten as itself, alone, in an option and in a box.
+/// Tests that infinity is rewritten as itself, alone, in an option and in a box.
 fn keeps_infinity<'a, T: Finite<'a>>(alloc: Global, cell: &'a [u8]) -> Result<(), Fail> {
     is_kept::<Timestamp<T>>(alloc, &Type::TIMESTAMP, cell)
 }

@@ -43,7 +43,7 @@ const DAMAGED: [(Option<&[u8]>, u32); 10] = [
 /// A cell of 3 bits whose padding is not 0.
 const PADDED: [u8; 5] = [0, 0, 0, 3, 0xbf];
 
-/// The list of these bits.
+/// Returns the bit string of these bits.
 fn list(alloc: Global, bits: &[bool]) -> Result<BitVec, Fault> {
     let mut list = BitVec::new(alloc);
     for bit in bits {
@@ -96,7 +96,7 @@ fn appended_bits_have_no_padding_but_0(rt: HostRuntime) -> Result<(), Fail> {
     same(out.as_slice(), [0u8, 0, 0, 9, 0xff, 0x80].as_slice())
 }
 
-/// Nine bits, of which each third is set.
+/// Returns nine bits, of which every third is 1.
 fn thirds(alloc: Global) -> Result<BitVec, Fault> {
     let mut bits = BitVec::new(alloc);
     for i in 0..9 {
@@ -162,7 +162,8 @@ fn many_bits_are_pushed(rt: HostRuntime) -> Result<(), Fail> {
     same(bits.to_bytes(rt.alloc())?.len(), 125)
 }
 
-/// A bit string of 1 MB. Where memory suffices it is written and read, which no contract says.
+/// A bit string of 1 MB. If there is enough memory it is written and read, which no contract
+/// states.
 #[test]
 fn long_bits_are_written_and_read(rt: HostRuntime) -> Result<(), Fail> {
     let alloc = rt.alloc();

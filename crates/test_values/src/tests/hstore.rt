@@ -19,7 +19,7 @@ type Map = HashMap<String, Option<String>>;
 /// The same with another hasher.
 type SipMap = HashMap<String, Option<String>, BuildHasherDefault<DefaultHasher>>;
 
-/// A key and its value, of which `None` is NULL.
+/// A key and its value (`None` is NULL).
 type Entry = (&'static str, Option<&'static str>);
 
 /// a => 1, a => NULL
@@ -61,7 +61,7 @@ fn put(alloc: Global, map: &mut Map, key: &str, value: Option<&str>) -> Result<(
     Ok(())
 }
 
-/// The map of these entries.
+/// Returns the map of these entries.
 fn map_of(alloc: Global, entries: &[Entry]) -> Result<Map, AllocError> {
     let mut map = Map::new(alloc);
     for (key, value) in entries {
@@ -70,7 +70,7 @@ fn map_of(alloc: Global, entries: &[Entry]) -> Result<Map, AllocError> {
     Ok(map)
 }
 
-/// What the map has at the key, where it has the key.
+/// Returns the value of the key, if the map has the key.
 fn value_of<'m>(map: &'m Map, key: &str) -> Option<Option<&'m str>> {
     map.get(key)
         .map(|value| value.as_ref().map(|text| text.as_str()))
@@ -95,7 +95,7 @@ const WRITTEN: [(&[Entry], &[u8]); 3] = [
     (&[("a", Some("b")), ("c", None)], &TWO),
 ];
 
-/// The map of these entries is written as the cell.
+/// Tests that the map of these entries is written as the cell.
 fn writes_map(alloc: Global, ty: &Type, entries: &[Entry], cell: &[u8]) -> Result<(), Fail> {
     let map = map_of(alloc, entries)?;
     writes(alloc, &map, ty, cell)
@@ -110,10 +110,10 @@ fn maps_are_written_in_key_order(rt: HostRuntime) -> Result<(), Fail> {
     Ok(())
 }
 
-/// What a map has at keys; `None` where it has no such key.
+/// Keys and their values in a map; `None` if the map has no such key.
 type Values = &'static [(&'static str, Option<Option<&'static str>>)];
 
-/// Cells, how many keys their maps have, and what these have at keys.
+/// Cells, the number of keys of their maps, and the values of some keys.
 const READ: [(&[u8], usize, Values); 4] = [
     (&TWICE, 1, &[("a", Some(None))]),
     (b"\0\0\0\x01\0\0\0\x01a\x80\0\0\0", 1, &[("a", Some(None))]),
@@ -134,7 +134,7 @@ fn has_values(map: &Map, len: usize, values: Values) -> Result<(), Fail> {
     Ok(())
 }
 
-/// The cell is read as a map of so many keys, which has the values.
+/// Tests that the cell is read as a map with this number of keys and these values.
 fn reads_map(alloc: Global, ty: &Type, row: (&[u8], usize, Values)) -> Result<(), Fail> {
     let (cell, len, values) = row;
     let map: Map = read(alloc, ty, Some(cell))?;
@@ -150,7 +150,7 @@ fn maps_are_read(rt: HostRuntime) -> Result<(), Fail> {
     Ok(())
 }
 
-/// Damaged cells and the fault of the first check that fails; 0 where the cell is read.
+/// Damaged cells and the fault of the first check that fails; 0 if the cell is read.
 const DAMAGED: [(Option<&[u8]>, u32); 16] = [
     (Some(&[]), SIZE),
     (Some(&[0, 0, 0]), SIZE),
@@ -178,7 +178,7 @@ fn a_damaged_cell_is_refused_by_its_first_check(rt: HostRuntime) -> Result<(), F
     refuses::<Map>(alloc, &Type::TEXT, &[(Some(&NULL), USER)])
 }
 
-/// The cell begins with these entries; answers those that follow.
+/// Tests that the cell begins with these entries, and returns the others.
 fn begins<'a>(alloc: Global, cell: &'a [u8], first: &[Entry]) -> Result<HstoreEntries<'a>, Fail> {
     let mut entries = hstore_from_sql(alloc, cell)?;
     for entry in first {
@@ -187,7 +187,7 @@ fn begins<'a>(alloc: Global, cell: &'a [u8], first: &[Entry]) -> Result<HstoreEn
     Ok(entries)
 }
 
-/// No entry follows, however often it is called.
+/// Tests that no entry follows, however often `next` is called.
 fn ends(entries: &mut HstoreEntries<'_>) -> Result<(), Fail> {
     for _ in 0..2 {
         holds(entries.next().is_none(), "no entry")?;
@@ -216,7 +216,7 @@ fn entries_are_written_in_their_order(rt: HostRuntime) -> Result<(), Fail> {
     same(out.as_slice(), UNSORTED.as_slice())
 }
 
-/// The two entries of a cell come in their order.
+/// Tests that the two entries of a cell are returned in their order.
 fn gives_both(alloc: Global) -> Result<(), Fault> {
     let Ok(mut entries) = hstore_from_sql(alloc, &TWO) else {
         return Err(Fault::user("hstore_from_sql"));

@@ -12,14 +12,14 @@ use test_support::{
     refuses_fronts, refuses_odd, same, simple_type, writes,
 };
 
-/// A JSONB cell: the version, and the text.
+/// Returns a JSONB cell: the version, and the text.
 fn jsonb(alloc: Global, text: &[u8]) -> Result<BytesMut, Fail> {
     let mut cell = BytesMut::copy_from_slice(alloc, &[1])?;
     cell.extend_from_slice(text)?;
     Ok(cell)
 }
 
-/// The text is read as the document, of JSON and of JSONB.
+/// Tests that the text is read as the document, from JSON and from JSONB.
 fn reads_document(alloc: Global, text: &str, document: Value) -> Result<(), Fail> {
     reads(alloc, &Type::JSON, text.as_bytes(), document.clone()?)?;
     let cell = jsonb(alloc, text.as_bytes())?;
@@ -53,7 +53,7 @@ fn objects_are_read(rt: HostRuntime) -> Result<(), Fail> {
     reads_document(alloc, "{\"a\":1.5,\"a\":2}", json!(in alloc; {"a": 2})?)
 }
 
-/// The document is written as the text, to JSON and to JSONB.
+/// Tests that the document is written as the text, to JSON and to JSONB.
 fn writes_document(alloc: Global, document: &Value, text: &str) -> Result<(), Fail> {
     writes(alloc, document, &Type::JSON, text.as_bytes())?;
     let cell = jsonb(alloc, text.as_bytes())?;
@@ -105,7 +105,7 @@ fn spaces_and_the_order_of_keys_are_not_kept(rt: HostRuntime) -> Result<(), Fail
     Ok(())
 }
 
-/// Texts that are no document, and texts with a number that is no integer of 64 bits.
+/// Texts that are not JSON, and texts with a number that is neither an `i64` nor a `u64`.
 const REFUSED_TEXTS: [(&[u8], u32); 29] = [
     (b"", JSON_TEXT),
     (b"{", JSON_TEXT),
@@ -176,7 +176,7 @@ fn jsonb_has_a_version_and_json_has_none(rt: HostRuntime) -> Result<(), Fail> {
     refuses::<Value>(alloc, &Type::TEXT, &[(Some(b"{}"), USER)])
 }
 
-/// Depths of arrays, and the fault; 0 where the text is read.
+/// Depths of arrays, and the fault; 0 if the text is read.
 const DEPTHS: [(u8, u32); 2] = [(127, 0), (128, JSON_TEXT)];
 
 #[test]
@@ -193,7 +193,7 @@ fn arrays_nest_at_most_127_deep(rt: HostRuntime) -> Result<(), Fail> {
     Ok(())
 }
 
-/// The document has a number that is no integer of 64 bits, and is not written.
+/// Tests that the document, which has a number that is neither an `i64` nor a `u64`, is refused.
 fn refuses_number(alloc: Global, document: &Value) -> Result<(), Fail> {
     refuses_both(alloc, document, &Type::JSON, JSON_NUMBER)?;
     refuses_both(alloc, document, &Type::JSONB, JSON_NUMBER)
@@ -236,7 +236,7 @@ fn make_moon(alloc: Global) -> Result<Moon, Fail> {
     })
 }
 
-/// The document that the moon's text is read as.
+/// Reads the document of the moon's text.
 fn read_moon(alloc: Global) -> Result<Value, Fail> {
     let text = serde_json::to_string(alloc, &make_moon(alloc)?)?;
     Ok(read(alloc, &Type::JSON, Some(text.as_str().as_bytes()))?)
@@ -266,7 +266,8 @@ fn null_is_no_document_without_memory(rt: HostRuntime) -> Result<(), Fail> {
     null_takes_no_memory::<Value>(rt.alloc(), &Type::JSON)
 }
 
-/// A JSON text of one string, of 1 MB. Where memory suffices it is read and written, which no contract says.
+/// A JSON text of one string, of 1 MB. If there is enough memory it is read and written, which no
+/// contract states.
 #[test]
 fn long_documents_are_read_and_written(rt: HostRuntime) -> Result<(), Fail> {
     let alloc = rt.alloc();

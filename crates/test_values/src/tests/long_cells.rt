@@ -1,4 +1,5 @@
-//! Texts and bytes of 2 MB. Where memory suffices they are written and read, which no contract says.
+//! Texts and bytes of 2 MB. If there is enough memory they are written and read, which no contract
+//! states.
 
 use postgres_types::private::BytesMut;
 use postgres_types::{IsNull, ToSql, Type};
@@ -6,15 +7,15 @@ use std::alloc::Global;
 use std::test::Fail;
 use test_support::{holds, read, same};
 
-/// How many bytes a cell has.
+/// The length of a cell, in bytes.
 const LEN: usize = 2_097_152;
 
-/// So many times the letter `x`.
+/// Returns a cell of the letter `x`, `LEN` times.
 fn long_cell(alloc: Global) -> Result<Vec<u8>, Fail> {
     Ok(vec![in alloc; b'x'; LEN]?)
 }
 
-/// The value is written as the cell.
+/// Tests that the value is written as the cell.
 fn is_written<T: ToSql>(alloc: Global, value: &T, ty: &Type, cell: &[u8]) -> Result<(), Fail> {
     let mut out = BytesMut::new(alloc);
     same(value.to_sql_checked(alloc, ty, &mut out)?, IsNull::No)?;

@@ -1,4 +1,5 @@
-//! A map of 10,000 entries. Where memory suffices it is written and read, which no contract says.
+//! A map of 10,000 entries. If there is enough memory it is written and read, which no contract
+//! states.
 
 use postgres_types::private::BytesMut;
 use postgres_types::{IsNull, ToSql};
@@ -9,10 +10,11 @@ use test_support::{holds, read, same, simple_type};
 
 type Map = HashMap<String, Option<String>>;
 
-/// How many entries the map has.
+/// The number of entries of the map.
 const ENTRIES: u32 = 10_000;
 
-/// The length of its cell: a count, and for each entry a length, a key of 4 digits, and the length of NULL.
+/// The length of its cell: a count, and for each entry a length, a key of 4 digits, and the length
+/// of NULL.
 const CELL_LEN: usize = 120_004;
 
 /// The map of `0000` to `9999` to NULL.

@@ -1,4 +1,4 @@
-//! Log positions: their texts, their order and their cells.
+//! Log sequence numbers: their texts, their order and their cells.
 
 use pg_base::lsn::laws::{position_order, position_text_parses, same_position};
 use postgres_types::protocol::{lsn_from_sql, lsn_to_sql};
@@ -10,7 +10,7 @@ use test_support::{
     debugs, displays, has_cells, has_functions, holds, reads, refuses, refuses_odd, same,
 };
 
-/// A text, the position that it is parsed to, and the text of that.
+/// A text, the number that it is parsed to, and the text of that.
 const POSITIONS: [(&str, u64, &str); 9] = [
     ("16/B374D848", 0x16_B374_D848, "16/B374D848"),
     ("16/b374d848", 0x16_B374_D848, "16/B374D848"),
@@ -46,7 +46,7 @@ const DAMAGED: [(Option<&[u8]>, u32); 2] = [
     (None, WAS_NULL),
 ];
 
-/// The number of the position that the text is parsed to.
+/// Returns the number that the text is parsed to.
 fn parsed(text: &str) -> Option<u64> {
     match text.parse::<PgLsn>() {
         Ok(lsn) => Some(u64::from(lsn)),

@@ -38,7 +38,7 @@ const NETWORK: [u8; 8] = [2, 8, 0, 4, 10, 0, 0, 0];
 /// The same, with the flag that PostgreSQL sets in a CIDR.
 const FLAGGED: [u8; 8] = [2, 8, 1, 4, 10, 0, 0, 0];
 
-/// What INET and CIDR cells are refused with; 0 where they are read.
+/// Cells of INET and CIDR, and the faults with which they are refused; 0 if they are read.
 const DAMAGED: [(Option<&[u8]>, u32); 11] = [
     (Some(&[2, 8, 0]), SIZE),
     (Some(&[4, 0x21, 0, 4, 10, 0, 0, 0]), FAMILY),
@@ -68,7 +68,8 @@ const DAMAGED: [(Option<&[u8]>, u32); 11] = [
     (None, WAS_NULL),
 ];
 
-/// A length, an IPv4 address, and what the network of both is refused with; 0 where it is made.
+/// A length, an IPv4 address, and the fault with which their network is refused; 0 if it is
+/// created.
 const NETWORKS: [(u8, [u8; 4], u32); 8] = [
     (8, [10, 1, 2, 3], HOST_BITS),
     (0, [0, 0, 0, 0], 0),
@@ -80,7 +81,8 @@ const NETWORKS: [(u8, [u8; 4], u32); 8] = [
     (32, [10, 1, 2, 3], 0),
 ];
 
-/// A length, the last byte of an address 2001:db8::n, and what the network is refused with.
+/// A length, the last byte of an address 2001:db8::n, and the fault with which the network is
+/// refused.
 const NETWORKS_V6: [(u8, u8, u32); 6] = [
     (64, 0, 0),
     (64, 1, HOST_BITS),

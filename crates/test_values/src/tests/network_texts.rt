@@ -1,4 +1,5 @@
-//! The texts of addresses: what Display writes, by `inet_out`, `cidr_out` and `macaddr_out`, and what FromStr reads.
+//! The texts of addresses: `Display` writes them as `inet_out`, `cidr_out` and `macaddr_out`, and
+//! `FromStr` parses them.
 
 use postgres_types::{Fault, IpCidr, IpInet, MacAddress};
 use std::alloc::Global;
@@ -76,7 +77,7 @@ const NO_MACS: [&str; 7] = [
     "8:0:2b:1:2:3",
 ];
 
-/// Each text is read as a value that has this text.
+/// Tests that each text is parsed to a value with this text.
 fn are_shown<T: FromStr<Err = Fault> + Display + Drop>(
     alloc: Global,
     texts: &[&str],
@@ -87,7 +88,7 @@ fn are_shown<T: FromStr<Err = Fault> + Display + Drop>(
     Ok(())
 }
 
-/// Each text is refused with this fault.
+/// Tests that each text is refused with this fault.
 fn are_refused<T: FromStr<Err = Fault> + Drop>(texts: &[(&str, u32)]) -> Result<(), Fail> {
     for (text, code) in texts {
         same(fault_code(text.parse::<T>()), *code)?;

@@ -1,4 +1,4 @@
-//! What a client makes of NULL, of a refused cell, and of refused memory.
+//! How a client handles NULL, a refused cell, and a failed allocation.
 
 use postgres_types::private::BytesMut;
 use postgres_types::{Fault, Type, frame_value, from_sql_nullable};
@@ -7,7 +7,7 @@ use std::test::Fail;
 use test_support::code::{SIZE, USER, WAS_NULL};
 use test_support::{holds, same};
 
-/// What there is to say of a column `note text`.
+/// Returns a text for the value of a column `note text`.
 fn describe_note(alloc: Global, cell: Option<&[u8]>) -> Result<&'static str, Fault> {
     let note: Option<&str> = from_sql_nullable(alloc, &Type::TEXT, cell)?;
     match note {
@@ -23,13 +23,13 @@ fn read_port(alloc: Global, cell: Option<&[u8]>) -> Result<u16, Fault> {
     u16::try_from(number).map_err(|_| Fault::user("no port"))
 }
 
-/// What a log says of a refused column: `column 2: fault 4, invalid buffer size`.
+/// Returns a line for a log about a refused column: `column 2: fault 4, invalid buffer size`.
 fn log_line(alloc: Global, column: usize, fault: &Fault) -> Result<String, AllocError> {
     let code = fault.code();
     format!(in alloc; "column {column}: fault {code}, {fault}")
 }
 
-/// What is to be done after a write.
+/// What to do after a write.
 #[derive(Debug, Clone, Copy, PartialEq, Eq)]
 enum Next {
     Send,
@@ -37,7 +37,8 @@ enum Next {
     Refuse,
 }
 
-/// Appends the frame of a port. Whatever is refused leaves the buffer as it was, so the write can be tried again.
+/// Appends the frame of a port. A refusal leaves the buffer as it was, so the write can be tried
+/// again.
 fn append_port(alloc: Global, port: u16, out: &mut BytesMut) -> Next {
     match frame_value(alloc, &i32::from(port), &Type::INT4, out) {
         Ok(()) => Next::Send,

@@ -1,4 +1,4 @@
-//! The cells of an array, in place and appended.
+//! The cells of an array, read in place and appended.
 
 use super::cells::{NO_DIMENSION, NULL, ONE_AND_TWO, TRAILING_BYTE};
 use postgres_types::Fault;
@@ -13,7 +13,7 @@ const ONE: Option<&[u8]> = Some(&[0, 0, 0, 1]);
 
 const TWO: Option<&[u8]> = Some(&[0, 0, 0, 2]);
 
-/// The elements come in their order.
+/// Tests that these elements are returned in their order.
 fn gives(cells: &mut ArrayCells, elements: &[Option<&[u8]>]) -> Result<(), Fail> {
     for element in elements {
         same(cells.next().transpose()?, Some(*element))?;
@@ -21,13 +21,13 @@ fn gives(cells: &mut ArrayCells, elements: &[Option<&[u8]>]) -> Result<(), Fail>
     Ok(())
 }
 
-/// There is no next element, even where one asks twice.
+/// Tests that there is no next element, also at a second call.
 fn ends(cells: &mut ArrayCells) -> Result<(), Fail> {
     same(cells.next().is_none(), true)?;
     same(cells.next().is_none(), true)
 }
 
-/// The next answer is `Size`, and then there is none.
+/// Tests that the next element is refused with `Size`, and that there is none after it.
 fn fails_and_ends(cells: &mut ArrayCells) -> Result<(), Fail> {
     let Some(Err(fault)) = cells.next() else {
         return Err(Fail::from("a damaged element is taken"));
@@ -86,7 +86,7 @@ fn an_array_of_null_is_appended(rt: HostRuntime) -> Result<(), Fail> {
     same(out.as_slice(), cell.as_slice())
 }
 
-/// The two elements of the array come in their order.
+/// Tests that the two elements of the array are returned in their order.
 fn gives_both(alloc: Global) -> Result<(), Fault> {
     let Ok(mut cells) = array_from_sql(alloc, &ONE_AND_TWO) else {
         return Err(Fault::user("array_from_sql"));

@@ -10,7 +10,8 @@ use std::test::Fail;
 use test_support::code::{TRANSMIT, WRONG_TYPE};
 use test_support::{binds, same, unix};
 
-/// Appends what a Bind message holds of its parameters. A refusal leaves the buffer as it was.
+/// Appends the part of a Bind message that has the parameters. A refusal leaves the buffer as it
+/// was.
 fn bind_params(
     alloc: Global,
     params: &[Box<dyn ToSql>],
@@ -27,8 +28,8 @@ fn bind_params(
     bound
 }
 
-/// Appends the number of the parameters' formats and a code for each, the number of the
-/// parameters, and their frames.
+/// Appends the number of format codes and a code for each parameter, the number of parameters, and
+/// their frames.
 fn append_params(
     alloc: Global,
     params: &[Box<dyn ToSql>],
@@ -58,7 +59,8 @@ const MESSAGE: [u8; 28] = [
     0, 3, 0, 0, 0, 4, 0, 0, 0, 7, 0, 0, 0, 2, 0x6a, 0x61, 0xff, 0xff, 0xff, 0xff,
 ];
 
-/// The parameter at that place is refused with the fault of that number, and nothing is appended.
+/// Tests that the parameter at this index is refused with the fault of this number, and nothing is
+/// appended.
 fn refuses_param(
     alloc: Global,
     params: &[Box<dyn ToSql>],
@@ -95,7 +97,7 @@ fn no_parameters_are_no_frames(rt: HostRuntime) -> Result<(), Fail> {
     binds(rt.alloc(), &[], &[], &[])
 }
 
-/// How many parameters a long list has.
+/// The number of parameters of a long list.
 const MANY: i32 = 300;
 
 #[test]

@@ -1,4 +1,4 @@
-//! Cells of arrays that several tests read or write.
+//! Cells of arrays for several tests.
 
 /// The `INT4_ARRAY` of 1 and 2.
 pub const ONE_AND_TWO: [u8; 36] = [
@@ -31,7 +31,7 @@ pub const INFINITY: [u8; 28] = [
     0xff,
 ];
 
-/// The array of two `INT2_VECTOR`s, of 5 and of nothing.
+/// The array of two `INT2_VECTOR`s, one with 5 and an empty one.
 pub const VECTORS: [u8; 74] = [
     0, 0, 0, 1, 0, 0, 0, 0, 0, 0, 0, 0x16, 0, 0, 0, 2, 0, 0, 0, 1, //
     0, 0, 0, 0x1a, 0, 0, 0, 1, 0, 0, 0, 0, 0, 0, 0, 0x15, 0, 0, 0, 1, 0, 0, 0, 0, //

@@ -1,4 +1,4 @@
-//! Damaged cells of arrays, as lists of each kind.
+//! Damaged cells of arrays, read as each kind of list.
 
 use super::cells::{NULL, ONE_AND_TWO};
 use postgres_types::private::read_value;
@@ -18,7 +18,8 @@ fn fronts_of_arrays_are_refused(rt: HostRuntime) -> Result<(), Fail> {
     refuses_fronts::<Box<Vec<i32>>>(alloc, &Type::INT4_ARRAY, &ONE_AND_TWO, &[])
 }
 
-/// Two elements of at most 2,147,483,647, a negative number of dimensions, and no dimension with a trailing byte.
+/// Two elements of at most 2,147,483,647, a negative number of dimensions, and no dimension with a
+/// trailing byte.
 const ARRAYS: [(Option<&[u8]>, u32); 3] = [
     (
         Some(b"\0\0\0\x01\0\0\0\0\0\0\0\x17\x7f\xff\xff\xff\0\0\0\x01"),
@@ -55,7 +56,8 @@ fn framed(last_len: u8) -> [u8; 41] {
     ]
 }
 
-/// Reading a list from the front of the bytes gives it, or the fault of that number, and leaves the trailing byte.
+/// Tests that reading a list from the front of the bytes gives it, or the fault of this number, and
+/// leaves the trailing byte.
 fn takes(alloc: Global, bytes: &[u8], answer: Result<Vec<i32>, u32>) -> Result<(), Fail> {
     let mut buf = bytes;
     let found: Result<Vec<i32>, Fault> = read_value(alloc, &Type::INT4_ARRAY, &mut buf);

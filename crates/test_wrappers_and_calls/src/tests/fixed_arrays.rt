@@ -75,7 +75,8 @@ fn reads_numbers(alloc: Global) -> Result<(), Fail> {
     reads(alloc, &INTS, &EMPTY, none)
 }
 
-/// Arrays of elements that take no memory are read; reading a list of them answers that number.
+/// Tests that arrays of elements that do not allocate are read, and that an array is refused as a
+/// list with the fault of this number, or read if it is 0.
 fn reads_in_place(alloc: Global, list: u32) -> Result<(), Fail> {
     reads_numbers(alloc)?;
     reads(alloc, &Type::TEXT_ARRAY, &TEXTS, ["ab", ""])?;
@@ -101,7 +102,8 @@ fn null_is_no_list_without_memory(rt: HostRuntime) -> Result<(), Fail> {
     null_takes_no_memory::<[i32; 2]>(rt.alloc(), &INTS)
 }
 
-/// How many bytes the long text has: room for one such text is let go below, and not for two.
+/// The length of the long text: the memory that is freed below is enough for one such text, and not
+/// for two.
 const LONG: usize = 2_500_000;
 
 /// The array of a long text and of a byte that is no text.
@@ -115,7 +117,8 @@ fn long_text_then_none(alloc: Global) -> Result<Vec<u8>, Fail> {
     Ok(cell)
 }
 
-/// Reads the array of texts twice, with room for one of them: the numbers of the faults.
+/// Reads the array of texts twice, with memory for one of them, and returns the numbers of the
+/// faults.
 fn refusals(alloc: Global, cell: &[u8]) -> [u32; 2] {
     let first = refusal::<[String; 2]>(alloc, &Type::TEXT_ARRAY, Some(cell));
     let second = refusal::<[String; 2]>(alloc, &Type::TEXT_ARRAY, Some(cell));

@@ -34,14 +34,15 @@ const ARRAY: [u8; 41] = [
     0, 1, 0, 0, 0, 4, 0, 0, 0, 2, 0xaa,
 ];
 
-/// The same, where the length of the last element is greater by 1 than the bytes that follow.
+/// The same, but the length of the last element is greater by 1 than the number of bytes that
+/// follow.
 const TRUNCATED_ARRAY: [u8; 41] = [
     0, 0, 0, 0x24, 0, 0, 0, 1, 0, 0, 0, 0, 0, 0, 0, 0x17, 0, 0, 0, 2, 0, 0, 0, 1, 0, 0, 0, 4, 0, 0,
     0, 1, 0, 0, 0, 5, 0, 0, 0, 2, 0xaa,
 ];
 
-/// Reading a framed cell from the front of the bytes gives that value, or the fault of that number,
-/// and leaves the rest.
+/// Tests that reading a framed cell from the front of the bytes gives this value, or the fault of
+/// this number, and leaves the rest.
 fn takes<'a, T: FromSql<'a> + PartialEq + Debug>(
     alloc: Global,
     ty: &Type,

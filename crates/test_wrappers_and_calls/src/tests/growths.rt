@@ -1,4 +1,4 @@
-//! Growths that are refused while values are read from the front of a slice.
+//! Allocations that fail while values are read from the front of a slice.
 
 use postgres_types::Type;
 use postgres_types::private::read_values;
@@ -7,14 +7,15 @@ use std::test::Fail;
 use test_support::code::MEMORY;
 use test_support::{hoard, holds, same};
 
-/// How many cells the slice begins with.
+/// The number of cells at the front of the slice.
 const COUNT: usize = 100;
 
 /// The frame of the INT4 7.
 const SEVEN: [u8; 8] = [0, 0, 0, 4, 0, 0, 0, 7];
 
-/// Reads the values, and lets some of the memory go after each run that was refused a growth, until they are all read.
-/// Notes after how many cells the slice stood, where it is another number than after the run before.
+/// Reads the values, and after each run in which an allocation failed frees some of the memory,
+/// until all values are read. Records the number of cells before the position of the slice after a
+/// run, if it differs from that of the run before.
 fn read_while_refused(
     alloc: Global,
     frames: &[u8],
@@ -40,7 +41,7 @@ fn read_while_refused(
     Err(Fail::from("memory is always refused"))
 }
 
-/// Blocks of the sizes that a list of INT4 grows to, from 16 bytes up, the smallest last.
+/// Returns blocks of the sizes to which a list of INT4 grows, from 16 bytes on, the smallest last.
 fn growing_blocks(alloc: Global) -> Result<Vec<Vec<u8>>, Fail> {
     let mut blocks = Vec::with_capacity(alloc, 8)?;
     for halvings in 0..8u32 {
@@ -49,7 +50,7 @@ fn growing_blocks(alloc: Global) -> Result<Vec<Vec<u8>>, Fail> {
     Ok(blocks)
 }
 
-/// All memory but these blocks, and then the blocks.
+/// Takes all memory but these blocks, and returns it with the blocks at the end.
 fn hoard_before_blocks(alloc: Global) -> Result<Vec<Vec<u8>>, Fail> {
     let blocks = growing_blocks(alloc)?;
     let mut hoarded = hoard(alloc)?;
@@ -57,7 +58,7 @@ fn hoard_before_blocks(alloc: Global) -> Result<Vec<Vec<u8>>, Fail> {
     Ok(hoarded)
 }
 
-/// The frames of the cells.
+/// Returns the frames of the cells.
 fn frames(alloc: Global) -> Result<Vec<u8>, Fail> {
     let mut frames = Vec::with_capacity(alloc, COUNT * SEVEN.len())?;
     for _ in 0..COUNT {
@@ -66,7 +67,7 @@ fn frames(alloc: Global) -> Result<Vec<u8>, Fail> {
     Ok(frames)
 }
 
-/// Reading was refused more than once, and each time after a value.
+/// Tests that reading failed more than once, and each time after a value.
 fn are_after_cells(places: &[usize]) -> Result<(), Fail> {
     holds(places.len() > 1, "refused at one growth at most")?;
     holds(!places.contains(&0), "refused before a value was read")
@@ -78,7 +79,7 @@ fn a_refused_growth_leaves_the_slice_after_a_cell(rt: HostRuntime) -> Result<(),
     let frames = frames(alloc)?;
     let mut places = Vec::with_capacity(alloc, 100)?;
     let mut hoarded = Vec::new(alloc);
-    // A run before all address space is taken, since the stack cannot grow after that.
+    // This run is made before all address space is taken, since the stack cannot grow after that.
     read_while_refused(alloc, frames.as_slice(), &mut hoarded, &mut places)?;
     holds(places.is_empty(), "refused with ample memory")?;
     hoarded = hoard_before_blocks(alloc)?;

@@ -9,7 +9,7 @@ use test_support::{code, read, refusal, refuses, same, user_type};
 
 const INTS: Type = Type::INT4_ARRAY;
 
-/// Cells whose header is refused, and the number of the first check's fault.
+/// Cells whose header is refused, and the number of the fault of the first check that fails.
 const HEADERS: [(Option<&[u8]>, u32); 12] = [
     (None, code::WAS_NULL),
     (Some(&[]), code::SIZE),
@@ -64,7 +64,7 @@ const TRUNCATED_THEN_NULL: [u8; 28] = [
     0xff,
 ];
 
-/// A count of more elements than any memory holds.
+/// A count of more elements than fit in memory.
 const HUGE_COUNT: [u8; 20] = [
     0, 0, 0, 1, 0, 0, 0, 0, 0, 0, 0, 0x17, 0x7f, 0xff, 0xff, 0xff, 0, 0, 0, 1,
 ];
@@ -84,7 +84,7 @@ fn the_first_truncated_or_refused_element_gives_the_fault(rt: HostRuntime) -> Re
     refuses::<[i32; 2]>(alloc, &INTS, &rows)
 }
 
-/// The number of a fault, and the lengths that it states: what was expected and what was found.
+/// The number of a fault, and the lengths in it: the expected one and the one that was found.
 type Lengths = (u32, usize, usize);
 
 fn refused_lengths<'a, T: FromSql<'a>>(alloc: Global, cell: &'a [u8]) -> Lengths {
@@ -96,7 +96,7 @@ fn refused_lengths<'a, T: FromSql<'a>>(alloc: Global, cell: &'a [u8]) -> Lengths
     }
 }
 
-/// Each cell is refused with that number and those lengths.
+/// Tests that each cell is refused with this number and these lengths.
 fn refuses_length<'a, T: FromSql<'a>>(
     alloc: Global,
     rows: &'a [(&'a [u8], Lengths)],
@@ -122,7 +122,7 @@ fn arrays_have_their_length(rt: HostRuntime) -> Result<(), Fail> {
         (&ONE_AND_TWO[..35], (code::SIZE, 0, 0)),
         (&NULL, (code::WAS_NULL, 0, 0)),
     ];
-    // No element after the expected ones is read, so that its NULL is not refused.
+    // No element after the expected ones is read, so its NULL is not refused.
     let of_0: [(&[u8], Lengths); 2] = [
         (&ONE_AND_TWO, (code::EXCESS, 0, 0)),
         (&NULL, (code::EXCESS, 0, 0)),
@@ -134,7 +134,7 @@ fn arrays_have_their_length(rt: HostRuntime) -> Result<(), Fail> {
     refuses_length::<[i32; 0]>(alloc, &of_0)
 }
 
-/// None of the types is accepted.
+/// Tests that none of the types is accepted.
 fn is_not_read<'a, T: FromSql<'a>>(alloc: Global, types: &[Type]) -> Result<(), Fail> {
     for ty in types {
         same(refusal::<T>(alloc, ty, Some(&ONE_AND_TWO)), code::USER)?;

@@ -24,7 +24,7 @@ const SEVEN_FROM_1: [u8; 28] = [
     0, 0, 0, 1, 0, 0, 0, 0, 0, 0, 0, 0x1a, 0, 0, 0, 1, 0, 0, 0, 1, 0, 0, 0, 4, 0, 0, 0, 7,
 ];
 
-/// 1 and 2 are written in that form.
+/// Tests that 1 and 2 are written, from this type of list.
 fn is_written<T: ToSql>(alloc: Global, value: &T) -> Result<(), Fail> {
     writes(alloc, value, &Type::INT4_ARRAY, &ONE_AND_TWO)?;
     same(value.encode_format(&Type::INT4_ARRAY), Format::Binary)
@@ -86,7 +86,7 @@ fn lists_accept_arrays_of_what_their_elements_accept(_: HostRuntime) -> Result<(
     same(<Vec<u8> as ToSql>::accepts(&Type::BYTEA_ARRAY), false)
 }
 
-/// Types that are no arrays of `INT4` are refused under that name.
+/// Tests that types that are not arrays of `INT4` are refused with this name.
 fn refuses_types<T: ToSql>(alloc: Global, value: &T, rust: &str) -> Result<(), Fail> {
     let odd = simple_type(alloc, "odd", 99_999, "public")?;
     for ty in [&Type::INT8, &Type::INT8_ARRAY, &odd] {

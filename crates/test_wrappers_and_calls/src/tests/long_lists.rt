@@ -1,4 +1,5 @@
-//! Lists of many elements. Where memory suffices they are written and read, which no contract says.
+//! Lists of many elements. If there is enough memory they are written and read, which no contract
+//! states.
 
 use postgres_types::private::BytesMut;
 use postgres_types::{IsNull, ToSql, Type};
@@ -6,10 +7,10 @@ use std::alloc::Global;
 use std::test::Fail;
 use test_support::{holds, read, same};
 
-/// How many elements, and the length of the cell: 20 bytes, and 8 for each.
+/// Numbers of elements, and the lengths of the cells: 20 bytes, and 8 for each element.
 const LENGTHS: [(i32, usize); 2] = [(1_001, 8_028), (100_000, 800_020)];
 
-/// The list of 0 to the number before `len`.
+/// Returns the list of the numbers from 0 to `len - 1`.
 fn numbers_below(alloc: Global, len: i32) -> Result<Vec<i32>, Fail> {
     let mut numbers = Vec::new(alloc);
     for number in 0..len {
@@ -18,7 +19,7 @@ fn numbers_below(alloc: Global, len: i32) -> Result<Vec<i32>, Fail> {
     Ok(numbers)
 }
 
-/// The list is written as a cell of that length, and read from it.
+/// Tests that the list is written as a cell of this length, and read from it.
 fn is_written_and_read(alloc: Global, len: i32, cell_len: usize) -> Result<(), Fail> {
     let list = numbers_below(alloc, len)?;
     let mut cell = BytesMut::new(alloc);

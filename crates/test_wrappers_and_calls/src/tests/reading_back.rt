@@ -1,4 +1,4 @@
-//! What is written is read back: as itself, or as what the type's law says.
+//! What is written is read back: as itself, or as the law of the type states.
 
 use jiff::Timestamp as Instant;
 use jiff::civil::{Date as Day, Time};
@@ -131,7 +131,7 @@ fn a_map_is_read_back_as_itself(rt: HostRuntime) -> Result<(), Fail> {
     writes(alloc, &map, &ty, cell.as_slice())
 }
 
-/// What is read from a finite cell is written as that cell, also in a box in an option.
+/// Tests that what is read from a finite cell is written as that cell, also in a box in an option.
 fn finite<'a, T: Finite<'a>>(alloc: Global, ty: &Type, cell: &'a [u8]) -> Result<(), Fail> {
     rewrites::<T>(alloc, ty, cell, cell)?;
     rewrites::<Option<Box<T>>>(alloc, ty, cell, cell)

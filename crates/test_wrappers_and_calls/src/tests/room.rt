@@ -1,4 +1,4 @@
-//! A row is written without memory into the room that was reserved for it.
+//! A row is written without allocating, into room that was reserved for it.
 ghost use Rattle.std.specs.Prelude.{◌≤◌, ◌+◌, length};
 ghost use Rattle.postgres_types.specs.Faults.{NeverMemory};
 
@@ -8,8 +8,9 @@ use std::alloc::Global;
 use std::test::Fail;
 use test_support::{hoard, same};
 
-/// Appends the fields of a row: an id, a name, and whether it is paid. Each takes four bytes of length, and its cell 8
-/// bytes, those of the name, and 1. Where there is so much room, it takes no memory.
+/// Appends the fields of a row: an id, a name, and whether it is paid. Each takes 4 bytes for its
+/// length, and 8 bytes, the bytes of the name, and 1 byte. If the buffer has room for them, it does
+/// not allocate.
 fn append_row(
     alloc: Global,
     id: i64,

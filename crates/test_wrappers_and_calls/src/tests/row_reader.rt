@@ -50,7 +50,7 @@ const NAMELESS: [u8; 30] = [
 /// NULL as the id.
 const NULL_ID: [u8; 6] = [0, 3, 0xff, 0xff, 0xff, 0xff];
 
-/// The body is read as an item of these fields.
+/// Tests that the body is read as an item with these fields.
 fn reads_item(
     alloc: Global,
     body: &[u8],

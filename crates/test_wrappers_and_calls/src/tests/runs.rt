@@ -17,7 +17,8 @@ const ONE_AND_NULL: [u8; 13] = [0, 0, 0, 4, 0, 0, 0, 1, 0xff, 0xff, 0xff, 0xff, 
 /// The cells of `ab` and of the empty text, and a trailing byte.
 const TEXTS: [u8; 11] = [0, 0, 0, 2, b'a', b'b', 0, 0, 0, 0, 7];
 
-/// Bytes, how many INT4 are read from them, the number of the fault, and the bytes that remain.
+/// Bytes, the number of INT4 that are read from them, the number of the fault, and the bytes that
+/// remain.
 const REFUSED: [(&[u8], usize, u32, &[u8]); 4] = [
     (&ONE_AND_NULL, 3, WAS_NULL, &[0]),
     // A truncated length, and a truncated cell.
@@ -31,7 +32,7 @@ const REFUSED: [(&[u8], usize, u32, &[u8]); 4] = [
     (&[], usize::MAX, SIZE, &[]),
 ];
 
-/// These values are read from the front of the bytes, and the rest remains.
+/// Tests that these values are read from the front of the bytes, and the rest remains.
 fn takes<'a, T: FromSql<'a> + PartialEq + Debug>(
     alloc: Global,
     ty: &Type,

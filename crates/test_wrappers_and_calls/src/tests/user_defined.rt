@@ -99,7 +99,7 @@ impl<'a> Paired<'a> for Degrees {
     ghost use Rattle.std.specs.Prelude.{◌≡◌, refl};
     ghost use Rattle.std.specs.Int.{w32};
     ghost use Rattle.pg_base.proofs.FormatLaws.{int4_grammar};
-    ghost use Rattle.postgres_types.specs.Laws.FormatBack.{signed_written};
+    ghost use Rattle.postgres_types.specs.Laws.NumberBack.{signed_written};
     ghost use Rattle.postgres_types.specs.Numbers.{FormSigned, first_fault_number, wire_signed};
     ghost use Rattle.postgres_types.specs.Laws.Plain.{plain_lawful};
     ghost use Rattle.postgres_types.specs.ReadingBack.{BackKept};

@@ -7,7 +7,8 @@ use std::test::Fail;
 use test_support::code::SIZE;
 use test_support::same;
 
-/// The sum of an `int4[]` cell's elements, NULL left out. It takes no memory.
+/// Returns the sum of the elements of an `int4[]` cell without those that are NULL. It does not
+/// allocate.
 fn sum_of_elements(alloc: Global, cell: &[u8]) -> Result<i64, Fault> {
     let mut sum = 0i64;
     let mut cells = array_from_sql(alloc, cell)?;
@@ -19,7 +20,8 @@ fn sum_of_elements(alloc: Global, cell: &[u8]) -> Result<i64, Fault> {
     Ok(sum)
 }
 
-/// The value of an hstore's key, without a map; the last one where the key stands twice.
+/// Returns the value of a key of an hstore without making a map; the last one if the key occurs
+/// twice.
 fn value_of<'a>(alloc: Global, cell: &'a [u8], key: &str) -> Result<Option<&'a str>, Fault> {
     let mut found = None;
     let mut entries = hstore_from_sql(alloc, cell)?;
