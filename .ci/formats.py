@@ -87,6 +87,12 @@ FORMATS = {
     "int4": sized("075bcd15"),
     "int8": sized("112210f47de98115"),
     "oid": sized("000186a1"),
+    "float4": sized("3fc00000"),
+    "float8": sized("c002000000000000"),
+    # -12345.67: three digits, the weight 1, the sign and the scale 2. 7F02 as a scale is too great, and 7F01 as a digit.
+    "numeric": sized("0003000140000002000109291a2c",
+                     (1, (READ, SIZE, SIZE, SIZE)), NO_SIZE, (2, ALL_READ), (1, (READ, USER, USER, USER)), (1, (READ, USER, USER, USER)),
+                     (1, (READ, USER, USER, USER)), (1, ALL_READ), *[(1, (READ, USER, USER, USER)), (1, ALL_READ)] * 3),
     "text": texts(b"", ()),
     "varchar": texts(b"", ()),
     "bpchar": texts(b"", ()),

@@ -1,7 +1,9 @@
-"""The kit's own module of crates, for what no command of rt gives: marks of libraries, and libraries built in one step.
+"""The kit's own module of crates, for what no command of rt gives: marks of what is built, and libraries built in one step.
 
 What needs this module falls back on rt's commands where a kit has it otherwise.
 """
+import functools
+import hashlib
 import importlib.machinery
 import importlib.util
 import os
@@ -26,7 +28,58 @@ def crates_in(kit, folder):
     return {it.name: it for it in kit.crates_below(os.path.abspath(folder))}
 
 
+def crates_now(folder):
+    """Returns the same, to compare with marks: the files of each, as they stand now, are read once."""
+    crates = crates_in(load_kit(), folder)
+    for it in crates.values():
+        it.stamp = functools.cache(it.stamp)
+    return crates
+
+
+def sum_of(path):
+    with open(path, "rb") as it:
+        return hashlib.sha256(it.read()).hexdigest()
+
+
+def stamp_of(crate):
+    """Returns the file by which rt marks a crate's library as built."""
+    return f"{os.path.dirname(crate.rlib)}/stamp"
+
+
 def mark(crate):
     """Marks a crate's library as built of the files that stand there, so that commands of rt take it."""
-    with open(f"{os.path.dirname(crate.rlib)}/stamp", "w", encoding="utf-8") as it:
+    with open(stamp_of(crate), "w", encoding="utf-8") as it:
         it.write(crate.stamp())
+
+
+def usable_in(crates):
+    """Returns those of the crates, lowest first, whose libraries were built of the files that stand there, and after those below."""
+    usable = set()
+    for name, it in crates.items():
+        if it.makes_rlib() and usable.issuperset(below.name for below in it.deps) and it.is_built():
+            built = os.path.getmtime(stamp_of(it))
+            if all(os.path.getmtime(stamp_of(below)) <= built for below in it.deps):
+                usable.add(name)
+    return usable
+
+
+def unmark_unusable(folder):
+    """Takes the marks from the other libraries, so that rt builds them again: it refuses one over another library than it was built over."""
+    crates = crates_now(folder)
+    for name in crates.keys() - usable_in(crates):
+        if os.path.isfile(stamp_of(crates[name])):
+            os.remove(stamp_of(crates[name]))
+
+
+def is_made(crate, path):
+    """Returns whether a program, or a static library, was built of the files that stand there, by a mark as rt gives programs."""
+    if not os.path.isfile(path) or not os.path.isfile(f"{path}.stamp"):
+        return False
+    with open(f"{path}.stamp", encoding="utf-8") as it:
+        return it.read() == crate.stamp() + sum_of(path)
+
+
+def mark_made(crate, path):
+    """Marks a static library, which rt does not, in the same way."""
+    with open(f"{path}.stamp", "w", encoding="utf-8") as it:
+        it.write(crate.stamp() + sum_of(path))

@@ -7,7 +7,7 @@ from measuring import (EQUAL_TERMS, TOP, Program, Work, compare, counts_of, head
 CRATE = f"{TOP}/crates/benchmark"
 # Conversions that are read and written, and how many items a turn of theirs has: values, entries, elements, or bytes.
 CONVERSIONS = {
-    **dict.fromkeys(["bool", "char", "int2", "int4", "int8", "oid", "pg_lsn", "int4?"], 1_000),
+    **dict.fromkeys(["bool", "char", "int2", "int4", "int8", "oid", "pg_lsn", "int4?", "float8", "numeric"], 1_000),
     **dict.fromkeys(["text", "text-borrowed", "ltree", "bytea", "bytea-borrowed", "varbit"], 1_000),
     **dict.fromkeys(["addr", "inet", "cidr", "macaddr", "uuid"], 1_000),
     **dict.fromkeys(["date", "date_inf", "time", "timestamp", "timestamptz", "unix", "unix_inf", "interval"], 1_000),

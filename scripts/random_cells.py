@@ -58,6 +58,18 @@ def make_count(r, width, least, greatest):
     return r.randrange(least, greatest + 1).to_bytes(width, "big", signed=True)
 
 
+def make_numeric(r):
+    """A number, NaN or an infinity, of few digits, which have zeros at either end and lie around its scale."""
+    digits = [r.choice((0, 1, 9999, 5000, r.randrange(10_000))) for _ in range(r.randrange(7))]
+    sign = r.choice((0, 0, 0x4000, 0x4000, 0xC000, 0xD000, 0xF000))
+    scale = r.choice((r.randrange(20), r.randrange(16_384), 16_383))
+    weight = r.choice((r.randrange(-6, 6), r.randrange(-4_100, -4_080), r.randrange(-32_768, 32_768)))
+    if r.random() < 0.1:
+        digits.append(r.randrange(10_000, 65_536))
+    head = (len(digits), weight % 65_536, sign, scale if r.random() < 0.95 else r.randrange(16_384, 65_536))
+    return b"".join(it.to_bytes(2, "big") for it in (*head, *digits))
+
+
 def make_map(r):
     count = r.randrange(5)
     value = lambda: None if r.random() < 0.3 else make_text(r)
@@ -74,6 +86,8 @@ def make_cell(r, base):
         return make_bits(r)
     if base in ("inet", "addr", "cidr"):
         return make_address(r)
+    if base == "numeric":
+        return make_numeric(r)
     if base in ("bytea", "session"):
         return r.randbytes(r.randrange(20))
     if base == "ltree":

@@ -131,8 +131,7 @@ class Server:
 def make_program(name):
     """Has scripts/launch prove and build a program: the command that runs it."""
     command = [f"{TOP}/scripts/launch", name]
-    words = ["--help"] if name.startswith("copy_") else []
-    subprocess.run([*command, *words], stdin=subprocess.DEVNULL, stdout=subprocess.DEVNULL, check=True)
+    subprocess.run([*command, "--build"], stdin=subprocess.DEVNULL, stdout=subprocess.DEVNULL, check=True)
     return command
 
 

@@ -29,6 +29,7 @@ V6 = r"regexp_replace(translate(md5(i::text), '456789abc', '000000000'), '(....)
 KEYS = "the keys of an hstore are in another order"
 SPACES = "the spaces of documents differ"
 FLAG = "the flag of a CIDR is 0"
+PAYLOADS = "a text has neither the sign nor the payload of NaN"
 OIDS = "the OIDs that a server gave its types are 0"
 
 
@@ -44,6 +45,8 @@ class Kind:
     pgcell_name: str | None = ""
     has_arrays: bool = True
     has_pgcell_arrays: bool = True
+    # The function that sends a value, where its bytes tell more of it than its text, and pgcell is to keep that.
+    send: str = ""
     is_document: bool = False
     # Why the bytes that copy_write writes cannot be the server's, and why those of arrays.
     other_bytes: str = ""
@@ -92,6 +95,23 @@ ODD_ROW = (f"ROW(CASE WHEN i % 2 = 0 THEN {MOOD} END, CASE WHEN i % 3 > 0 THEN {
            f" (i % 99)::int4::bit(9)::varbit, CASE WHEN i % 5 > 0 THEN {ODD} END, i % 7 = 0)")
 ODDER = f"ROW({BYTES}, ARRAY[{MOOD}, NULL], {CODE}, ARRAY[NULL, {CODE}])"
 
+# Of few and of many digits, of each exponent, and subnormal; {0} is the type, {1} the bound of exponents and {2} the least number.
+FLOAT = ("(CASE i % 4 WHEN 0 THEN sin(i) * exp(i % {1} - {1} / 2) WHEN 1 THEN (i * 7919 % 200001 - 100000) * '{2}'::float8"
+         " WHEN 2 THEN ((i % 2001 - 1000) || 'e' || (i % 36 - 18))::float8 ELSE i * 7919 / 64.0 END)::{0}")
+FLOAT_BORDERS = quoted("0", "-0", "NaN", "Infinity", "-Infinity", "1e5", "999999", "1e6", "-1e-4", "1e-5")
+FLOAT4_BORDERS = quoted("1e-45", "1.1754942e-38", "1.1754944e-38", "3.4028235e38", "-3.4028235e38", "16777216", "8388608.5", "9e-44")
+FLOAT8_BORDERS = quoted("5e-324", "2.225073858507201e-308", "2.2250738585072014e-308", "1.7976931348623157e308", "-1.7976931348623157e308",
+                        "1e14", "1e15", "999999999999999", "9007199254740993", "1e23", "9.5367431640625e-07", "2e-323")
+NANS = ("-'NaN'::{0}", "'nan(0x123)'::{0}", "'-nan(0x1)'::{0}")
+# Up to 33 digits, the point anywhere among them, and zeros after them or before.
+NUMERIC = ("(CASE i % 3 WHEN 0 THEN '-' ELSE '' END || '0' || left(translate(md5(i::text), 'abcdef', '000999'), (i % 34)::int) || '.'"
+           " || substr(translate(md5(i::text), 'abcdef', '000999'), (i % 34 + 1)::int, (i % 35)::int) || 'e' || i % 61 - 30)::numeric")
+# The largest scale, weight and numbers of digits.
+NUMERICS = (*quoted("0", "-0", "0.000", "NaN", "Infinity", "-Infinity", "9999", "-10000", "0.0001", "0.00001", "9999.9999", "1e16",
+                    "1e-16383", "-1e-16383", "1e131071", "-1e131071", "-9e131071", "1e-16380"),
+            "0::numeric(1000, 1000)", "repeat('9', 131072) || '.' || repeat('9', 16383)", "'0.' || repeat('0', 16382) || '1'",
+            "'-' || repeat('1234', 32768) || '.' || repeat('5678', 4095)", "'1' || repeat('0', 131071) || '.' || repeat('0', 16382) || '1'")
+
 KINDS = [
     Kind("bool", "bool", "i % 3 = 0"),
     Kind("char", '"char"', "(i % 256 - 128)::int4::\"char\"", copy_name='"char"'),
@@ -100,6 +120,12 @@ KINDS = [
     Kind("int8", "int8", f"({STEP} - 9223372036854775808)::int8",
          quoted(-9223372036854775808, 9223372036854775807, 0)),
     Kind("oid", "oid", "(i * 35791)::oid", quoted(0, 4294967295)),
+    Kind("float4", "float4", FLOAT.format("float4", 160, "1.4e-45"), FLOAT_BORDERS + FLOAT4_BORDERS),
+    Kind("float8", "float8", FLOAT.format("float8", 1400, "5e-324"), FLOAT_BORDERS + FLOAT8_BORDERS),
+    *(Kind(f"{name}_nan", name, f"CASE i % 5 WHEN 0 THEN {nans[0]} WHEN 1 THEN {nans[1]} WHEN 2 THEN {nans[2]} ELSE i END",
+           copy_name=name, pgcell_name=name, send=f"{name}send", other_bytes=PAYLOADS)
+      for name in ("float4", "float8") for nans in [[it.format(name) for it in NANS]]),
+    Kind("numeric", "numeric", NUMERIC, NUMERICS, copy_name=None),
     Kind("text", "text", ODD, TEXTS),
     Kind("varchar", "varchar", ODD, TEXTS),
     Kind("bpchar", "char(40)", "md5(i::text)", ("''", "' '", "E'\\t'"), copy_name="character(40)"),

@@ -2,26 +2,23 @@
 import concurrent.futures
 import os
 
-from server_kinds import OIDS
+from server_kinds import KINDS, OIDS
 from server_trials import HEADER, TRAILER, CopyTrial, Counts, Table, columns_of, run
 
 VECTORS = ("int2vector", "oidvector")
-# The types with a conversion, of which all have arrays but vectors and unknown.
-CONVERTED = tuple(
-    "bit bool bpchar bytea char cidr citext date hstore inet int2 int4 int8 interval json jsonb lquery ltree ltxtquery macaddr name oid "
-    "pg_lsn text time timestamp timestamptz uuid varbit varchar".split()
-)
+# The names of types with a conversion, of which all have arrays but vectors and unknown; other names of KINDS name no base type.
+CONVERTED = tuple(kind.name for kind in KINDS if kind.copy_name is not None and kind.name not in VECTORS)
 # Each type as the server spells it, by format_type with no modifier, without one, and as a regtype, and whether it has a conversion.
 NAMES = f"""
-SELECT DISTINCT name, it.typtype = 'b' AND (it.typname IN {(*CONVERTED, *VECTORS)} OR coalesce(element.typname IN {CONVERTED}, false))
-    OR it.typname = 'unknown'
+SELECT DISTINCT name, it.typtype = 'b' AND (it.typname IN {(*CONVERTED, *VECTORS)}
+    OR coalesce(element.typtype = 'b' AND element.typname IN {CONVERTED}, false)) OR it.typname = 'unknown'
 FROM pg_type it LEFT JOIN pg_type element ON element.typarray = it.oid,
     LATERAL (VALUES (format_type(it.oid, -1)), (format_type(it.oid, NULL)), (it.oid::regtype::text)) spelled (name)
 WHERE it.typtype <> 'c' AND element.typtype IS DISTINCT FROM 'c'
 """
 INTERVALS = ("year", "month", "day", "hour", "minute", "second", "year to month", "day to hour", "day to minute", "day to second",
              "hour to minute", "hour to second", "minute to second", "second(2)", "day to second(3)", "hour to second(0)[]")
-OTHER_NAMES = ("bool", "int2", "int4", "int8", "varbit", "bpchar", "char", "char(3)", "varchar(20)", "varchar", "timestamp(3)",
+OTHER_NAMES = ("bool", "int2", "int4", "int8", "float4", "float8[]", "varbit", "bpchar", "char", "char(3)", "varchar(20)", "varchar", "timestamp(3)",
                "timestamptz", "timestamptz(0)", "time(6)", "public.citext", '"bit"', "pg_catalog.int4[]", "interval(2)", "bit(3)[]",
                "timestamp(0) with time zone[]", "timestamp(6) without time zone", "time(3) without time zone[]", "character(3)[]",
                "character varying(20)[]", "bit varying(8)[]", *(f"interval {it}" for it in INTERVALS))
@@ -52,10 +49,10 @@ SPELLED_COLUMNS = (
 # Columns that have no conversion: what scripts/columns prints of each is refused.
 REFUSED = """
 CREATE TYPE nested AS (a int4, b thinner);
-CREATE TABLE refused (a numeric(5, 2), b float4, c "Other, schema".list[], d nested, e int4range, f xid[], g regclass, h timetz(3));
+CREATE TABLE refused (a numeric(5, 2), b point, c "Other, schema".list[], d nested, e int4range, f xid[], g regclass, h timetz(3));
 """
 REFUSED_COLUMNS = [
-    "numeric(5,2)", "real", '"Other, schema".list[]',
+    "numeric(5,2)", "point", '"Other, schema".list[]',
     '(a integer, b (a integer, "select" character varying(3), "b""c" "char"[]))',
     "int4range", "xid[]", "regclass", "time(3) with time zone",
 ]
