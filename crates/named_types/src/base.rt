@@ -58,7 +58,8 @@ macro_rules! base_names {
             b'n' {
                 Name "name" [String, NAME, NAME_ARRAY],
                 Numeric "numeric"
-                    [pg_numbers::Numeric, catalog(pg_numbers::types::numeric_type, pg_numbers::types::numeric_array_type)],
+                    [pg_numbers::Numeric,
+                        catalog(pg_numbers::types::numeric_type, pg_numbers::types::numeric_array_type)],
             }
             b'o' {
                 Oid "oid" [u32, OID, OID_ARRAY],

@@ -6,8 +6,7 @@ ghost use Rattle.postgres_types.specs.Conversion.{ap, codes, refl};
 
 use pg_record::InventoryItem;
 use postgres_types::composite::{And8, End, FieldRefs, Record};
-use postgres_types::private::BytesMut;
-use postgres_types::{Fault, Field, UnixTime, from_row, row};
+use postgres_types::{BytesMut, Fault, Field, UnixTime, from_row, row};
 use std::alloc::Global;
 
 /// `CREATE TYPE purchase AS (id int8, customer text, paid bool, placed timestamptz, discount int4,

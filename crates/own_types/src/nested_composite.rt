@@ -5,8 +5,7 @@ ghost use Rattle.postgres_types.specs.CompositeFields.{and, end};
 ghost use Rattle.postgres_types.specs.Conversion.{ap, codes, refl};
 
 use postgres_types::composite::{And, Composite, End, FieldRefs, Record};
-use postgres_types::private::BytesMut;
-use postgres_types::{Fault, Field, from_row, row};
+use postgres_types::{BytesMut, Fault, Field, from_row, row};
 use std::alloc::Global;
 
 /// `CREATE TYPE address AS (street text, city text)`.

@@ -5,9 +5,10 @@ ghost use Rattle.postgres_types.specs.Conversion.{Through, codes, content_equiva
 ghost use Rattle.postgres_types.specs.Conversion.{is_row, refl, signed_finite, through_lawful, through_single, w32};
 ghost use Rattle.postgres_types.specs.Conversion.{w64, wire_signed};
 
-use postgres_types::private::BytesMut;
 use postgres_types::protocol::{int4_from_sql, int4_to_sql};
-use postgres_types::{Fault, Finite, Format, FromSql, IsNull, Paired, ToSql, Type, check_type};
+use postgres_types::{
+    BytesMut, Fault, Finite, Format, FromSql, IsNull, Paired, ToSql, Type, check_type,
+};
 use std::alloc::Global;
 
 /// Days since 2000-01-01.

@@ -8,9 +8,8 @@ ghost use Rattle.postgres_types.specs.Conversion.{equal_equivalence, inside_equi
 ghost use Rattle.postgres_types.specs.Conversion.{is_row, option_equivalence, option_lawful, option_single, refl};
 ghost use Rattle.postgres_types.specs.Conversion.{through_lawful, through_single, w16, wire_option, wire_signed};
 
-use postgres_types::private::BytesMut;
 use postgres_types::protocol::{int2_from_sql, int2_to_sql};
-use postgres_types::{Fault, Format, FromSql, IsNull, Paired, ToSql, Type, check_type};
+use postgres_types::{BytesMut, Fault, Format, FromSql, IsNull, Paired, ToSql, Type, check_type};
 use std::alloc::Global;
 
 /// A number of stars, or no rating, which is NULL.

@@ -2,8 +2,7 @@
 ghost use Rattle.postgres_types.specs.Conversion.{ReadsThrough, Through, codes, inside_equivalence, through_lawful};
 ghost use Rattle.postgres_types.specs.Conversion.{through_single};
 
-use postgres_types::private::BytesMut;
-use postgres_types::{Fault, Format, FromSql, IsNull, Paired, ToSql, Type, check_type};
+use postgres_types::{BytesMut, Fault, Format, FromSql, IsNull, Paired, ToSql, Type, check_type};
 use std::alloc::Global;
 
 /// A value as a type of its own.

@@ -26,6 +26,7 @@ pub mod IntervalLaws
 pub mod ItemSteps
 pub mod JsonLaws
 pub mod JsonLemmas
+pub mod Lists
 pub mod LsnLaws
 pub mod LsnLemmas
 pub mod Macaddrs

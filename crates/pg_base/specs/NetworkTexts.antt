@@ -66,15 +66,23 @@ pair_text byte = encode_lower (byte ∷ [])
 abbrev pub macaddr_text : List ℕ → List ℕ
 macaddr_text bytes = join_with_byte 58 (map pair_text bytes)
 
--- the text begins with the two hexadecimal digits of this byte, and then comes rest
-abbrev pub TakesPair : List ℕ → ℕ → List ℕ → Type 0
-TakesPair text byte rest = (pair : List ℕ) × (decode_of pair ≡ Ok (byte ∷ [])) × (text ≡ pair ++ rest)
+-- the text is the two hexadecimal digits, of either case, of the byte
+abbrev pub IsPair : List ℕ → ℕ → Type 0
+IsPair pair byte = decode_of pair ≡ Ok (byte ∷ [])
+
+-- whether the text has the length of six pairs with colons between, and these colons
+abbrev pub has_colons : List ℕ → Bool
+has_colons text =
+    length text == 17 && slice_index text 2 == 58 && slice_index text 5 == 58 && slice_index text 8 == 58
+    && slice_index text 11 == 58 && slice_index text 14 == 58
 
 -- what is parsed as MACADDR, of the forms that macaddr_in accepts: six pairs of hexadecimal digits of either case, with
 -- colons between
 abbrev pub SaysMacaddr : List ℕ → List ℕ → Type 0
 SaysMacaddr text bytes =
-    (pairs : List (List ℕ))
-    × (text ≡ join_with_byte 58 pairs)
-    × AllZip (λ pair byte. decode_of pair ≡ Ok (byte ∷ [])) pairs bytes
-    × (length bytes ≡ 6)
+    (pairs : List (List ℕ)) × (text ≡ join_with_byte 58 pairs) × AllZip IsPair pairs bytes × (length bytes ≡ 6)
+
+-- a text is read as the MAC address that it says, and refused where it says none
+abbrev pub ParsesMacaddr : List ℕ → Result (List ℕ) Fault → Type 0
+ParsesMacaddr text parsed =
+    MatchResult parsed (SaysMacaddr text) (λ _. (bytes : List ℕ) → SaysMacaddr text bytes → ⊥)

@@ -1,10 +1,11 @@
 //! Positions in the write-ahead log.
-ghost use Rattle.std.specs.Prelude.{◌≡◌, ℕ, Some};
+ghost use Rattle.std.specs.Prelude.{◌≡◌, ℕ, Some, codes};
 ghost use Rattle.std.specs.Result.{result_ok};
 ghost use Rattle.pg_base.specs.Lsn.{half_of, lsn_of, lsn_text};
 
 pub mod laws;
 
+use std::error::Error;
 use std::fmt;
 use std::marker::Model;
 use std::str::FromStr;
@@ -43,6 +44,16 @@ impl From<PgLsn> for u64 {
 /// The error that a text is not a log sequence number.
 #[derive(Debug, Drop)]
 pub struct ParseLsnError(());
+
+impl fmt::Display for ParseLsnError {
+    ghost output = { λ _. Some (codes "invalid input syntax for type pg_lsn") };
+
+    fn fmt<W: fmt::Write>(&self, f: &mut fmt::Formatter<W>) -> fmt::Result {
+        f.write_str("invalid input syntax for type pg_lsn")
+    }
+}
+
+impl Error for ParseLsnError {}
 
 /// Parses two hexadecimal numbers, separated by the first `/` of the text. Each has one or more
 /// digits of either case, possibly after a `+`, and is below 2^64. The result is

@@ -12,7 +12,7 @@ ghost use Rattle.pg_read.specs.Reading.{NullAlone};
 
 pub(crate) mod fixed_size;
 
-use crate::from_sql::FromSql;
+use crate::from_sql::{FromSql, from_sql_nullable};
 use crate::growth::with_first_room;
 use crate::laws::never_answers_memory_at_null;
 use pg_base::acceptance::element_type;
@@ -116,21 +116,14 @@ fn read_list<'a, T: FromSql<'a>>(
     let mut cells = array_from_sql(alloc, raw)?;
     let mut values = with_first_room(alloc, cells.len());
     while let Some(cell) = cells.next() {
-        // A match where a result is returned moves only the fault. `?` and `from_sql_nullable` would
-        // move every result.
+        // A match where a result is returned moves only the fault. `?` would move every result.
         let cell = match cell {
             Ok(cell) => cell,
             Err(fault) => return Err(fault),
         };
-        let value: T = match cell {
-            Some(bytes) => match T::from_sql(alloc, element, bytes) {
-                Ok(value) => value,
-                Err(fault) => return Err(fault),
-            },
-            None => match T::from_sql_null(alloc, element) {
-                Ok(value) => value,
-                Err(fault) => return Err(fault),
-            },
+        let value: T = match from_sql_nullable(alloc, element, cell) {
+            Ok(value) => value,
+            Err(fault) => return Err(fault),
         };
         values.push(value)?;
     }

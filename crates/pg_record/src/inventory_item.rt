@@ -13,8 +13,9 @@ ghost use Rattle.postgres_types.specs.Records.{AppendsBytes, AppendsBytesOrPart,
 use postgres_types::composite::{
     field_count_to_sql, field_to_sql, fields_of, is_record, read_end, read_field, read_field_count,
 };
-use postgres_types::private::BytesMut;
-use postgres_types::{Fault, Field, Format, FromSql, IsNull, Paired, ToSql, Type, check_type};
+use postgres_types::{
+    BytesMut, Fault, Field, Format, FromSql, IsNull, Paired, ToSql, Type, check_type,
+};
 use std::alloc::Global;
 
 /// The names of the fields of the type, in order.

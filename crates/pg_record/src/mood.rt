@@ -5,8 +5,7 @@ ghost use Rattle.pg_record.specs.Moods.{ReadsMood, is_mood, labels, members, pla
 ghost use Rattle.pg_record.specs.Laws.Mood.{mood_lawful, mood_single, placed};
 
 use postgres_types::enums::{Enum, EnumType};
-use postgres_types::private::BytesMut;
-use postgres_types::{Fault, Format, FromSql, IsNull, Paired, ToSql, Type, check_type};
+use postgres_types::{BytesMut, Fault, Format, FromSql, IsNull, Paired, ToSql, Type, check_type};
 use std::alloc::Global;
 
 /// A value of the enumerated type that `CREATE TYPE "Mood" AS ENUM ('Sad', 'Ok', 'Happy')` makes.

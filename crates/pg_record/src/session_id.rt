@@ -8,8 +8,7 @@ ghost use Rattle.postgres_types.specs.Laws.TextBack.{bytes_lawful};
 ghost use Rattle.pg_record.specs.SessionIds.{ReadsSessionId, is_session_id, wire_session_id};
 
 use postgres_types::newtype::{is_domain, underlying_type};
-use postgres_types::private::BytesMut;
-use postgres_types::{Fault, Format, FromSql, IsNull, Paired, ToSql, Type, check_type};
+use postgres_types::{BytesMut, Fault, Format, FromSql, IsNull, Paired, ToSql, Type, check_type};
 use std::alloc::Global;
 
 /// A value of the domain that `CREATE DOMAIN "SessionId" AS BYTEA` makes. A constraint of the

@@ -219,7 +219,7 @@ fn head_and_elements_to_sql<T: ToSql>(
     ensures capacity { KeepsCapacity out.old out.new }
 {
     let start = out.len();
-    // The head of an array without elements, of which the count and the flags are put right.
+    // The header of an array without elements, of which the count and the flags are corrected.
     array_to_sql(alloc, lower_bound, element.oid(), &[], &[], out)?;
     set_number(start + COUNT_AT, values.len() as u32, out);
     let has_null = elements_to_sql(alloc, element, values, out)?;
@@ -264,7 +264,7 @@ fn element_to_sql<T: ToSql>(
     ensures capacity { KeepsCapacity out.old out.new }
 {
     let start = out.len();
-    // The frame of NULL, whose length is put right once a cell stands after it.
+    // The frame of NULL, whose length is corrected once a cell stands after it.
     out.put_i32(-1)?;
     let is_null = match value.to_sql(alloc, element, out) {
         Ok(is_null) => is_null,
@@ -290,7 +290,7 @@ fn lower_bound(ty: &PgType) -> i32
     }
 }
 
-/// Lists are refused without memory, although their writing takes some.
+/// Lists are refused without memory.
 pub(crate) fn refused_without_memory() {
     refuses_without_memory::<Vec<i32>>();
     refuses_without_memory::<&[i32]>();

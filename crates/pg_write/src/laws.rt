@@ -39,7 +39,7 @@ pub fn types_that_keep_the_room_rule() {
     uuids::keep_room_rule();
 }
 
-/// The types that checked writing refuses without allocating, although their writing allocates.
+/// The types that do not keep the room rule, and that checked writing refuses without allocating.
 pub fn types_refused_without_memory() {
     arrays::refused_without_memory();
     hstore::refused_without_memory();

@@ -1,6 +1,6 @@
 //! Conversions with unusual rules, as a user may write them: another length, a value for NULL, a
 //! timestamp as a number, and a refusal in writing.
-ghost use Rattle.std.specs.Prelude.{◌≡◌};
+ghost use Rattle.std.specs.Prelude.{◌≡◌, true};
 ghost use Rattle.postgres_types.specs.Conversion.{BackKept, BackOption, Equal, EveryCell, FormSigned, Int4};
 ghost use Rattle.postgres_types.specs.Conversion.{ReadsOption, ReadsPlain, ReadsSigned, ReadsThrough, SameOption};
 ghost use Rattle.postgres_types.specs.Conversion.{Through, Timestamp, ap, codes, content_equivalence};
@@ -68,6 +68,8 @@ impl ToSql for Short {
     ghost wire = { λ _ v. wire_signed w32 v.0 };
 
     ghost by_room = { λ _. Unit {0} };
+
+    ghost refuses_memory_free = { true };
 
     fn to_sql(&self, alloc: Global, _ty: &PgType, out: &mut BytesMut) -> Result<IsNull, Fault> {
         int4_to_sql(alloc, self.0, out)?;
@@ -160,6 +162,8 @@ impl ToSql for Gap {
 
     ghost by_room = { λ _. Unit {0} };
 
+    ghost refuses_memory_free = { true };
+
     fn to_sql(&self, alloc: Global, _ty: &PgType, out: &mut BytesMut) -> Result<IsNull, Fault> {
         match self {
             Gap::Hole => Ok(IsNull::Yes),
@@ -241,6 +245,8 @@ impl ToSql for Moment {
     ghost wire = { λ _ v. wire_signed w64 v.0 };
 
     ghost by_room = { λ _. Unit {0} };
+
+    ghost refuses_memory_free = { true };
 
     fn to_sql(&self, alloc: Global, _ty: &PgType, out: &mut BytesMut) -> Result<IsNull, Fault> {
         int8_to_sql(alloc, self.0, out)?;
@@ -325,6 +331,8 @@ impl ToSql for Picky {
     ghost wire = { λ _ v. wire_constrained is_even (user (codes "odd")) (wire_signed w32) v.0 };
 
     ghost by_room = { λ _. Unit {0} };
+
+    ghost refuses_memory_free = { true };
 
     fn to_sql(&self, alloc: Global, _ty: &PgType, out: &mut BytesMut) -> Result<IsNull, Fault> {
         if self.0.unsigned_abs() % 2 != 0 {

@@ -1,12 +1,11 @@
 //! The texts of IP addresses with their netmasks, and of MAC addresses.
-ghost use Rattle.std.specs.Prelude.{◌≡◌, ◌<◌, ◌∷◌, [], ℕ, List, IfOk, IfSome, MatchOption, Ok, Some, false, true};
+ghost use Rattle.std.specs.Prelude.{◌≡◌, ◌<◌, ◌∷◌, [], ℕ, List, MatchOption, Some, false, true};
 ghost use Rattle.std.specs.Fmt.{WritesOnOk};
 ghost use Rattle.std.specs.Net.Addr.{ipv4_octets, ipv6_segments, low_octets};
 ghost use Rattle.std.specs.Net.Grammar.{IsIpText};
-ghost use Rattle.hex.specs.Hex.{decode_of};
 ghost use Rattle.pg_base.specs.Network.{NetmaskFits, Network, NoHostBits, with_netmask};
-ghost use Rattle.pg_base.specs.NetworkTexts.{ParsesNetwork, SaysMacaddr, SaysNetwork, TakesPair, address_text};
-ghost use Rattle.pg_base.specs.NetworkTexts.{cidr_text, inet_text, is_ipv4_compatible, macaddr_text, pair_text};
+ghost use Rattle.pg_base.specs.NetworkTexts.{IsPair, ParsesMacaddr, ParsesNetwork, SaysMacaddr, SaysNetwork};
+ghost use Rattle.pg_base.specs.NetworkTexts.{address_text, cidr_text, has_colons, inet_text, is_ipv4_compatible, macaddr_text, pair_text};
 ghost use Rattle.pg_base.specs.NumberTexts.{SaysUnsigned};
 ghost use Rattle.std.specs.declared.net.ip_addr.IpAddr.{IpAddr};
 ghost use Rattle.std.specs.declared.net.ip_addr.IpAddr.TheVariants.{V6};
@@ -176,7 +175,7 @@ impl fmt::Display for Pair {
 impl FromStr for MacAddress {
     type Err = Fault;
 
-    ghost from_str_gives = { λ text parsed. IfOk parsed (SaysMacaddr text) };
+    ghost from_str_gives = { ParsesMacaddr };
 
     fn from_str(text: &str) -> Result<MacAddress, Fault> {
         parse_macaddr(text).ok_or(Fault::user("no MAC address"))
@@ -185,51 +184,37 @@ impl FromStr for MacAddress {
 
 /// Parses a MAC address.
 fn parse_macaddr(text: &str) -> Option<MacAddress>
-    ensures { IfSome result (SaysMacaddr text.now) }
+    ensures { MatchOption result ((bytes : List ℕ) → SaysMacaddr text.now bytes → ⊥) (SaysMacaddr text.now) }
 {
-    let (a, rest) = take_pair(text.as_bytes())?;
-    let (b, rest) = take_next_pair(rest)?;
-    let (c, rest) = take_next_pair(rest)?;
-    let (d, rest) = take_next_pair(rest)?;
-    let (e, rest) = take_next_pair(rest)?;
-    let (g, rest) = take_next_pair(rest)?;
-    if rest.is_empty() {
-        Some(MacAddress([a, b, c, d, e, g]))
-    } else {
-        None
+    let text = text.as_bytes();
+    if !has_colons(text) {
+        return None;
     }
+    Some(MacAddress([
+        hex_byte(text[0], text[1])?,
+        hex_byte(text[3], text[4])?,
+        hex_byte(text[6], text[7])?,
+        hex_byte(text[9], text[10])?,
+        hex_byte(text[12], text[13])?,
+        hex_byte(text[15], text[16])?,
+    ]))
 }
 
-/// Takes the byte of two digits from the front of the text. Returns it and the rest.
-fn take_pair(text: &[u8]) -> Option<(u8, &[u8])>
-    ensures { IfSome result (λ r. TakesPair text.now r.0 r.1.now) }
+/// Whether the text has the length of a MAC address, and its colons.
+fn has_colons(text: &[u8]) -> bool
+    ensures { result ≡ has_colons text.now }
 {
-    let [high, low, rest @ ..] = text else {
-        return None;
-    };
-    match hex_byte(*high, *low) {
-        Some(byte) => Some((byte, rest)),
-        None => None,
-    }
-}
-
-/// Takes a colon and the byte of two digits from the front of the text.
-fn take_next_pair(text: &[u8]) -> Option<(u8, &[u8])>
-    ensures { IfSome result (λ r. (after : List ℕ) × (text.now ≡ 58 ∷ after) × TakesPair after r.0 r.1.now) }
-{
-    let [colon, rest @ ..] = text else {
-        return None;
-    };
-    if *colon == b':' {
-        take_pair(rest)
-    } else {
-        None
-    }
+    text.len() == 17
+        && text[2] == b':'
+        && text[5] == b':'
+        && text[8] == b':'
+        && text[11] == b':'
+        && text[14] == b':'
 }
 
 /// Returns the byte of two hexadecimal digits of either case.
 fn hex_byte(high: u8, low: u8) -> Option<u8>
-    ensures { IfSome result (λ byte. decode_of (high ∷ low ∷ []) ≡ Ok (byte ∷ [])) }
+    ensures { MatchOption result ((byte : ℕ) → IsPair (high ∷ low ∷ []) byte → ⊥) (IsPair (high ∷ low ∷ [])) }
 {
     let mut byte = [0];
     match hex::decode_to_slice(&[high, low], &mut byte) {

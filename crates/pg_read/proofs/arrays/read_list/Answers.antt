@@ -1,11 +1,10 @@
 -- What the proof of `read_list` answers by hand.
-use Rattle.std.proofs.Common.{◌++◌, ◌∷◌, [], List, Vec, Global, Some, None, Ok}
+use Rattle.std.proofs.Common.{◌++◌, ◌∷◌, [], List, Vec, Global}
 use Rattle.pg_base.specs.Cells.{Cell, cell_of}
 use Rattle.pg_types.specs.Content.{content}
 use Rattle.pg_types.specs.Faults.{refusal_of}
 use Rattle.pg_read.proofs.ArrayCellSteps.{list_truncated, list_refused, taken_next, value_next}
 use Rattle.pg_read.proofs.arrays.read_list.Goals as goal
-use Rattle.pg_read.proofs.arrays.read_list.Goals.{in-Some-cell+in-Ok-from_sql, in-None+in-Ok-from_sql_null}
 
 pub returns-in-Err : goal.returns-in-Err
 returns-in-Err g c =
@@ -16,27 +15,16 @@ returns-in-Err g c =
     c.loop-cell.cells so_far.0 c.loop-cell.values.items
     c.in_ok-cells.ensures.outcome so_far.1 so_far.2 (refusal_of c.in-Err.fault) damaged.0)
 
-pub returns-in-Err-from_sql : goal.returns-in-Err-from_sql
-returns-in-Err-from_sql g c =
+pub returns-in-Err-from_sql_nullable : goal.returns-in-Err-from_sql_nullable
+returns-in-Err-from_sql_nullable g c =
     let reads = g.T.FromSql.reads (content c.args.element.now) in
     let so_far = c.loop-cell.invariant in
-    let taken = rw (c.in-Ok.is, c.in-Some-cell.is) at c.in-Some.ensures in
+    let taken = rw c.in-Ok.is at c.in-Some.ensures in
     (list_refused (λ (v : Vec g.row.T.Denot Global). v.items) reads c.args.raw.now c.in_ok-cells.cells
     c.loop-cell.cells so_far.0 c.loop-cell.values.items
-    c.in_ok-cells.ensures.outcome so_far.1 so_far.2 c.next.new.self taken.front (cell_of (Some c.in-Some-cell.bytes))
+    c.in_ok-cells.ensures.outcome so_far.1 so_far.2 c.next.new.self taken.front (cell_of c.in-Ok.cell)
     (λ i. (c.type_inv.raw i).fits) taken.fewer taken.is taken.spells
-    (refusal_of c.in-Err-from_sql.fault) c.in-Err-from_sql.ensures.outcome)
-
-pub returns-in-Err-from_sql_null : goal.returns-in-Err-from_sql_null
-returns-in-Err-from_sql_null g c =
-    let reads = g.T.FromSql.reads (content c.args.element.now) in
-    let so_far = c.loop-cell.invariant in
-    let taken = rw (c.in-Ok.is, c.in-None.is) at c.in-Some.ensures in
-    (list_refused (λ (v : Vec g.row.T.Denot Global). v.items) reads c.args.raw.now c.in_ok-cells.cells
-    c.loop-cell.cells so_far.0 c.loop-cell.values.items
-    c.in_ok-cells.ensures.outcome so_far.1 so_far.2 c.next.new.self taken.front (cell_of None)
-    (λ i. (c.type_inv.raw i).fits) taken.fewer taken.is taken.spells
-    (refusal_of c.in-Err-from_sql_null.fault) c.in-Err-from_sql_null.ensures.outcome)
+    (refusal_of c.in-Err-from_sql_nullable.fault) c.in-Err-from_sql_nullable.ensures.outcome)
 
 pub loop-cell-preserved : goal.loop-cell-preserved
 loop-cell-preserved g c =
@@ -45,11 +33,8 @@ loop-cell-preserved g c =
     let cell : Cell = cell_of c.in-Ok.cell in
     let taken = rw c.in-Ok.is at c.in-Some.ensures in
     let cells : List Cell = so_far.0 ++ cell ∷ [] in
-    let read : reads cell (Ok c.match-cell-2.value) = elim c.match-cell-2.branch [
-      | in-Some-cell+in-Ok-from_sql w ↦ rw (w.in-Some-cell.is, w.value-is) w.in-Ok-from_sql.ensures.outcome
-      | in-None+in-Ok-from_sql_null w ↦ rw (w.in-None.is, w.value-is) w.in-Ok-from_sql_null.ensures.outcome
-    ] in
-    let pushed = value_next reads so_far.0 cell c.loop-cell.values.items c.match-cell-2.value so_far.2 read in (
+    let pushed = value_next reads so_far.0 cell c.loop-cell.values.items c.in-Ok-from_sql_nullable.value so_far.2
+    c.in-Ok-from_sql_nullable.ensures.outcome in (
       cells,
       taken_next c.in_ok-cells.cells c.loop-cell.cells c.next.new.self so_far.0 cell taken.front so_far.1 taken.fewer
           taken.is taken.spells,
