@@ -13,6 +13,7 @@ pub mod Places
 pub mod ReadNumbers
 pub mod ReadTexts
 pub mod Units
+pub mod ValueTexts
 pub mod Values
 pub mod WrittenDigits
 pub mod WrittenCells

@@ -1,7 +1,8 @@
 -- Numbers that are no integer, or none below a bound.
 use Rattle.std.specs.Prelude.{◌≡◌, ℕ, ◌+◌, ◌*◌, ◌^◌, ◌<◌, ◌≤◌, ℤ, pos, negsuc, ◌+ℤ◌, ◌≤ℤ◌, length, true}
-use Rattle.std.specs.Prelude.{Bool, FitsSigned, MatchOption, None, Option, Some}
+use Rattle.std.specs.Prelude.{Bool, FitsSigned, MatchOption, None, Option, Some, Result, Ok, Err}
 use Rattle.std.specs.Int.{Width}
+use Rattle.std.specs.Result.{OkIff, result_ok}
 use Rattle.std.proofs.Common.{sym, ◌∙◌, ap, arith, inl, inr, subst}
 use Rattle.std.proofs.Math.Nat.{le_of_mul-le-mul_right, le-mul_of_pos_right, mul_assoc, one-le-pow}
 use Rattle.std.proofs.lemmas.Bool.{cases_lt}
@@ -65,3 +66,10 @@ integer_answer w p m negative (Some n) e s h =
     record { magnitude = m; is = h ∙ ap (λ b. signed b m) s; counts = e }
 integer_answer w p m negative None e s h =
     λ x i fit. h (subst (FitsSigned w) (only_integer p m x e i ∙ ap (λ b. signed b m) (sym s)) fit)
+
+-- the answer at a narrower type, of a number that is an integer
+pub narrower_answer : {E : Type 0} (w : Width) (p : Parts) (n : ℤ) (r : Result ℤ E) → IsInteger p n
+    → OkIff r (FitsSigned w n) n → MatchOption (result_ok r) (HasNoInteger w p) (IsInteger p)
+narrower_answer w p n (Ok m) i h = subst (IsInteger p) (sym h.1) i
+narrower_answer w p n (Err e) i h =
+    λ x j fit. h (subst (FitsSigned w) (only_integer p i.magnitude x i.counts j ∙ sym i.is) fit)

@@ -1,5 +1,6 @@
 -- Lemmas on the numbers of texts.
-use Rattle.std.specs.Prelude.{◌≡◌, ℕ, zero, suc, ◌+◌, ◌*◌, ◌<◌, ◌≤◌, ◌==◌, ◌&&◌, nat_le, nat_lt, ℤ, negsuc, pos, ◌-ℤ◌, ◌+ℤ◌, FitsSigned, None, Some}
+use Rattle.std.specs.Prelude.{◌≡◌, ℕ, zero, suc, ◌+◌, ◌*◌, ◌<◌, ◌≤◌, ◌==◌, ◌&&◌, nat_le, nat_lt, None, Some}
+use Rattle.std.specs.Prelude.{ℤ, negsuc, pos, ◌-ℤ◌, ◌+ℤ◌, FitsSigned}
 use Rattle.std.specs.Prelude.{List, [], ◌∷◌, ◌++◌, drop, length, take, Bool, true, false, refl, if◌then◌else◌}
 use Rattle.std.specs.Char.{is_ascii_digit}
 use Rattle.std.specs.Fmt.{sign_text}
@@ -15,9 +16,9 @@ use Rattle.std.proofs.lemmas.Bool.Decides.{eqb_tells}
 use Rattle.std.proofs.lemmas.List.{nil_from_length}
 use Rattle.pg_numbers.specs.Numeric.{Parts, are_digits, canonical, from_digits, from_first, parts, shown, units_of}
 use Rattle.pg_numbers.specs.Numeric.{is_number, max_scale, without_trailing}
-use Rattle.pg_numbers.specs.NumericTexts.{base_digits, decimals_of, decimals_text, integer_of, integer_text, number_text}
-use Rattle.pg_numbers.specs.NumericTexts.{IsSpelled, fits_numeral, invalid_text, is_numeral, max_integer, numeral_checks}
-use Rattle.pg_numbers.specs.NumericTexts.{point_of, too_long, without_leading_zeros}
+use Rattle.pg_numbers.specs.NumericTexts.{IsSpelled, base_digits, decimals_of, decimals_text, fits_numeral, integer_of}
+use Rattle.pg_numbers.specs.NumericTexts.{integer_text, invalid_text, is_numeral, max_integer, number_text}
+use Rattle.pg_numbers.specs.NumericTexts.{numeral_checks, point_of, too_long, without_leading_zeros}
 use Rattle.pg_numbers.proofs.NumberTexts.{after_append, decimals_are_digits, integer_is_digits}
 use Rattle.pg_numbers.proofs.OrderedValues.{some_units}
 use Rattle.pg_numbers.proofs.ReadTexts.{ascii_range, base_units, zeros_value}
@@ -203,10 +204,10 @@ weight_of n h =
     ∙ ap (λ x. to_z w16 (of_z w16 x)) (to_z-of_z w32 (pos n -ℤ pos 1) fits.0)
     ∙ to_z-of_z w16 (pos n -ℤ pos 1) fits.1
 
-both_true : (x y : Bool) → x ≡ true → y ≡ true → (x && y) ≡ true
+pub both_true : (x y : Bool) → x ≡ true → y ≡ true → (x && y) ≡ true
 both_true x y h k = rw (h, k) refl
 
-passes : (a b : Bool) → a ≡ true → b ≡ true
+pub passes : (a b : Bool) → a ≡ true → b ≡ true
     → (if a then (if b then None else Some too_long) else Some invalid_text) ≡ None
 passes a b h k = rw (h, k) refl
 

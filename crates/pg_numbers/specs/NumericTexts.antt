@@ -2,9 +2,10 @@
 use Rattle.std.specs.Prelude.{◌≡◌, ℕ, zero, suc, ◌-◌, ◌/◌, ◌%◌, ◌^◌, ◌==◌, ℤ, pos, negsuc, ◌-ℤ◌}
 use Rattle.std.specs.Prelude.{List, [], ◌∷◌, ◌++◌, codes, drop, length, not, slice_index, take, if◌then◌else◌}
 use Rattle.std.specs.Fmt.{decimal, sign_text}
-use Rattle.std.specs.List.{list_all, prefix_len}
+use Rattle.std.specs.List.{list_all, prefix_len, suffix_len}
 use Rattle.std.specs.Char.{is_ascii_digit}
-use Rattle.std.specs.Prelude.{Bool, true, ◌&&◌, nat_le, nat_lt, None, Some, Ok, Err}
+use Rattle.std.specs.Prelude.{Bool, true, ◌&&◌, ◌||◌, nat_le, nat_lt, MatchOption, Option, None, Some, Ok, Err}
+use Rattle.std.specs.Float.Parse.{is_infinity_text, is_nan_text}
 use Rattle.std.specs.Str.Parse.{digits_value, starts_with_minus, without_leading_sign}
 use Rattle.pg_calendar.specs.Texts.{padded_text}
 use Rattle.pg_base.specs.Formats.{Checks, first_fault_of}
@@ -150,3 +151,38 @@ ReadsNumeral negative text (Err r) = first_fault_of (numeral_checks text) ≡ So
 -- a text of a number (numeric_in, without exponents)
 abbrev pub ParsesNumber : List ℕ → Outcome Parts → Type 0
 ParsesNumber text = ReadsNumeral (starts_with_minus text) (without_leading_sign text)
+
+-- ---- values that are read
+
+-- white space (isspace)
+abbrev pub is_space : ℕ → Bool
+is_space byte = byte == 32 || nat_le 9 byte && nat_le byte 13
+
+abbrev pub trimmed_start : List ℕ → List ℕ
+trimmed_start text = drop (prefix_len is_space text) text
+
+abbrev pub trimmed_end : List ℕ → List ℕ
+trimmed_end text = take (length text - suffix_len is_space text) text
+
+-- the text without the white space at its start and at its end
+abbrev pub trimmed : List ℕ → List ℕ
+trimmed text = trimmed_end (trimmed_start text)
+
+abbrev pub infinity_of : Bool → Numeric
+infinity_of negative = if negative then NegativeInfinity else Infinity
+
+-- the value of a word, in any case: NaN, which has no sign, and Infinity or inf, with a sign or without
+abbrev pub word_value : List ℕ → Option Numeric
+word_value text =
+    if is_nan_text text then Some NaN
+    else if is_infinity_text (without_leading_sign text) then Some (infinity_of (starts_with_minus text)) else None
+
+-- the text of a number, as a value
+abbrev pub ParsesFinite : List ℕ → Outcome Numeric → Type 0
+ParsesFinite text (Ok v) = (p : Parts) × (v ≡ Finite p) × ParsesNumber text (Ok p)
+ParsesFinite text (Err r) = ParsesNumber text (Err r)
+
+-- a text of a value (numeric_in, without exponents): a word or a number, which may stand in white space
+abbrev pub ParsesNumeric : List ℕ → Outcome Numeric → Type 0
+ParsesNumeric text outcome =
+    MatchOption (word_value (trimmed text)) (ParsesFinite (trimmed text) outcome) (λ v. outcome ≡ Ok v)

@@ -1,5 +1,5 @@
 //! Parsing of FLOAT4 and FLOAT8.
-ghost use Rattle.std.specs.Prelude.{◌≡◌, option_map, to_bits};
+ghost use Rattle.std.specs.Prelude.{◌≡◌, Some, codes, option_map, to_bits};
 ghost use Rattle.std.specs.Float.{binary32, binary64, float_zero};
 ghost use Rattle.std.specs.Float.Ieee.{eq};
 ghost use Rattle.std.specs.Float.Numeral.{has_digits, scan_numeral};
@@ -10,11 +10,23 @@ ghost use Rattle.pg_numbers.specs.FloatTexts.{float_of, has_nonzero, is_nonzero}
 
 use super::{Float4, Float8};
 use fast_float::Numeral;
+use std::error::Error;
+use std::fmt;
 use std::str::FromStr;
 
-/// The error of a text that is not a value of the type.
+/// The error of a text that is not a value of the type, or is out of its range.
 #[derive(Debug, Drop)]
 pub struct ParseFloatError(());
+
+impl fmt::Display for ParseFloatError {
+    ghost output = { λ _. Some (codes "invalid float literal") };
+
+    fn fmt<W: fmt::Write>(&self, f: &mut fmt::Formatter<W>) -> fmt::Result {
+        f.write_str("invalid float literal")
+    }
+}
+
+impl Error for ParseFloatError {}
 
 /// Parses a numeral, which is rounded to the nearest number, or `NaN`, `inf` or `infinity` in any
 /// case, each after a sign or none (`float4in`). As there, a numeral is refused that is rounded to an

@@ -1,8 +1,10 @@
 //! Laws of NUMERIC, each as a function whose contract states it.
-ghost use Rattle.std.specs.Prelude.{◌≡◌, IfOk};
+ghost use Rattle.std.specs.Prelude.{◌≡◌, ℕ, IfOk, List, Ok, true};
 ghost use Rattle.std.specs.Ordering.{int_cmp};
+ghost use Rattle.pg_types.specs.Faults.{Answers, Outcome};
 ghost use Rattle.pg_numbers.specs.Numeric.{signed_units};
-ghost use Rattle.pg_numbers.specs.NumericCells.{CountsAsStated, stated};
+ghost use Rattle.pg_numbers.specs.NumericCells.{CountsAsStated, is_numeric, stated};
+ghost use Rattle.pg_numbers.specs.NumericTexts.{ParsesNumeric, numeric_text};
 
 use super::cell::numeric_from_sql;
 use super::{Decimal, Numeric};
@@ -28,3 +30,28 @@ pub fn compares_by_value(a: &Decimal, b: &Decimal) -> Ordering
     let _ = b.digits();
     a.cmp(b)
 }
+
+/// The text of a value is parsed as that value, with its scale, unless memory runs out.
+pub fn numeric_from_text(alloc: Global, v: &Numeric) -> Result<Numeric, Fault>
+    ensures { Answers (λ outcome. outcome ≡ Ok v.now) result }
+{
+    has_number(v);
+    let text = format!(in alloc; "{v}")?;
+    Numeric::parse(alloc, text.as_str())
+}
+
+/// The parts of a value are those of a number.
+fn has_number(v: &Numeric)
+    ensures { is_numeric v.now ≡ true }
+{
+    if let Numeric::Finite(number) = v {
+        let _ = number.digits();
+    }
+}
+
+/// Each value is read of its text, with its scale, and a text has one value or one fault.
+pub fn numeric_is_read_back()
+    ensures reads { (v : Numeric) → is_numeric v ≡ true → ParsesNumeric (numeric_text v) (Ok v) }
+    ensures once { (text : List ℕ) (v w : Outcome Numeric) → ParsesNumeric text v
+        → ParsesNumeric text w → w ≡ v }
+{}

@@ -1,17 +1,21 @@
 //! The texts of NUMERIC.
-ghost use Rattle.std.specs.Prelude.{◌≡◌, ◌^◌, ◌+◌, ◌*◌, ◌<◌, ◌≤◌, ◌≤ℤ◌, ◌∷◌, ◌++◌, [], IfErr, IfOk, Some};
-ghost use Rattle.std.specs.Prelude.{length, negsuc, pos, true};
-ghost use Rattle.std.specs.Char.{digit_value, is_ascii_digit};
+ghost use Rattle.std.specs.Prelude.{◌≡◌, ◌^◌, ◌+◌, ◌*◌, ◌<◌, ◌≤◌, ◌≤ℤ◌, ◌∷◌, ◌++◌, []};
+ghost use Rattle.std.specs.Prelude.{IfErr, IfOk, Some, length, map, negsuc, pos, true};
+ghost use Rattle.std.specs.Char.{digit_value, is_ascii_digit, to_ascii_lowercase};
+ghost use Rattle.std.specs.Float.Parse.{is_infinity_text, is_nan_text, lowercases_to};
 ghost use Rattle.std.specs.Fmt.{WritesOnOk};
-ghost use Rattle.std.specs.List.{list_all};
+ghost use Rattle.std.specs.List.{list_all, prefix_len, suffix_len};
 ghost use Rattle.std.specs.Str.Parse.{digits_value, starts_with_minus, without_leading_sign};
 ghost use Rattle.pg_calendar.specs.Texts.{padded_text};
 ghost use Rattle.pg_types.specs.Faults.{Answers};
 ghost use Rattle.pg_types.specs.declared.fault.Fault.TheVariants.{Memory};
-ghost use Rattle.pg_numbers.specs.NumericTexts.{ParsesNumber, ReadsNumeral, base_digits, decimal_zeros, decimals_of};
-ghost use Rattle.pg_numbers.specs.NumericTexts.{decimals_text, digit_of, digits_text, first_decimals, first_weight, front_group};
-ghost use Rattle.pg_numbers.specs.NumericTexts.{grouped, integer_of, integer_text, is_numeral, number_text};
-ghost use Rattle.pg_numbers.specs.NumericTexts.{numeric_text, point_of, without_leading_zeros};
+ghost use Rattle.pg_numbers.specs.NumericTexts.{ParsesNumber, ParsesNumeric, ReadsNumeral};
+ghost use Rattle.pg_numbers.specs.NumericTexts.{base_digits, decimal_zeros, decimals_of};
+ghost use Rattle.pg_numbers.specs.NumericTexts.{decimals_text, digit_of, digits_text, first_decimals};
+ghost use Rattle.pg_numbers.specs.NumericTexts.{first_weight, front_group, grouped, integer_of};
+ghost use Rattle.pg_numbers.specs.NumericTexts.{integer_text, is_numeral, is_space, number_text};
+ghost use Rattle.pg_numbers.specs.NumericTexts.{numeric_text, point_of, trimmed, trimmed_end};
+ghost use Rattle.pg_numbers.specs.NumericTexts.{trimmed_start, without_leading_zeros, word_value};
 
 use super::{Decimal, MAX_SCALE, Numeric};
 use postgres_types::Fault;
@@ -137,22 +141,19 @@ fn write_first<W: fmt::Write>(digit: u16, count: u16, f: &mut fmt::Formatter<W>)
 }
 
 impl Numeric {
-    /// Parses `NaN`, `Infinity`, `inf`, each in any case and the infinities with or without a sign,
-    /// or a number as [`Decimal::parse`] does. This is `numeric_in` without exponents. White space
-    /// is allowed before and after.
-    pub fn parse(alloc: Global, text: &str) -> Result<Numeric, Fault> {
-        let text = text.as_bytes().trim_ascii();
-        if text.eq_ignore_ascii_case(b"nan") {
-            return Ok(Numeric::NaN);
+    /// Parses `NaN`, which has no sign, or `Infinity` or `inf`, with a sign or without, each in any
+    /// case, or a number as [`Decimal::parse`] does. White space is allowed before and after
+    /// (`numeric_in`, without exponents).
+    ///
+    /// The faults are those of [`Decimal::parse`].
+    pub fn parse(alloc: Global, text: &str) -> Result<Numeric, Fault>
+        ensures { Answers (ParsesNumeric text.now) result }
+    {
+        let text = trimmed(text.as_bytes());
+        if let Some(value) = word_value(text) {
+            return Ok(value);
         }
         let (negative, unsigned) = split_sign(text);
-        if unsigned.eq_ignore_ascii_case(b"infinity") || unsigned.eq_ignore_ascii_case(b"inf") {
-            return Ok(if negative {
-                Numeric::NegativeInfinity
-            } else {
-                Numeric::Infinity
-            });
-        }
         Ok(Numeric::Finite(parse_number(alloc, negative, unsigned)?))
     }
 }
@@ -169,6 +170,92 @@ impl Decimal {
         let (negative, unsigned) = split_sign(text.as_bytes());
         parse_number(alloc, negative, unsigned)
     }
+}
+
+/// Whether PostgreSQL takes the byte as white space.
+fn is_space(byte: u8) -> bool
+    ensures { result ≡ is_space byte }
+{
+    byte == b' ' || byte >= b'\t' && byte <= b'\r'
+}
+
+/// How many bytes of white space stand at the start of the text.
+fn leading_spaces(text: &[u8]) -> usize
+    ensures count { result ≡ prefix_len is_space text.now }
+    ensures inside { result ≤ length text.now }
+{
+    text.iter().take_while(|byte| is_space(**byte)).count()
+}
+
+/// How many bytes of white space stand at the end of the text.
+fn trailing_spaces(text: &[u8]) -> usize
+    ensures count { result ≡ suffix_len is_space text.now }
+    ensures inside { result ≤ length text.now }
+{
+    text.iter()
+        .rev()
+        .take_while(|byte| is_space(**byte))
+        .count()
+}
+
+/// The text without the white space at its start.
+fn trimmed_start(text: &[u8]) -> &[u8]
+    ensures { result.now ≡ trimmed_start text.now }
+{
+    &text[leading_spaces(text)..]
+}
+
+/// The text without the white space at its end.
+fn trimmed_end(text: &[u8]) -> &[u8]
+    ensures { result.now ≡ trimmed_end text.now }
+{
+    &text[..text.len() - trailing_spaces(text)]
+}
+
+/// The text without the white space at its start and at its end.
+fn trimmed(text: &[u8]) -> &[u8]
+    ensures { result.now ≡ trimmed text.now }
+{
+    trimmed_end(trimmed_start(text))
+}
+
+/// Returns the value of the text if it is `NaN`, `Infinity` or `inf`, the infinities with a sign or
+/// without.
+fn word_value(text: &[u8]) -> Option<Numeric>
+    ensures { result ≡ word_value text.now }
+{
+    if is_nan(text) {
+        return Some(Numeric::NaN);
+    }
+    let (negative, unsigned) = split_sign(text);
+    if !is_infinity(unsigned) {
+        None
+    } else if negative {
+        Some(Numeric::NegativeInfinity)
+    } else {
+        Some(Numeric::Infinity)
+    }
+}
+
+/// Whether the text is the word NaN, in any case.
+fn is_nan(text: &[u8]) -> bool
+    ensures { result ≡ is_nan_text text.now }
+{
+    is_word(text, b"nan")
+}
+
+/// Whether the text is the word Infinity or inf, in any case.
+fn is_infinity(text: &[u8]) -> bool
+    ensures { result ≡ is_infinity_text text.now }
+{
+    is_word(text, b"inf") || is_word(text, b"infinity")
+}
+
+/// Whether the text is the word, in any case.
+fn is_word(text: &[u8], word: &[u8]) -> bool
+    ensures { result ≡ lowercases_to text.now (map to_ascii_lowercase word.now) }
+{
+    text.eq_ignore_ascii_case(word)
 }
 
 /// Returns whether the text begins with `-`, and the text after the sign.

@@ -26,20 +26,20 @@ loop-at-preserved c =
     digit c.loop-at.invariant)
 
 -- what is said of a number and no magnitude
-abbrev None64 : Parts → Type 0
-None64 p = (n : ℕ) → units_of p ≡ n * 10 ^ p.scale → 2 ^ 64 ≤ n
+abbrev NoMagnitude : Parts → Type 0
+NoMagnitude p = (n : ℕ) → units_of p ≡ n * 10 ^ p.scale → 2 ^ 128 ≤ n
 
 abbrev Magnitude : Parts → Option ℕ → Type 0
-Magnitude p result = MatchOption result (None64 p) (λ n. units_of p ≡ n * 10 ^ p.scale)
+Magnitude p result = MatchOption result (NoMagnitude p) (λ n. units_of p ≡ n * 10 ^ p.scale)
 
 pub returns-in_err-count : goal.returns-in_err-count
 returns-in_err-count c =
     subst (Magnitude c.args.v.now) (sym c.from_residual.ensures)
-    (none_below_one (2 ^ 64) c.args.v.now c.digits-digits.ensures.number c.in_err-count.ensures)
+    (none_below_one (2 ^ 128) c.args.v.now c.digits-digits.ensures.number c.in_err-count.ensures)
 
 pub returns-then-digits-count : goal.returns-then-digits-count
 returns-then-digits-count c =
-    none_of_fraction (2 ^ 64) c.args.v.now c.in_ok-count.count c.digits-digits.ensures.number c.in_ok-count.ensures
+    none_of_fraction (2 ^ 128) c.args.v.now c.in_ok-count.count c.digits-digits.ensures.number c.in_ok-count.ensures
     (omega (arith, ap length c.digits-digits.ensures.digits))
 
 -- the first digits that were read are too great
@@ -47,9 +47,9 @@ too_great : (p : Parts) (ds : List ℕ) (magnitude digit count at : ℕ) → ds 
     → at < count → digit ≡ get_or ds at 0
     → magnitude * 10 ^ (4 * (count - at) + p.scale) + units (p.weight -ℤ pos at) p.scale (drop at ds)
     ≡ units p.weight p.scale ds
-    → 2 ^ 64 ≤ magnitude * 10000 + digit → None64 p
+    → 2 ^ 128 ≤ magnitude * 10000 + digit → NoMagnitude p
 too_great p ds magnitude digit count at same whole below is so_far great n e =
-    above (2 ^ 64) (magnitude * 10000 + digit) (count - (at + 1)) p.scale
+    above (2 ^ 128) (magnitude * 10000 + digit) (count - (at + 1)) p.scale
     (units (p.weight -ℤ pos (at + 1)) p.scale (drop (at + 1) ds)) (units p.weight p.scale ds) n
     (units_step p.weight p.scale magnitude digit count at ds whole below is so_far) great
     (ap (units p.weight p.scale) same ∙ e)
@@ -58,8 +58,8 @@ pub returns-in_err-checked_mul : goal.returns-in_err-checked_mul
 returns-in_err-checked_mul c =
     let digit : c.unwrap_or-digit.result ≡ get_or c.digits-digits.result.now c.loop-at.at 0 =
     c.unwrap_or-digit.ensures ∙ ap (λ o. unwrap_or o 0) c.copied.ensures ∙ c.get.ensures.lookup.4 (omega arith) 0 in
-    let great : 2 ^ 64 ≤ c.loop-at.magnitude * 10000 =
-    not_below (c.loop-at.magnitude * 10000) (2 ^ 64) c.in_err-checked_mul.ensures in
+    let great : 2 ^ 128 ≤ c.loop-at.magnitude * 10000 =
+    not_below (c.loop-at.magnitude * 10000) (2 ^ 128) c.in_err-checked_mul.ensures in
     subst (Magnitude c.args.v.now) (sym c.from_residual-in_err-checked_mul.ensures)
     (too_great c.args.v.now c.digits-digits.result.now c.loop-at.magnitude c.unwrap_or-digit.result c.in_ok-count.count
     c.loop-at.at c.digits-digits.ensures.digits c.in_ok-count.ensures c.loop-at-test.true digit c.loop-at.invariant
@@ -69,8 +69,8 @@ pub returns-in_err-magnitude : goal.returns-in_err-magnitude
 returns-in_err-magnitude c =
     let digit : c.unwrap_or-digit.result ≡ get_or c.digits-digits.result.now c.loop-at.at 0 =
     c.unwrap_or-digit.ensures ∙ ap (λ o. unwrap_or o 0) c.copied.ensures ∙ c.get.ensures.lookup.4 (omega arith) 0 in
-    let great : 2 ^ 64 ≤ c.in_ok-checked_mul.field-0 + c.into.result =
-    not_below (c.in_ok-checked_mul.field-0 + c.into.result) (2 ^ 64) c.in_err-magnitude.ensures in
+    let great : 2 ^ 128 ≤ c.in_ok-checked_mul.field-0 + c.into.result =
+    not_below (c.in_ok-checked_mul.field-0 + c.into.result) (2 ^ 128) c.in_err-magnitude.ensures in
     subst (Magnitude c.args.v.now) (sym c.from_residual-in_err-magnitude.ensures)
     (too_great c.args.v.now c.digits-digits.result.now c.loop-at.magnitude c.unwrap_or-digit.result c.in_ok-count.count
     c.loop-at.at c.digits-digits.ensures.digits c.in_ok-count.ensures c.loop-at-test.true digit c.loop-at.invariant
