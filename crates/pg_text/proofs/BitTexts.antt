@@ -1,6 +1,6 @@
 -- Lemmas on the texts of bits.
 use Rattle.std.proofs.Common.{◌≡◌, ℕ, zero, suc, ◌+◌, ◌<◌, List, [], ◌∷◌, ◌++◌, Bool, Some, None}
-use Rattle.std.proofs.Common.{length, take, ap, sym, ◌∙◌, append_assoc, arith}
+use Rattle.std.proofs.Common.{length, take, get_or, refl, ap, sym, ◌∙◌, append_assoc, arith}
 use Rattle.std.specs.List.{slice_get}
 use Rattle.pg_base.specs.Bits.{bit_digit, bits_text}
 use Rattle.pg_base.proofs.BitTexts.{bits_more}
@@ -20,3 +20,10 @@ pub bits_step : (v : List Bool) (i : ℕ) (bit : Bool) (digit : ℕ) (old before
 bits_step v i bit digit old before after e is so_far last =
     last ∙ (λ t. so_far t ++ is t ∷ []) ∙ append_assoc old (bits_text (take i v)) (bit_digit bit ∷ [])
     ∙ ap (λ x. old ++ x) (sym (bits_more v i bit e))
+
+-- each digit of a text of bits is that of a bit
+pub digit_of_bits : (v : List Bool) (i : ℕ) → i < length (bits_text v)
+    → (bit : Bool) × (get_or (bits_text v) i 0 ≡ bit_digit bit)
+digit_of_bits [] i l = absurd (omega arith)
+digit_of_bits (b ∷ bs) zero l = (b, refl)
+digit_of_bits (b ∷ bs) (suc i) l = digit_of_bits bs i (omega arith)

@@ -1,16 +1,14 @@
 -- Lemmas on numbers that are read digit by digit.
-use Rattle.std.proofs.Common.{◌≡◌, ℕ, zero, suc, ◌+◌, ◌-◌, ◌*◌, ◌<◌, ◌≤◌, List, [], ◌∷◌, length, take}
-use Rattle.std.proofs.Common.{drop, get_or, refl, sym, ◌∙◌}
+use Rattle.std.proofs.Common.{◌≡◌, ℕ, zero, suc, ◌+◌, ◌-◌, ◌*◌, ◌<◌, ◌≤◌, List, [], ◌∷◌, ◌++◌, length, take}
+use Rattle.std.proofs.Common.{drop, get_or, ap, sym, ◌∙◌}
 use Rattle.std.proofs.Common.{add-one, arith, subst}
 use Rattle.std.specs.Char.{digit_value}
 use Rattle.std.specs.Int.{IsInRange}
-use Rattle.std.specs.Str.Parse.{AllDigits, digits_value, without_leading_plus}
+use Rattle.std.specs.Str.Parse.{AllDigits, digits_value}
 use Rattle.std.proofs.lemmas.Int.Digits.{digits_value_more}
 use Rattle.std.proofs.lemmas.List.{length-take-le, take-append-drop}
 use Rattle.std.proofs.lemmas.Str.{digit_value_digit}
-use Rattle.std.proofs.lemmas.Str.Parse.{digit_from_value, without_leading_plus_none}
-use Rattle.pg_text.specs.Scans.{TakesNumber}
-use Rattle.pg_base.specs.NumberTexts.{SaysUnsigned}
+use Rattle.pg_text.specs.Scans.{TakesDigits}
 
 one_more : (text : List ℕ) (i : ℕ) → i < length text → digit_value (get_or text i 0) < 10 → AllDigits 10 (take i text)
     → AllDigits 10 (take (suc i) text)
@@ -31,18 +29,15 @@ next_digit text i n more h range digits is next =
       next ∙ (λ j. is j * 10 + digit j) ∙ sym (digits_value_more 10 text i h),
     )
 
-no_plus : (digits : List ℕ) → 0 < length digits → AllDigits 10 digits → without_leading_plus digits ≡ digits
-no_plus [] h d = absurd (omega arith)
-no_plus (c ∷ cs) h d =
-    let range = digit_from_value c d.0 in
-    without_leading_plus_none (c ∷ cs) (λ e. omega arith)
-
-says : (digits : List ℕ) → 0 < length digits → AllDigits 10 digits → SaysUnsigned digits (digits_value 10 digits)
-says digits h d = rw (no_plus digits h d) ((h, d), refl)
-
 -- so many digits at the front are a number
-pub takes_number : (text : List ℕ) (len : ℕ) → 0 < len → len ≤ length text → AllDigits 10 (take len text)
-    → TakesNumber text (digits_value 10 (take len text)) (drop len text)
-takes_number text len some within digits =
-    let h : length (take len text) ≡ len = length-take-le len text within in
-    (take len text, says (take len text) (omega arith) digits, sym (take-append-drop len text))
+pub takes_digits : (text : List ℕ) (len n : ℕ) (rest : List ℕ) → 0 < len → len ≤ length text
+    → AllDigits 10 (take len text) → n ≡ digits_value 10 (take len text) → rest ≡ drop len text
+    → TakesDigits text n len rest
+takes_digits text len n rest some within digits number left =
+    let h : length (take len text) ≡ len = length-take-le len text within in (
+      take len text,
+      (omega arith, digits),
+      number,
+      sym h,
+      sym (take-append-drop len text) ∙ ap (λ r. take len text ++ r) (sym left),
+    )

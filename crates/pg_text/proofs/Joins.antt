@@ -59,13 +59,6 @@ pub zip_more : {A B : Type 0} (R : A → B → Type 0) (xs : List A) (ys : List 
 zip_more R xs ys i x y l e all here =
     rw (take_more xs i x l, ← e) (zip_push R (take i xs) ys x y all here)
 
-pub zip_length : {A B : Type 0} (R : A → B → Type 0) (xs : List A) (ys : List B) → AllZip R xs ys
-    → length xs ≡ length ys
-zip_length R [] [] all = refl
-zip_length R [] (v ∷ vs) all = absurd all
-zip_length R (u ∷ us) [] all = absurd all
-zip_length R (u ∷ us) (v ∷ vs) all = ap suc (zip_length R us vs all.1)
-
 -- a step of a loop that appends the separator and then an item's text
 pub texts_step : (c : ℕ) (items : List (List ℕ)) (i : ℕ) (item : List ℕ) (old before between after : List ℕ)
     → length items ≡ i

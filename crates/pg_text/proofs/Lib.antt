@@ -9,3 +9,5 @@ pub mod Joins
 pub mod Macaddrs
 pub mod Maps
 pub mod ReadBack
+pub mod Refusals
+pub mod Scans

@@ -4,7 +4,7 @@ use Rattle.std.proofs.Common.{sym, ◌∙◌, arith}
 use Rattle.std.specs.List.{AllZip, join_with_byte}
 use Rattle.hex.specs.Hex.{IsBytes, decode_of, encode_lower}
 use Rattle.hex.proofs.HexLemmas.{decode_of-encode_lower, decode_of-ok, decode_of-same}
-use Rattle.pg_text.proofs.Joins.{zip_length}
+use Rattle.pg_base.proofs.Lists.{zip_length}
 use Rattle.pg_text.specs.ReadBack.{IsReadBack}
 use Rattle.pg_base.specs.NetworkTexts.{SaysMacaddr, macaddr_text}
 use Rattle.pg_text.specs.Texts.{Shows}

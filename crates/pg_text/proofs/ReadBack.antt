@@ -1,5 +1,5 @@
 -- Proofs of the laws of texts.
-use Rattle.std.proofs.Common.{◌≡◌, ℕ, suc, ◌<◌, ◌*◌, ◌^◌, ◌==◌, List, [], ◌∷◌, Bool, true, false, Some}
+use Rattle.std.proofs.Common.{◌≡◌, ℕ, suc, ◌<◌, ◌*◌, ◌^◌, ◌==◌, List, [], ◌∷◌, Bool, true, false, Ok, Some}
 use Rattle.std.proofs.Common.{length, refl, ap, sym, ◌∙◌, arith, inl}
 use Rattle.std.proofs.Common.{map}
 use Rattle.std.specs.Fmt.{decimal, signed_decimal}
@@ -11,7 +11,7 @@ use lib.Ieee.Bits.{to_bits-of_bits}
 use lib.Signed.{mag}
 use Rattle.std.specs.Str.Parse.{IsNumeral, starts_with_minus}
 use Rattle.std.specs.Str.Parse.{without_leading_plus}
-use Rattle.std.specs.Prelude.{◌↔◌, Ok}
+use Rattle.std.specs.Prelude.{◌↔◌, Err, IfSome, MatchOption, None, Ok, Option}
 use Rattle.hex.specs.Hex.{IsBytes, encode_lower}
 use Rattle.hex.proofs.HexLemmas.{decode_of-encode_lower, decode_of-same}
 use Rattle.std.proofs.lemmas.Bool.{ne_eqb}
@@ -25,10 +25,15 @@ use Rattle.pg_text.specs.Lists.{SaysVector, vector_text}
 use Rattle.uuid.proofs.RoundTrips.{parses_hyphenated}
 use Rattle.uuid.specs.Text.{hyphenated_text, lower, parsed}
 use Rattle.pg_text.specs.Floats.{SaysFloat, ShowsFloat}
+use Rattle.pg_text.specs.Numerics.{SaysNumeric}
 use Rattle.pg_text.specs.ReadBack.{IsReadBack}
+use Rattle.pg_numbers.proofs.ValueTexts.{value_back, value_once}
+use Rattle.pg_numbers.specs.NumericCells.{is_numeric}
+use Rattle.pg_numbers.specs.NumericTexts.{ParsesNumeric, numeric_text}
 use Rattle.pg_base.specs.Bits.{bit_digit, bits_text}
 use Rattle.pg_base.specs.NumberTexts.{SaysSigned, SaysUnsigned}
-use Rattle.pg_text.specs.Texts.{SaysBytes, Shows, bytes_text}
+use Rattle.pg_text.specs.Texts.{SaysAny, SaysBytes, Shows, bytes_text}
+use Rattle.pg_types.specs.Faults.{Refusal}
 
 -- INT2, INT4, INT8, OID
 
@@ -94,6 +99,20 @@ float4_back = float_back binary32
 pub float8_back : IsReadBack (λ (bits : ℕ). (bits < 2 ^ 64) × IsFalse (is_nan (from_bits binary64 bits)))
     (ShowsFloat binary64) (SaysFloat binary64)
 float8_back = float_back binary64
+
+-- NUMERIC
+
+pub numeric_back : IsReadBack (λ v. is_numeric v ≡ true) (Shows numeric_text) SaysNumeric
+numeric_back v text number shown =
+    let says : SaysNumeric text v = rw shown (value_back v number) in
+    (says, λ w other. let same : Ok w ≡ Ok v = value_once text (Ok v) (Ok w) says other in cc)
+
+-- a text that says a number is refused with no fault but Memory
+pub numeric_parsed : (text : List ℕ) (fault : Option Refusal) (P : Type 0) (Q : Refusal → Type 0)
+    → SaysAny SaysNumeric text → IfSome fault (λ r. ParsesNumeric text (Err r)) → MatchOption fault P Q → P
+numeric_parsed text None P Q says refused cases = cases
+numeric_parsed text (Some r) P Q says refused cases =
+    let both : Err r ≡ Ok says.0 = value_once text (Ok says.0) (Err r) says.1 refused in absurd cc
 
 -- PG_LSN
 

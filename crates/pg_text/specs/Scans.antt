@@ -1,26 +1,36 @@
 -- What is at the front of a text, and the rest of the text.
 use Rattle.std.specs.Prelude.{◌≡◌, ◌⊎◌, ℕ, ◌-◌, ◌*◌, ◌^◌, ◌≤◌, List, [], ◌∷◌, ◌++◌, length}
 use Rattle.std.specs.Prelude.{ℤ, pos, ◌-ℤ◌, ◌*ℤ◌, codes}
+use Rattle.std.specs.Str.Parse.{IsNumeral, digits_value}
 use Rattle.jiff.specs.Types.{Date, DateTime, Time, Timestamp}
 use Rattle.postgres_types.specs.Civil.{instant_nanos}
 use Rattle.postgres_types.specs.Timestamps.{nanos_of}
 use Rattle.postgres_types.specs.declared.UnixTime.{UnixTime}
 use Rattle.pg_calendar.specs.Calendar.{IsTimestamp}
-use Rattle.pg_base.specs.NumberTexts.{SaysUnsigned}
+
+-- so many decimal digits, without a sign, of a number
+abbrev pub TakesDigits : List ℕ → ℕ → ℕ → List ℕ → Type 0
+TakesDigits text n len rest =
+    (digits : List ℕ)
+    × IsNumeral 10 digits
+    × (n ≡ digits_value 10 digits)
+    × (len ≡ length digits)
+    × (text ≡ digits ++ rest)
 
 -- the decimal digits of a number
 abbrev pub TakesNumber : List ℕ → ℕ → List ℕ → Type 0
-TakesNumber text n rest = (digits : List ℕ) × SaysUnsigned digits n × (text ≡ digits ++ rest)
-
--- digits after a decimal point, as millionths
-abbrev pub SaysMillionths : List ℕ → ℕ → Type 0
-SaysMillionths digits micros = (n : ℕ) × SaysUnsigned digits n × (micros ≡ n * 10 ^ (6 - length digits))
+TakesNumber text n rest = (len : ℕ) × TakesDigits text n len rest
 
 -- a decimal point and up to six digits, as millionths, or nothing
 abbrev pub TakesFraction : List ℕ → ℕ → List ℕ → Type 0
 TakesFraction text micros rest =
     ((micros ≡ 0) × (text ≡ rest))
-    ⊎ ((digits : List ℕ) × (length digits ≤ 6) × (text ≡ 46 ∷ (digits ++ rest)) × SaysMillionths digits micros)
+    ⊎ ((after : List ℕ)
+    × (n len : ℕ)
+    × (text ≡ 46 ∷ after)
+    × TakesDigits after n len rest
+    × (len ≤ 6)
+    × (micros ≡ n * 10 ^ (6 - len)))
 
 -- hours, minutes, seconds and a fraction
 abbrev pub TakesClock : List ℕ → ℕ → ℕ → ℕ → ℕ → List ℕ → Type 0
@@ -36,13 +46,15 @@ abbrev pub SaysTime : List ℕ → Time → Type 0
 SaysTime text t =
     (micros : ℕ) × TakesClock text t.hour t.minute t.second micros [] × (t.subsec_nanosecond ≡ micros * 1000)
 
--- a year in its era, a month and a day
+-- a year in its era, of four digits or more, a month, of two or fewer, and a day
 abbrev pub TakesDay : List ℕ → ℤ → ℕ → ℕ → List ℕ → Type 0
 TakesDay text year month day rest =
-    (n : ℕ)
+    (n year_len month_len : ℕ)
     × (a b : List ℕ)
-    × TakesNumber text n (45 ∷ a)
-    × TakesNumber a month (45 ∷ b)
+    × TakesDigits text n year_len (45 ∷ a)
+    × (4 ≤ year_len)
+    × TakesDigits a month month_len (45 ∷ b)
+    × (month_len ≤ 2)
     × TakesNumber b day rest
     × (year ≡ pos n)
 

@@ -1,8 +1,8 @@
 //! The texts of bit strings.
-ghost use Rattle.std.specs.Prelude.{◌≡◌, IfSome, Bool, List};
+ghost use Rattle.std.specs.Prelude.{◌≡◌, MatchOption, Bool, List};
 ghost use Rattle.pg_base.specs.Bits.{bit_digit, bits_text};
 ghost use Rattle.pg_text.specs.ReadBack.{IsReadBack};
-ghost use Rattle.pg_text.specs.Texts.{Shows};
+ghost use Rattle.pg_text.specs.Texts.{SaysAny, Shows};
 
 use crate::{FromText, ToText, no_value};
 use postgres_types::{BitVec, Fault};
@@ -26,6 +26,8 @@ impl ToText for BitVec {
 impl FromText for BitVec {
     ghost says = { λ text v. text ≡ bits_text v };
 
+    ghost parses = { SaysAny (λ text v. text ≡ bits_text v) };
+
     fn from_text(alloc: Global, text: &str) -> Result<BitVec, Fault> {
         let mut bits = BitVec::new(alloc);
         let digits = text.as_bytes();
@@ -48,7 +50,7 @@ fn bit_digit(bit: bool) -> u8
 
 /// Returns the bit of a digit, or `None` if the digit is not 0 or 1.
 fn bit_of(digit: u8) -> Option<bool>
-    ensures { IfSome result (λ bit. digit ≡ bit_digit bit) }
+    ensures { MatchOption result ((bit : Bool) → digit ≡ bit_digit bit → ⊥) (λ bit. digit ≡ bit_digit bit) }
 {
     match digit {
         b'0' => Some(false),

@@ -3,7 +3,7 @@ ghost use Rattle.std.specs.Prelude.{◌≡◌, ◌++◌, OnOk, ◌↔◌, ℕ, [
 ghost use Rattle.std.specs.Global.{Global};
 ghost use Rattle.std.specs.Borrow.{Bor};
 ghost use Rattle.hex.specs.Hex.{encode_lower, IsBytes};
-ghost use Rattle.pg_text.specs.Texts.{SaysBytes, Shows, bytes_text};
+ghost use Rattle.pg_text.specs.Texts.{SaysAny, SaysBytes, Shows, bytes_text};
 
 use crate::{FromText, ToText, no_value};
 use hex::FromHexError;
@@ -35,8 +35,11 @@ pub fn push_hex(bytes: &[u8], out: &mut Vec<u8>) -> Result<(), AllocError>
     }
 }
 
+/// Parses `\x` and two hexadecimal digits of either case for each byte.
 impl FromText for Vec<u8> {
     ghost says = { λ text v. SaysBytes text v.items };
+
+    ghost parses = { SaysAny SaysBytes };
 
     fn from_text(alloc: Global, text: &str) -> Result<Vec<u8>, Fault> {
         let Some(digits) = text.strip_prefix("\\x") else {

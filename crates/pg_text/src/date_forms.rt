@@ -99,36 +99,34 @@ pub fn push_datetime(datetime: DateTime, zone: &[u8], out: &mut Vec<u8>) -> Resu
     push_era(datetime.date, out)
 }
 
-/// Takes a date without its era.
+/// Takes a date without its era. The year has at least four digits, since the server reads a
+/// shorter one by DateStyle; and the month at most two, since it reads three as a day of the year.
 fn take_date(scanner: &mut Scanner<'_>) -> Option<Civil>
     ensures { IfSome result (λ d. TakesDay scanner.old.rest.now d.year d.month d.day scanner.new.rest.now) }
 {
-    let year = i64::try_from(scanner.number()?).ok()?;
-    if year == 0 {
-        return None;
-    }
+    let (year, year_len) = scanner.digits()?;
     scanner.expect(b"-")?;
-    let month = scanner.number_u32()?;
+    let (month, month_len) = scanner.digits()?;
     scanner.expect(b"-")?;
     let day = scanner.number_u32()?;
+    if year == 0 || year_len < 4 || month_len > 2 {
+        return None;
+    }
+    let year = i64::try_from(year).ok()?;
+    let month = u32::try_from(month).ok()?;
     Some(Civil { year, month, day })
 }
 
-/// Takes the era at the end of the text, and returns the date in that era.
-fn take_era(date: Civil, scanner: &mut Scanner<'_>) -> Option<Civil>
-    ensures { IfSome result (λ d. TakesEra scanner.old.rest.now date.year d.year × (d.month ≡ date.month)
-        × (d.day ≡ date.day)) }
+/// Takes the era at the end of the text, and returns the year of this year in that era.
+fn take_era(year: i64, scanner: &mut Scanner<'_>) -> Option<i64>
+    ensures { IfSome result (TakesEra scanner.old.rest.now year) }
 {
     let year = if scanner.take(b" BC") {
-        1i64.checked_sub(date.year)?
+        1i64.checked_sub(year)?
     } else {
-        date.year
+        year
     };
-    if scanner.is_done() {
-        Some(Civil { year, ..date })
-    } else {
-        None
-    }
+    if scanner.is_done() { Some(year) } else { None }
 }
 
 /// Takes a time of day.
@@ -157,7 +155,8 @@ pub fn parse_date(text: &str) -> Option<Civil>
 {
     let mut scanner = Scanner::new(text);
     let date = take_date(&mut scanner)?;
-    take_era(date, &mut scanner)
+    let year = take_era(date.year, &mut scanner)?;
+    Some(Civil { year, ..date })
 }
 
 /// Parses a time of day; `None` if the text is not one.
@@ -179,7 +178,8 @@ pub fn parse_datetime(text: &str, zone: &[u8]) -> Option<DateTime>
     scanner.expect(b" ")?;
     let clock = take_clock(&mut scanner)?;
     scanner.expect(zone)?;
-    let date = take_era(date, &mut scanner)?;
+    let year = take_era(date.year, &mut scanner)?;
+    let date = Civil { year, ..date };
     Some(DateTime { date, clock })
 }
 

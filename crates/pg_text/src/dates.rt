@@ -3,7 +3,7 @@
 ghost use Rattle.std.specs.Prelude.{◌≡◌, ◌*◌, ◌/◌, [], IfSome};
 ghost use Rattle.postgres_types.specs.Special.{date_view, timestamp_view};
 ghost use Rattle.pg_text.specs.Scans.{SaysDate, SaysDateTime, SaysInstant, SaysTime, SaysTimestamp};
-ghost use Rattle.pg_text.specs.Specials.{SaysSpecial, ShowsSpecial};
+ghost use Rattle.pg_text.specs.Specials.{ParsesSpecial, SaysSpecial, ShowsSpecial};
 ghost use Rattle.pg_text.specs.Texts.{Shows};
 ghost use Rattle.pg_base.specs.DateTexts.{civil_date_text, civil_datetime_text, civil_time_text};
 ghost use Rattle.pg_base.specs.DateTexts.{instant_text, unix_time_text};
@@ -58,11 +58,19 @@ impl ToText for civil::Date {
     }
 }
 
+/// Parses a date of `jiff`; `None` if the text is not one.
+fn parse_civil_date(text: &str) -> Option<civil::Date>
+    ensures { IfSome result (SaysDate text.now) }
+{
+    jiff_date(parse_date(text)?)
+}
+
+/// Parses a date in which the month and the day may have one digit.
 impl FromText for civil::Date {
     ghost says = { SaysDate };
 
     fn from_text(_alloc: Global, text: &str) -> Result<civil::Date, Fault> {
-        parse_date(text).and_then(jiff_date).ok_or(no_value())
+        parse_civil_date(text).ok_or_else(no_value)
     }
 }
 
@@ -75,11 +83,19 @@ impl ToText for civil::Time {
     }
 }
 
+/// Parses a time of day of `jiff`; `None` if the text is not one.
+fn parse_civil_time(text: &str) -> Option<civil::Time>
+    ensures { IfSome result (SaysTime text.now) }
+{
+    jiff_time(parse_clock(text)?)
+}
+
+/// Parses a time of day in which the numbers may have one digit.
 impl FromText for civil::Time {
     ghost says = { SaysTime };
 
     fn from_text(_alloc: Global, text: &str) -> Result<civil::Time, Fault> {
-        parse_clock(text).and_then(jiff_time).ok_or(no_value())
+        parse_civil_time(text).ok_or_else(no_value)
     }
 }
 
@@ -100,19 +116,18 @@ impl ToText for civil::DateTime {
 fn parse_civil(text: &str) -> Option<civil::DateTime>
     ensures { IfSome result (SaysDateTime [] text.now) }
 {
-    let DateTime { date, clock } = parse_datetime(text, b"")?;
-    let date = jiff_date(date)?;
-    Some(date.to_datetime(jiff_time(clock)?))
+    let datetime = parse_datetime(text, b"")?;
+    let date = jiff_date(datetime.date)?;
+    let time = jiff_time(datetime.clock)?;
+    Some(date.to_datetime(time))
 }
 
+/// Parses a timestamp in which all numbers but the year may have one digit.
 impl FromText for civil::DateTime {
     ghost says = { SaysDateTime [] };
 
     fn from_text(_alloc: Global, text: &str) -> Result<civil::DateTime, Fault> {
-        match parse_civil(text) {
-            Some(datetime) => Ok(datetime),
-            None => Err(no_value()),
-        }
+        parse_civil(text).ok_or_else(no_value)
     }
 }
 
@@ -133,14 +148,12 @@ fn parse_timestamp(text: &str) -> Option<jiff::Timestamp>
     jiff::Timestamp::from_microsecond(micros).ok()
 }
 
+/// Parses a timestamp in UTC in which all numbers but the year may have one digit.
 impl FromText for jiff::Timestamp {
     ghost says = { SaysInstant };
 
     fn from_text(_alloc: Global, text: &str) -> Result<jiff::Timestamp, Fault> {
-        match parse_timestamp(text) {
-            Some(timestamp) => Ok(timestamp),
-            None => Err(no_value()),
-        }
+        parse_timestamp(text).ok_or_else(no_value)
     }
 }
 
@@ -153,14 +166,20 @@ impl ToText for UnixTime {
     }
 }
 
+/// Parses a timestamp; `None` if the text is not one.
+fn parse_unix_time(text: &str) -> Option<UnixTime>
+    ensures { IfSome result (SaysTimestamp text.now) }
+{
+    let micros = parse_micros(text, b"", POSTGRES_EPOCH_DAY)?;
+    Some(UnixTime::from_postgres_micros(micros))
+}
+
+/// Parses a timestamp in which all numbers but the year may have one digit.
 impl FromText for UnixTime {
     ghost says = { SaysTimestamp };
 
     fn from_text(_alloc: Global, text: &str) -> Result<UnixTime, Fault> {
-        match parse_micros(text, b"", POSTGRES_EPOCH_DAY) {
-            Some(micros) => Ok(UnixTime::from_postgres_micros(micros)),
-            None => Err(no_value()),
-        }
+        parse_unix_time(text).ok_or_else(no_value)
     }
 }
 
@@ -179,6 +198,8 @@ impl<T: ToText> ToText for Date<T> {
 
 impl<T: FromText> FromText for Date<T> {
     ghost says = { λ text v. SaysSpecial T.says text (date_view v) };
+
+    ghost parses = { ParsesSpecial T.parses };
 
     fn from_text(alloc: Global, text: &str) -> Result<Date<T>, Fault> {
         match text {
@@ -206,6 +227,8 @@ impl<T: ToText> ToText for Timestamp<T> {
 
 impl<T: FromText> FromText for Timestamp<T> {
     ghost says = { λ text v. SaysSpecial T.says text (timestamp_view v) };
+
+    ghost parses = { ParsesSpecial T.parses };
 
     // A call would return a `Result` with a fault, of 96 bytes, through memory.
     #[inline(always)]

@@ -1,6 +1,6 @@
 //! Numbers in decimal digits.
 
-ghost use Rattle.std.specs.Prelude.{◌≡◌, ◌<◌, ◌≤◌, ◌++◌, OnOk, drop, replicate};
+ghost use Rattle.std.specs.Prelude.{◌≡◌, ◌<◌, ◌≤◌, ◌++◌, OnOk, drop, replicate, true};
 ghost use Rattle.std.specs.Fmt.{digit_glyph, digits};
 ghost use Rattle.pg_calendar.specs.Texts.{fraction_text, padded_text};
 
@@ -61,25 +61,25 @@ pub fn push_fraction(millionths: u32, out: &mut Vec<u8>) -> Result<(), AllocErro
     Ok(())
 }
 
-/// Appends the number in hexadecimal digits, without leading zeros.
-pub fn push_hex_number(number: u64, is_upper: bool, out: &mut Vec<u8>) -> Result<(), AllocError>
-    ensures { OnOk result (out.new.items ≡ out.old.items ++ digits 16 is_upper number) }
+/// Appends the number in upper-case hexadecimal digits, without leading zeros.
+pub fn push_upper_hex(number: u64, out: &mut Vec<u8>) -> Result<(), AllocError>
+    ensures { OnOk result (out.new.items ≡ out.old.items ++ digits 16 true number) }
 {
     let mut buffer = [0; 64];
-    let start = write_hex_number(number, is_upper, &mut buffer);
+    let start = write_upper_hex(number, &mut buffer);
     out.extend_from_slice(&buffer[start..])
 }
 
 /// Writes the digits at the end of the buffer, and returns where they start.
-fn write_hex_number(number: u64, is_upper: bool, buffer: &mut [u8; 64]) -> usize
+fn write_upper_hex(number: u64, buffer: &mut [u8; 64]) -> usize
     ensures bound { result ≤ 64 }
-    ensures value { drop result buffer.new ≡ digits 16 is_upper number }
+    ensures value { drop result buffer.new ≡ digits 16 true number }
 {
     let mut start = 64;
     let mut rest = number;
     while start > 0 {
         start -= 1;
-        buffer[start] = hex_digit((rest % 16) as u8, is_upper);
+        buffer[start] = upper_hex_digit((rest % 16) as u8);
         rest /= 16;
         if rest == 0 {
             break;
@@ -89,15 +89,13 @@ fn write_hex_number(number: u64, is_upper: bool, buffer: &mut [u8; 64]) -> usize
 }
 
 /// Returns the digit of a number below 16.
-fn hex_digit(number: u8, is_upper: bool) -> u8
+fn upper_hex_digit(number: u8) -> u8
     requires { number < 16 }
-    ensures { result ≡ digit_glyph is_upper number }
+    ensures { result ≡ digit_glyph true number }
 {
     if number < 10 {
         b'0' + number
-    } else if is_upper {
-        b'A' + (number - 10)
     } else {
-        b'a' + (number - 10)
+        b'A' + (number - 10)
     }
 }

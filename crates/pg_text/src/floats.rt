@@ -3,6 +3,7 @@ ghost use Rattle.std.specs.Prelude.{◌<◌, ◌^◌, ℕ, IsFalse, from_bits, i
 ghost use Rattle.std.specs.Float.{binary32, binary64};
 ghost use Rattle.pg_text.specs.Floats.{SaysFloat, ShowsFloat};
 ghost use Rattle.pg_text.specs.ReadBack.{IsReadBack};
+ghost use Rattle.pg_text.specs.Texts.{SaysAny};
 
 use crate::{FromText, ToText, no_value};
 use pg_numbers::{Float4, Float8};
@@ -18,8 +19,11 @@ impl ToText for Float4 {
     }
 }
 
+/// Parses the texts that `Float4::from_str` does (`float4in`).
 impl FromText for Float4 {
     ghost says = { SaysFloat binary32 };
+
+    ghost parses = { SaysAny (SaysFloat binary32) };
 
     fn from_text(_alloc: Global, text: &str) -> Result<Float4, Fault> {
         text.parse::<Float4>().map_err(|_| no_value())
@@ -35,8 +39,11 @@ impl ToText for Float8 {
     }
 }
 
+/// Parses the texts that `Float8::from_str` does (`float8in`).
 impl FromText for Float8 {
     ghost says = { SaysFloat binary64 };
+
+    ghost parses = { SaysAny (SaysFloat binary64) };
 
     fn from_text(_alloc: Global, text: &str) -> Result<Float8, Fault> {
         text.parse::<Float8>().map_err(|_| no_value())

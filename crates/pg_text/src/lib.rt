@@ -3,7 +3,9 @@
 //! PostgreSQL's input functions accept.
 #![tactic(auto)]
 
-ghost use Rattle.std.specs.Prelude.{ℕ, List, IfOk, OnOk};
+ghost use Rattle.std.specs.Prelude.{◌≡◌, ℕ, List, MatchResult, OnOk, Some, codes};
+ghost use Rattle.pg_types.specs.Faults.{refusal_of, user};
+ghost use Rattle.pg_types.specs.declared.fault.Fault.TheVariants.{Memory};
 ghost use Rattle.pg_text.specs.Texts.{AnyText, AnyValue};
 
 pub mod arrays;
@@ -19,6 +21,7 @@ mod intervals;
 pub mod items;
 pub mod network;
 pub mod numbers;
+pub mod numerics;
 mod quotes;
 pub mod records;
 mod scanner;
@@ -46,13 +49,18 @@ pub trait FromText: Sized + Drop {
     /// The text stands for the value. By default nothing is claimed of the value.
     ghost says: { List ℕ → Self → Type 0 } = { AnyValue };
 
+    /// The text is not refused: only memory can run out. By default this holds of no text.
+    ghost parses: { List ℕ → Type 0 } = { λ _. ⊥ };
+
     /// Parses the value. It accepts the text that the server's output function writes for it; a
     /// text that is not a value of the type is refused with `User`.
     fn from_text(alloc: Global, text: &str) -> Result<Self, Fault>
-        ensures { IfOk result (λ value. says text.now value) };
+        ensures { MatchResult result (says text.now) (λ fault. parses text.now → fault ≡ Memory) };
 }
 
 /// Returns the fault of a text that is not a value of its type.
-pub fn no_value() -> Fault {
+pub fn no_value() -> Fault
+    ensures { refusal_of result ≡ Some (user (codes "no value of its type")) }
+{
     Fault::user("no value of its type")
 }

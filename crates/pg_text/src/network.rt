@@ -4,8 +4,9 @@ ghost use Rattle.std.specs.Net.Grammar.{IsIpText};
 ghost use Rattle.hex.specs.Hex.{IsBytes};
 ghost use Rattle.pg_base.specs.NetworkTexts.{SaysMacaddr, SaysNetwork, address_text, cidr_text, inet_text};
 ghost use Rattle.pg_base.specs.NetworkTexts.{macaddr_text};
+ghost use Rattle.pg_base.specs.Network.{NetmaskFits, NoHostBits};
 ghost use Rattle.pg_text.specs.ReadBack.{IsReadBack};
-ghost use Rattle.pg_text.specs.Texts.{Shows};
+ghost use Rattle.pg_text.specs.Texts.{SaysAny, Shows};
 
 use crate::shown::push_shown;
 use crate::{FromText, ToText, no_value};
@@ -24,8 +25,12 @@ impl ToText for IpInet {
     }
 }
 
+/// Parses an address, in each of the forms of the standard library, and `/` and the length of the
+/// netmask, if any.
 impl FromText for IpInet {
     ghost says = { SaysNetwork };
+
+    ghost parses = { SaysAny (λ text n. SaysNetwork text n × NetmaskFits n) };
 
     fn from_text(_alloc: Global, text: &str) -> Result<IpInet, Fault> {
         text.parse()
@@ -44,8 +49,11 @@ impl ToText for IpAddr {
     }
 }
 
+/// Parses an address, in each of the forms of the standard library.
 impl FromText for IpAddr {
     ghost says = { IsIpText };
+
+    ghost parses = { SaysAny IsIpText };
 
     fn from_text(_alloc: Global, text: &str) -> Result<IpAddr, Fault> {
         text.parse().map_err(|_| no_value())
@@ -61,8 +69,11 @@ impl ToText for IpCidr {
     }
 }
 
+/// Parses a network as an [`IpInet`]; no bit of the address after the netmask may be 1.
 impl FromText for IpCidr {
     ghost says = { SaysNetwork };
+
+    ghost parses = { SaysAny (λ text n. SaysNetwork text n × NetmaskFits n × NoHostBits n) };
 
     fn from_text(_alloc: Global, text: &str) -> Result<IpCidr, Fault> {
         text.parse()
@@ -78,6 +89,7 @@ impl ToText for MacAddress {
     }
 }
 
+/// Parses digits of either case.
 impl FromText for MacAddress {
     ghost says = { SaysMacaddr };
 

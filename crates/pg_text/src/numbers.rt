@@ -1,10 +1,10 @@
 //! The texts of integers, booleans and `"char"`.
-ghost use Rattle.std.specs.Prelude.{decimal, Bool, FitsSigned, ◌<◌, ◌^◌, ℕ};
-ghost use Rattle.std.specs.Int.{w16, w32, w64};
+ghost use Rattle.std.specs.Prelude.{decimal, Bool, FitsSigned, ◌≡◌, ◌<◌, ◌^◌, ℕ};
+ghost use Rattle.std.specs.Int.{w16, w32, w64, w8};
 ghost use Rattle.std.specs.Fmt.{signed_decimal};
 ghost use Rattle.pg_base.specs.NumberTexts.{SaysSigned, SaysUnsigned};
 ghost use Rattle.pg_text.specs.ReadBack.{IsReadBack};
-ghost use Rattle.pg_text.specs.Texts.{SaysBool, Shows, bool_text, char_text};
+ghost use Rattle.pg_text.specs.Texts.{SaysAny, SaysBool, SaysChar, Shows, bool_text, char_text, octal_of};
 
 use crate::digits::push_number;
 use crate::{FromText, ToText, no_value};
@@ -20,8 +20,11 @@ impl ToText for bool {
     }
 }
 
+/// Parses `t`, `f`, `true` or `false`.
 impl FromText for bool {
     ghost says = { SaysBool };
+
+    ghost parses = { SaysAny SaysBool };
 
     fn from_text(_alloc: Global, text: &str) -> Result<bool, Fault> {
         match text {
@@ -52,22 +55,29 @@ impl ToText for i8 {
     }
 }
 
+/// Parses no text, a byte, or a backslash and three octal digits of a byte.
 impl FromText for i8 {
+    ghost says = { SaysChar };
+
+    ghost parses = { SaysAny SaysChar };
+
     fn from_text(_alloc: Global, text: &str) -> Result<i8, Fault> {
         match text.as_bytes() {
             [] => Ok(0),
             [byte] => Ok(byte.cast_signed()),
-            [b'\\', high, middle, low] => match octal(*high, *middle, *low) {
-                Some(byte) => Ok(byte.cast_signed()),
-                None => Err(no_value()),
-            },
+            [b'\\', high, middle, low] => {
+                let byte = octal(*high, *middle, *low).ok_or_else(no_value)?;
+                Ok(byte.cast_signed())
+            }
             _ => Err(no_value()),
         }
     }
 }
 
 /// Returns the byte of three octal digits, or `None` if they are not one.
-fn octal(high: u8, middle: u8, low: u8) -> Option<u8> {
+fn octal(high: u8, middle: u8, low: u8) -> Option<u8>
+    ensures { result ≡ octal_of high middle low }
+{
     match (high, middle, low) {
         (b'0'..=b'3', b'0'..=b'7', b'0'..=b'7') => {
             Some((high - b'0') * 64 + (middle - b'0') * 8 + (low - b'0'))
@@ -85,8 +95,11 @@ impl ToText for i16 {
     }
 }
 
+/// Parses decimal digits, after a sign, if any.
 impl FromText for i16 {
     ghost says = { SaysSigned };
+
+    ghost parses = { SaysAny (λ text v. SaysSigned text v × FitsSigned w16 v) };
 
     fn from_text(_alloc: Global, text: &str) -> Result<i16, Fault> {
         text.parse().map_err(|_| no_value())
@@ -102,8 +115,11 @@ impl ToText for i32 {
     }
 }
 
+/// Parses decimal digits, after a sign, if any.
 impl FromText for i32 {
     ghost says = { SaysSigned };
+
+    ghost parses = { SaysAny (λ text v. SaysSigned text v × FitsSigned w32 v) };
 
     fn from_text(_alloc: Global, text: &str) -> Result<i32, Fault> {
         text.parse().map_err(|_| no_value())
@@ -119,8 +135,11 @@ impl ToText for i64 {
     }
 }
 
+/// Parses decimal digits, after a sign, if any.
 impl FromText for i64 {
     ghost says = { SaysSigned };
+
+    ghost parses = { SaysAny (λ text v. SaysSigned text v × FitsSigned w64 v) };
 
     fn from_text(_alloc: Global, text: &str) -> Result<i64, Fault> {
         text.parse().map_err(|_| no_value())
@@ -136,8 +155,11 @@ impl ToText for u32 {
     }
 }
 
+/// Parses decimal digits, after a plus sign, if any.
 impl FromText for u32 {
     ghost says = { SaysUnsigned };
+
+    ghost parses = { SaysAny (λ text n. SaysUnsigned text n × (n < 2 ^ 32)) };
 
     fn from_text(_alloc: Global, text: &str) -> Result<u32, Fault> {
         text.parse().map_err(|_| no_value())
@@ -147,6 +169,11 @@ impl FromText for u32 {
 /// The text of a boolean says it, and no other.
 pub fn bool_is_read_back()
     ensures { IsReadBack (λ (v : Bool). Unit {0}) ⟦<bool as ToText>⟧.shows ⟦<bool as FromText>⟧.says }
+{}
+
+/// The text of a CHAR says it, and no other.
+pub fn char_is_read_back()
+    ensures { IsReadBack (FitsSigned w8) ⟦<i8 as ToText>⟧.shows ⟦<i8 as FromText>⟧.says }
 {}
 
 /// The text of an INT2 says it, and no other.

@@ -1,6 +1,6 @@
 //! Reading a text from the front.
 ghost use Rattle.std.specs.Prelude.{◌≡◌, ◌≤◌, ◌-◌, ◌*◌, ◌^◌, ◌==◌, ◌++◌, IfSome, MatchBool, length};
-ghost use Rattle.pg_text.specs.Scans.{TakesFraction, TakesNumber};
+ghost use Rattle.pg_text.specs.Scans.{TakesDigits, TakesFraction, TakesNumber};
 
 /// The rest of a text.
 #[derive(Debug, Clone, Copy)]
@@ -25,11 +25,6 @@ impl<'a> Scanner<'a> {
         self.rest.is_empty()
     }
 
-    /// Returns the rest of the text.
-    pub fn rest(&self) -> &'a [u8] {
-        self.rest
-    }
-
     /// Takes the word if the rest begins with it. Returns whether it does.
     pub fn take(&mut self, word: &[u8]) -> bool
         ensures { MatchBool result (self.old.rest.now ≡ word.now ++ self.new.rest.now)
@@ -51,10 +46,10 @@ impl<'a> Scanner<'a> {
         if self.take(word) { Some(()) } else { None }
     }
 
-    /// Takes a decimal number; `None` if there is no digit, or if the number does not fit in a
-    /// `u64`.
-    pub fn number(&mut self) -> Option<u64>
-        ensures { IfSome result (λ n. TakesNumber self.old.rest.now n self.new.rest.now) }
+    /// Takes a decimal number, and returns it and how many digits it has; `None` if there is no
+    /// digit, or if the number does not fit in a `u64`.
+    pub fn digits(&mut self) -> Option<(u64, usize)>
+        ensures { IfSome result (λ n. TakesDigits self.old.rest.now n.0 n.1 self.new.rest.now) }
     {
         let text = self.rest;
         let mut number: u64 = 0;
@@ -68,6 +63,15 @@ impl<'a> Scanner<'a> {
             return None;
         }
         self.rest = &text[len..];
+        Some((number, len))
+    }
+
+    /// Takes a decimal number; `None` if there is no digit, or if the number does not fit in a
+    /// `u64`.
+    pub fn number(&mut self) -> Option<u64>
+        ensures { IfSome result (λ n. TakesNumber self.old.rest.now n self.new.rest.now) }
+    {
+        let (number, _) = self.digits()?;
         Some(number)
     }
 
@@ -87,9 +91,8 @@ impl<'a> Scanner<'a> {
         if !self.take(b".") {
             return Some(0);
         }
-        let len = self.rest.len();
-        let number = self.number_u32()?;
-        millionths(number, len - self.rest.len())
+        let (number, places) = self.digits()?;
+        millionths(u32::try_from(number).ok()?, places)
     }
 
     /// Takes a quoted text, in which a backslash precedes a quote and a backslash, and appends the

@@ -4,9 +4,9 @@ ghost use Rattle.std.specs.List.{All};
 ghost use Rattle.uuid.specs.Text.{hyphenated_text, lower, parsed};
 ghost use Rattle.postgres_types.specs.Lsn.{lsn_of, lsn_text};
 ghost use Rattle.pg_text.specs.ReadBack.{IsReadBack};
-ghost use Rattle.pg_text.specs.Texts.{Shows};
+ghost use Rattle.pg_text.specs.Texts.{SaysAny, Shows};
 
-use crate::digits::push_hex_number;
+use crate::digits::push_upper_hex;
 use crate::{FromText, ToText, no_value};
 use postgres_types::{Fault, PgLsn};
 use std::alloc::{AllocError, Global};
@@ -23,8 +23,12 @@ impl ToText for Uuid {
     }
 }
 
+/// Parses 32 hexadecimal digits of either case: in five groups, alone, in braces, or after
+/// `urn:uuid:`.
 impl FromText for Uuid {
     ghost says = { λ text v. parsed text ≡ Some v };
+
+    ghost parses = { SaysAny (λ text v. parsed text ≡ Some v) };
 
     fn from_text(_alloc: Global, text: &str) -> Result<Uuid, Fault> {
         Uuid::try_parse(text).map_err(|_| no_value())
@@ -37,14 +41,17 @@ impl ToText for PgLsn {
 
     fn to_text(&self, _alloc: Global, out: &mut Vec<u8>) -> Result<(), AllocError> {
         let position = u64::from(*self);
-        push_hex_number(position >> 32, true, out)?;
+        push_upper_hex(position >> 32, out)?;
         out.push(b'/')?;
-        push_hex_number(position & 0xffff_ffff, true, out)
+        push_upper_hex(position & 0xffff_ffff, out)
     }
 }
 
+/// Parses the texts that `PgLsn::from_str` does.
 impl FromText for PgLsn {
     ghost says = { λ text v. lsn_of text ≡ Some v };
+
+    ghost parses = { SaysAny (λ text v. lsn_of text ≡ Some v) };
 
     fn from_text(_alloc: Global, text: &str) -> Result<PgLsn, Fault> {
         text.parse().map_err(|_| no_value())

@@ -20,6 +20,8 @@ impl ToText for &str {
 impl FromText for String {
     ghost says = { λ text s. string_bytes s ≡ text };
 
+    ghost parses = { λ _. Unit {0} };
+
     fn from_text(alloc: Global, text: &str) -> Result<String, Fault> {
         Ok(String::from_str(alloc, text)?)
     }

@@ -2,7 +2,8 @@
 use Rattle.std.proofs.Common.{[], ◌∷◌, ◌++◌, sym, ◌∙◌, take, arith}
 use Rattle.std.proofs.lemmas.List.{length-take-le}
 use Rattle.pg_text.specs.Lists.{ShowsElement}
-use Rattle.pg_text.proofs.Joins.{texts_step, zip_length, zip_more}
+use Rattle.pg_base.proofs.Lists.{zip_length}
+use Rattle.pg_text.proofs.Joins.{texts_step, zip_more}
 use Rattle.pg_text.proofs.arrays.push_array.Goals as goal
 
 pub loop-place-preserved : goal.loop-place-preserved

@@ -1,9 +1,8 @@
--- What the proof of `Scanner::number` answers by hand.
-use Rattle.std.proofs.Common.{◌≡◌, ◌+◌, ◌-◌, ◌*◌, ◌<◌, drop, get_or, length, sym, subst, take, arith}
+-- What the proof of `Scanner::digits` answers by hand.
+use Rattle.std.proofs.Common.{◌≡◌, ◌+◌, ◌-◌, ◌*◌, ◌<◌, drop, get_or, length, take, arith}
 use Rattle.std.proofs.lemmas.List.{take_rest}
-use Rattle.pg_text.specs.Scans.{TakesNumber}
-use Rattle.pg_text.proofs.DigitRuns.{next_digit, takes_number}
-use Rattle.pg_text.proofs.scanner.Scanner.number.Goals as goal
+use Rattle.pg_text.proofs.DigitRuns.{next_digit, takes_digits}
+use Rattle.pg_text.proofs.scanner.Scanner.digits.Goals as goal
 
 pub loop-len-preserved : goal.loop-len-preserved
 loop-len-preserved c =
@@ -20,6 +19,5 @@ returns c =
     let text = c.args.self.now.rest.now in
     let l = c.loop-len in
     let some : 0 < l.len = omega (arith, c.if-len-eq0.false) in
-    subst (λ n. TakesNumber text n (take (length text - l.len) (drop l.len text))) (sym l.invariant.2)
-    (subst (TakesNumber text _) (sym (take_rest text l.len))
-    (takes_number text l.len some l.invariant.0 l.invariant.1))
+    takes_digits text l.len l.number (take (length text - l.len) (drop l.len text)) some l.invariant.0 l.invariant.1
+    l.invariant.2 (take_rest text l.len)

@@ -1,7 +1,7 @@
--- The loop of `Scanner::number`: the number of so many digits.
+-- The loop of `Scanner::digits`: the number of so many digits.
 use Rattle.std.proofs.Common.{◌≡◌, ◌≤◌, ◌-◌, length, take}
 use Rattle.std.specs.Str.Parse.{AllDigits, digits_value}
-use Rattle.pg_text.proofs.scanner.Scanner.number.Given as goal
+use Rattle.pg_text.proofs.scanner.Scanner.digits.Given as goal
 
 abbrev pub invariant-loop-len : goal.invariant-loop-len
 invariant-loop-len l =

@@ -1,0 +1,32 @@
+-- Lemmas on what texts are scanned as.
+use Rattle.std.proofs.Common.{◌≡◌, ◌*◌, ℕ, ℤ, List, [], subst, sym}
+use Rattle.jiff.specs.Types.{Date, Time}
+use Rattle.pg_text.specs.Scans.{SaysDate, SaysTime, TakesClock, TakesDay, TakesEra, TakesTimestamp}
+
+-- a timestamp of the same fields
+pub same_timestamp : (text zone : List ℕ) (y z : ℤ) (m n d e h i p q s t f : ℕ) → y ≡ z → m ≡ n → d ≡ e → h ≡ i
+    → p ≡ q → s ≡ t → TakesTimestamp text zone y m d h p s f → TakesTimestamp text zone z n e i q t f
+same_timestamp text zone y z m n d e h i p q s t f year month day hour minute second read =
+    subst {A = ℤ × ℕ × ℕ × ℕ × ℕ × ℕ} (λ v. TakesTimestamp text zone v.0 v.1 v.2 v.3 v.4 v.5 f)
+    (λ k. (year k, month k, day k, hour k, minute k, second k)) read
+
+-- a date of the same fields
+pub date_said : (text : List ℕ) (d : Date) (year : ℤ) (month day : ℕ) → d.year ≡ year → d.month ≡ month → d.day ≡ day
+    → (inside : ℤ) × (rest : List ℕ) × TakesDay text inside month day rest × TakesEra rest inside year
+    → SaysDate text d
+date_said text d year month day y m e read = (
+  read.0,
+  read.1,
+  subst {A = ℕ × ℕ} (λ v. TakesDay text read.0 v.0 v.1 read.1) (λ k. (sym m k, sym e k)) read.2,
+  subst (TakesEra read.1 read.0) (sym y) read.3,
+)
+
+-- a time of day of the same fields
+pub time_said : (text : List ℕ) (t : Time) (hour minute second micros : ℕ) → t.hour ≡ hour → t.minute ≡ minute
+    → t.second ≡ second → t.subsec_nanosecond ≡ micros * 1000 → TakesClock text hour minute second micros []
+    → SaysTime text t
+time_said text t hour minute second micros h m s fraction read = (
+  micros,
+  subst {A = ℕ × ℕ × ℕ} (λ v. TakesClock text v.0 v.1 v.2 micros []) (λ k. (sym h k, sym m k, sym s k)) read,
+  fraction,
+)

@@ -1,0 +1,8 @@
+-- What the proof of `from_text` answers by hand.
+use Rattle.pg_text.proofs.Refusals.{value_or_fault}
+use Rattle.pg_text.proofs.dates.CivilDateFromText.from_text.Goals as goal
+
+pub returns : goal.returns
+returns c =
+    value_or_fault c.parse_civil_date.result c.ok_or_else.result _ _ _ _ c.ok_or_else.ensures.cases c.parse_civil_date.ensures
+    (λ none fault made never. absurd never)
