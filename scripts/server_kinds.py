@@ -125,7 +125,7 @@ KINDS = [
     *(Kind(f"{name}_nan", name, f"CASE i % 5 WHEN 0 THEN {nans[0]} WHEN 1 THEN {nans[1]} WHEN 2 THEN {nans[2]} ELSE i END",
            copy_name=name, pgcell_name=name, send=f"{name}send", other_bytes=PAYLOADS)
       for name in ("float4", "float8") for nans in [[it.format(name) for it in NANS]]),
-    Kind("numeric", "numeric", NUMERIC, NUMERICS, copy_name=None),
+    Kind("numeric", "numeric", NUMERIC, NUMERICS),
     Kind("text", "text", ODD, TEXTS),
     Kind("varchar", "varchar", ODD, TEXTS),
     Kind("bpchar", "char(40)", "md5(i::text)", ("''", "' '", "E'\\t'"), copy_name="character(40)"),

@@ -21,7 +21,8 @@ use Rattle.pg_copy.specs.ReadingSteps.{TakesCell}
 use Rattle.pg_copy.specs.Values.{HasOtherBound}
 use Rattle.pg_copy.specs.declared.columns.Field.{Field}
 use Rattle.pg_copy.specs.declared.types.Base.{Base}
-use Rattle.pg_text.proofs.Joins.{texts_step, zip_length}
+use Rattle.pg_base.proofs.Lists.{zip_length}
+use Rattle.pg_text.proofs.Joins.{texts_step}
 use Rattle.pg_text.specs.Lists.{ShowsArray, separator}
 use Rattle.pg_text.specs.Quotes.{field_text}
 use Rattle.pg_types.specs.Content.{Content, content, oid_of}

@@ -13,6 +13,8 @@ mod RefusalLaws
 mod RowLaws
 mod StopLaws
 mod TextLaws
+pub mod TypeNames
+mod TypeTexts
 pub mod Wires
 mod WrittenLaws
 pub mod WrittenRecords

@@ -1,5 +1,6 @@
 -- Definitions for the contracts of this crate.
 pub mod CellRefusals
+pub mod ColumnTypes
 pub mod Composites
 pub mod Escapes
 pub mod Lines
@@ -8,6 +9,7 @@ pub mod ReadingSteps
 pub mod Refusals
 pub mod Rows
 pub mod TextLines
+pub mod TypeNames
 pub mod Values
 pub mod WrittenCells
 pub mod WrittenComposites

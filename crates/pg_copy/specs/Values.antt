@@ -13,11 +13,15 @@ use Rattle.pg_copy.specs.declared.types.Base.{Base}
 use Rattle.pg_copy.specs.declared.types.Base.TheVariants as base
 use Rattle.pg_base.specs.Cells.{be}
 use Rattle.pg_base.specs.Json.{ReadsJson, wire_json}
+use Rattle.pg_numbers.specs.NumericCells.{ReadsNumeric, wire_numeric}
+use Rattle.pg_numbers.specs.NumericTexts.{numeric_text}
 use Rattle.pg_text.specs.Floats.{SaysFloat, ShowsFloat}
 use Rattle.pg_text.specs.Lists.{SaysArray, SaysVector, ShowsArray, vector_text}
 use Rattle.pg_text.specs.Maps.{ShowsMap}
+use Rattle.pg_text.specs.Numerics.{SaysNumeric}
 use Rattle.pg_text.specs.Specials.{SaysSpecial, ShowsSpecial}
-use Rattle.pg_text.specs.Texts.{AnyText, AnyValue, SaysBool, SaysBytes, Shows}
+use Rattle.pg_text.specs.Intervals.{SaysInterval}
+use Rattle.pg_text.specs.Texts.{AnyText, AnyValue, SaysBool, SaysBytes, SaysChar, Shows}
 use Rattle.pg_text.specs.Texts.{bool_text, bytes_text, char_text}
 use Rattle.pg_text.specs.Scans.{SaysDate, SaysInstant, SaysTime, SaysTimestamp}
 use Rattle.pg_types.specs.declared.types.built_in.BuiltIn.TheVariants.{Jsonb}
@@ -174,7 +178,7 @@ values_of base.Bytea = (
   plain {A = Bor (List ℕ)} (ReadsBytes (λ s. s.now)) (Shows (λ s. bytes_text s.now)),
   parsed {A = Vec ℕ Global} (λ text v. SaysBytes text v.items) (λ v. wire_bytes v.items),
 )
-values_of base.Char = (plain (ReadsSigned w8) (Shows char_text), written (wire_signed w8))
+values_of base.Char = (plain (ReadsSigned w8) (Shows char_text), parsed SaysChar (wire_signed w8))
 values_of base.Cidr = (plain ReadsCidr (Shows cidr_text), parsed SaysNetwork wire_cidr)
 values_of base.Citext = texts
 values_of base.Composite = composites
@@ -199,7 +203,7 @@ values_of base.Int2Vector = (
 )
 values_of base.Int4 = (plain (ReadsSigned w32) (Shows signed_decimal), parsed SaysSigned (wire_signed w32))
 values_of base.Int8 = (plain (ReadsSigned w64) (Shows signed_decimal), parsed SaysSigned (wire_signed w64))
-values_of base.Interval = (plain ReadsInterval (Shows interval_text), written wire_interval)
+values_of base.Interval = (plain ReadsInterval (Shows interval_text), parsed SaysInterval wire_interval)
 values_of base.Json = documents
 values_of base.Jsonb = documents
 values_of base.Lquery = texts
@@ -207,6 +211,7 @@ values_of base.Ltree = texts
 values_of base.Ltxtquery = texts
 values_of base.Macaddr = (plain (ReadsFixedBytes 6) (Shows macaddr_text), parsed SaysMacaddr (wire_fixed_bytes 6))
 values_of base.Name = texts
+values_of base.Numeric = (plain ReadsNumeric (Shows numeric_text), parsed SaysNumeric wire_numeric)
 values_of base.Oid = (plain (ReadsUnsigned w32) (Shows decimal), parsed SaysUnsigned (wire_unsigned w32))
 values_of base.OidVector = (
   with_arrays (values (ReadsVec (λ _. ReadsUnsigned w32)) (Shows (λ v. vector_text decimal v.items))),

@@ -1,4 +1,8 @@
 //! The columns of a COPY.
+ghost use Rattle.std.specs.List.{All};
+ghost use Rattle.std.specs.Prelude.{◌≡◌, IfOk, codes, option_map};
+ghost use Rattle.pg_copy.specs.ColumnTypes.{HasItsType, IsTyped, types_of};
+ghost use Rattle.pg_types.specs.Content.{UserDefinedType, content, kind_content};
 
 use crate::type_names::{TypeName, after_field_name, split_at_comma};
 use crate::types::{Base, base_types};
@@ -57,7 +61,7 @@ macro_rules! types {
     (($of:expr, $alloc:ident) $($base:ident $names:tt $types:tt,)*) => {
         match $of {
             $(Base::$base => row_types!($alloc $types),)*
-            Base::Composite => (Type::BYTEA, None),
+            Base::Composite => Ok((Type::BYTEA, None)),
         }
     };
 }
@@ -67,37 +71,50 @@ macro_rules! row_types {
     ($alloc:ident [$rust:ty, user $name:literal]) => {{
         let own = user_type($alloc, $name, Kind::Simple)?;
         let arrays = user_type($alloc, $name, Kind::Array(own.clone()?))?;
-        (own, Some(arrays))
+        Ok((own, Some(arrays)))
     }};
     ($alloc:ident [$rust:ty, catalog($own:path, $arrays:path)]) => {{
         let own = $own($alloc).map_err(|_| AllocError)?;
         let arrays = $arrays($alloc).map_err(|_| AllocError)?;
-        (own, Some(arrays))
+        Ok((own, Some(arrays)))
     }};
     ($alloc:ident [$rust:ty, $own:ident]) => {
-        (Type::$own, None)
+        Ok((Type::$own, None))
     };
     ($alloc:ident [$rust:ty, $own:ident, $arrays:ident]) => {
-        (Type::$own, Some(Type::$arrays))
+        Ok((Type::$own, Some(Type::$arrays)))
     };
 }
 
 /// Creates a type that an extension or a user made. Its OID is unknown, and set to 0, which no type
 /// has: from version 14 on, servers check an OID in a cell only if it is that of a built-in type
 /// (`array_recv`, `record_recv`).
-fn user_type(alloc: Global, name: &str, kind: Kind) -> Result<Type, AllocError> {
+fn user_type(alloc: Global, name: &str, kind: Kind) -> Result<Type, AllocError>
+    ensures { IfOk result (λ ty. content ty
+        ≡ UserDefinedType name.now 0 (kind_content kind) (codes "public")) }
+{
     let name = String::from_str(alloc, name)?;
     let schema = String::from_str(alloc, "public")?;
     Type::new(alloc, name, 0, kind, schema).map_err(|_| AllocError)
 }
 
+/// Returns the Postgres types of a type of the table: its own, and that of its arrays, if there are
+/// any.
+fn types_of(alloc: Global, base: Base) -> Result<(Type, Option<Type>), AllocError>
+    ensures { IfOk result (λ types. (content types.0, option_map content types.1) ≡ types_of base) }
+{
+    base_types!(types(base, alloc))
+}
+
 impl Field {
     /// Creates a field of this type.
-    fn parse(alloc: Global, name: TypeName<'_>) -> Result<Field, TypeFault> {
+    fn parse(alloc: Global, name: TypeName<'_>) -> Result<Field, TypeFault>
+        ensures { IfOk result HasItsType }
+    {
         let Some(base) = name.base(alloc)? else {
             return Err(TypeFault::Unknown);
         };
-        let (own, arrays): (Type, Option<Type>) = base_types!(types(base, alloc));
+        let (own, arrays) = types_of(alloc, base)?;
         let is_array = name.is_array;
         let ty = if is_array { arrays } else { Some(own) };
         match ty {
@@ -108,7 +125,9 @@ impl Field {
 }
 
 /// Parses the fields of a composite type, each of which is a name and a type.
-fn parse_fields(alloc: Global, text: &str) -> Result<Vec<Field>, TypeFault> {
+fn parse_fields(alloc: Global, text: &str) -> Result<Vec<Field>, TypeFault>
+    ensures { IfOk result (λ fields. All HasItsType fields.items) }
+{
     let mut fields = Vec::new(alloc);
     let mut rest = Some(text);
     // A field and its comma take at least two bytes.
@@ -132,7 +151,9 @@ fn parse_fields(alloc: Global, text: &str) -> Result<Vec<Field>, TypeFault> {
 
 impl Column {
     /// Creates a column of the type with this name.
-    pub fn parse(alloc: Global, text: &str) -> Result<Column, TypeFault> {
+    pub fn parse(alloc: Global, text: &str) -> Result<Column, TypeFault>
+        ensures { IfOk result IsTyped }
+    {
         let name = TypeName::parse(text);
         if let Some(fields) = name.fields() {
             return Ok(Column {

@@ -1,4 +1,7 @@
 //! The names of types, as PostgreSQL prints them (`format_type`).
+ghost use Rattle.std.specs.Prelude.{Bool};
+ghost use Rattle.std.specs.Str.{trim};
+ghost use Rattle.pg_copy.specs.TypeNames.{IsBetween, IsTypeText, IsTypeNamed};
 
 use crate::types::Base;
 use std::alloc::{AllocError, Global};
@@ -15,7 +18,9 @@ pub struct TypeName<'a> {
 
 impl<'a> TypeName<'a> {
     /// Splits the text of a type into its parts.
-    pub fn parse(text: &'a str) -> TypeName<'a> {
+    pub fn parse(text: &'a str) -> TypeName<'a>
+        ensures { IsTypeText result.name.now result.is_array (trim text.now) }
+    {
         let text = text.trim();
         let name = without_brackets(text);
         TypeName {
@@ -25,7 +30,9 @@ impl<'a> TypeName<'a> {
     }
 
     /// Returns the fields of a composite type, without the parentheses, or `None` for a name.
-    pub fn fields(&self) -> Option<&'a str> {
+    pub fn fields(&self) -> Option<&'a str>
+        ensures { IsBetween 40 41 self.now.name.now result }
+    {
         self.name.strip_prefix("(")?.strip_suffix(")")
     }
 
@@ -40,7 +47,9 @@ impl<'a> TypeName<'a> {
 }
 
 /// Returns the type with this name, which is in lower case, without a schema or a modifier.
-fn base_of(name: &str) -> Option<Base> {
+fn base_of(name: &str) -> Option<Base>
+    ensures { IsTypeNamed name.now result }
+{
     // The name may have fields, like `interval day to second`.
     if name.starts_with("interval ") {
         return Some(Base::Interval);
@@ -61,19 +70,20 @@ fn without_schema(name: &str) -> &str {
 }
 
 /// Returns the text without the brackets at its end.
-fn without_brackets(text: &str) -> &str {
+fn without_brackets(text: &str) -> &str
+    ensures { (is_array : Bool) × IsTypeText result.now is_array text.now }
+{
     let mut rest = text;
-    for _ in 0..text.len() {
-        let Some(before) = rest.strip_suffix("[]") else {
-            break;
-        };
+    while let Some(before) = rest.strip_suffix("[]") {
         rest = before.trim_end();
     }
     rest
 }
 
 /// Returns the name without its quotes.
-fn unquoted(name: &str) -> Option<&str> {
+fn unquoted(name: &str) -> Option<&str>
+    ensures { IsBetween 34 34 name.now result }
+{
     name.strip_prefix("\"")?.strip_suffix("\"")
 }
 

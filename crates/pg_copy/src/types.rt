@@ -1,4 +1,6 @@
 //! The PostgreSQL types of columns.
+ghost use Rattle.std.specs.Prelude.{◌≡◌, Some, slice_get};
+ghost use Rattle.pg_copy.specs.TypeNames.{base_of, has_arrays, names_of};
 
 /// The table of the types with a conversion, in alphabetical order. A row has the member of
 /// [`Base`], its names (faults and the help print the first one), its Rust type, and its Postgres
@@ -38,6 +40,8 @@ macro_rules! base_types {
             Ltxtquery ["ltxtquery"] [String, user "ltxtquery"],
             Macaddr ["macaddr"] [postgres_types::MacAddress, MACADDR, MACADDR_ARRAY],
             Name ["name"] [String, NAME, NAME_ARRAY],
+            Numeric ["numeric" "decimal"]
+                [pg_numbers::Numeric, catalog(pg_numbers::types::numeric_type, pg_numbers::types::numeric_array_type)],
             Oid ["oid"] [u32, OID, OID_ARRAY],
             OidVector ["oidvector"] [Vec<u32>, OID_VECTOR],
             PgLsn ["pg_lsn"] [postgres_types::PgLsn, PG_LSN, PG_LSN_ARRAY],
@@ -85,6 +89,7 @@ pub enum Base {
     Ltxtquery,
     Macaddr,
     Name,
+    Numeric,
     Oid,
     OidVector,
     PgLsn,
@@ -148,17 +153,23 @@ impl Base {
     pub const ALL: &'static [Base] = &base_types!(all());
 
     /// Returns the type with this name, which is in lower case, without a schema or a modifier.
-    pub fn parse(name: &str) -> Option<Base> {
+    pub fn parse(name: &str) -> Option<Base>
+        ensures { result ≡ base_of name.now }
+    {
         base_types!(found(name))
     }
 
     /// Returns the first name of the type.
-    pub fn name(self) -> &'static str {
+    pub fn name(self) -> &'static str
+        ensures { slice_get (names_of self) 0 ≡ Some result.now }
+    {
         base_types!(name_of(self))
     }
 
     /// Whether the type has arrays.
-    pub fn has_arrays(self) -> bool {
+    pub fn has_arrays(self) -> bool
+        ensures { result ≡ has_arrays self }
+    {
         base_types!(has_arrays(self))
     }
 }

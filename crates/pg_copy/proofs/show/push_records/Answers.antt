@@ -2,7 +2,8 @@
 use Rattle.std.proofs.Common.{[], ◌∷◌, ◌++◌, ◌∙◌, Bor, List, None, Option, arith, get_or, sym, take, ℕ}
 use Rattle.std.proofs.lemmas.List.{get_or_default, length-take-le}
 use Rattle.pg_copy.specs.Composites.{ShowsRecord}
-use Rattle.pg_text.proofs.Joins.{texts_step, zip_length, zip_more}
+use Rattle.pg_base.proofs.Lists.{zip_length}
+use Rattle.pg_text.proofs.Joins.{texts_step, zip_more}
 use Rattle.pg_text.specs.Lists.{ShowsElement}
 use Rattle.std.proofs.lemmas.Option.{IfSome_then}
 use Rattle.std.proofs.lemmas.Result.{err_from_is_err_and}
