@@ -2,8 +2,7 @@
 
 use anyhow::{Result, bail};
 use pg_client::catalog::TypeRow;
-use postgres_types::private::read_value;
-use postgres_types::{Oid, Type};
+use postgres_types::{Oid, Type, read_value};
 use std::alloc::Global;
 
 /// The length of the header before the rows: the signature, the flags, and the length of an

@@ -1,6 +1,6 @@
 -- A table that takes one more type has what it had, and what rows describe there they still describe.
 use Rattle.std.proofs.Common.{arith, ◌≡◌, ◌≢◌, ◌∙◌, sym, refl, ℕ, List, [], ◌∷◌, Option, Some, None, inl, inr, ⊎_elim}
-use Rattle.std.proofs.Common.{ap, ◌++◌, map, IsSome, zero, suc, length, ◌<◌}
+use Rattle.std.proofs.Common.{ap, ◌++◌, map, IsSome, zero, suc, length, ◌<◌, string_bytes, subst}
 use Rattle.std.proofs.lemmas.Bool.{cases_eq}
 use Rattle.std.proofs.lemmas.List.{append-nil, map-append}
 use Rattle.std.proofs.lemmas.List.Elements.{Contains-append_cases, Contains-append_left}
@@ -14,7 +14,7 @@ use Rattle.pg_types.specs.Content.{Content, KindContent, content}
 use Rattle.pg_client.specs.CatalogRows.{kind_of_letter}
 use Rattle.pg_client.specs.CatalogTypes.{Adds, AddsOrHas, Describes, Holds, IsKind, IsTypeOf}
 use Rattle.pg_client.specs.TypeTables.{Table}
-use Rattle.pg_client.specs.WholeCatalogs.{AreDescribed, AreToldAt, IsTold, Keeps}
+use Rattle.pg_client.specs.WholeCatalogs.{AreDescribed, AreOfRows, AreToldAt, IsTold, Keeps}
 use Rattle.pg_client.specs.declared.catalog.TypeRow.{TypeRow}
 use Rattle.pg_client.specs.declared.catalog.refused.RefusedType.{RefusedType}
 use Rattle.pg_client.specs.declared.catalog.kinds.TypeKind.{TypeKind}
@@ -116,7 +116,7 @@ told_more xs ys oid h =
     rw (map-append (λ (own : RefusedType). own.oid) xs ys) (Contains-append_left _ (map (λ own. own.oid) ys) oid h)
 
 -- a list of one
-only : (x y : ℕ) → Contains (x ∷ []) y → x ≡ y
+only : {A : Type 0} (x y : A) → Contains (x ∷ []) y → x ≡ y
 only x y (zero, k, e) = e
 only x y (suc n, k, e) = absurd (omega arith)
 
@@ -143,11 +143,25 @@ same_described table after rows e all oid own h =
           (λ row. described_kept table after row (content own) (extends_same table after e)) was.1,
     )
 
+-- no refused row is of the rows
+pub none_refused : (rows : List TypeRow) → AreOfRows [] rows
+none_refused rows own (n, k, e) = absurd (omega (arith, k))
+
+-- one refused row is
+pub one_refused : (rows : List TypeRow) (place : ℕ) (row : TypeRow) (own : RefusedType) → slice_get rows place ≡ Some row
+    → row.oid ≡ own.oid → row.name.now ≡ string_bytes own.name → AreOfRows (own ∷ []) rows
+one_refused rows place row own at oid name other among =
+    let same : own ≡ other = only own other among in
+    rw (← same) (place, rw at (oid, name))
+
 -- where the types are the same, and more rows may be refused
 pub keeps_same : (rows : List TypeRow) (table after : Table) (refused more : List RefusedType)
-    → after.entries ≡ table.entries → Keeps rows table refused after (refused ++ more)
-keeps_same rows table after refused more e =
-    (same_described table after rows e, told_kept table after refused more (extends_same table after e))
+    → after.entries ≡ table.entries → AreOfRows more rows → Keeps rows table refused after (refused ++ more)
+keeps_same rows table after refused more e of = (
+  same_described table after rows e,
+  told_kept table after refused more (extends_same table after e),
+  λ was own among. ⊎_elim (was own) (of own) (Contains-append_cases refused more own among),
+)
 
 -- where there may be the type of a row more
 pub keeps_added : (rows : List TypeRow) (place : ℕ) (row : TypeRow) (table after : Table)
@@ -156,24 +170,25 @@ pub keeps_added : (rows : List TypeRow) (place : ℕ) (row : TypeRow) (table aft
 keeps_added rows place row table after refused refused' at adds r =
     let none : refused ++ [] ≡ refused' = append-nil refused ∙ sym r in
     elim adds [
-      | inl same ↦ rw none at (keeps_same rows table after refused [] same.1)
+      | inl same ↦ rw none at (keeps_same rows table after refused [] same.1 (none_refused rows))
       | inr new ↦ (
         adds_described table after row rows place at new.1,
         rw none at (told_kept table after refused [] (adds_extends table after row new.1)),
+        subst (λ rs. AreOfRows rs rows) (sym r),
       )
     ]
 
 -- one after the other
 pub keeps_both : (rows : List TypeRow) (s t u : Table) (xs ys zs : List RefusedType) → Keeps rows s xs t ys
     → Keeps rows t ys u zs → Keeps rows s xs u zs
-keeps_both rows s t u xs ys zs f g = (λ d. g.0 (f.0 d), λ oid told. g.1 oid (f.1 oid told))
+keeps_both rows s t u xs ys zs f g = (λ d. g.0 (f.0 d), λ oid told. g.1 oid (f.1 oid told), λ of. g.2 (f.2 of))
 
 -- what is not added changes nothing
 pub keeps_not_added : (rows : List TypeRow) (table after : Table) (refused refused' : List RefusedType)
     → after.entries ≡ table.entries → refused' ≡ refused → Keeps rows table refused after refused'
 keeps_not_added rows table after refused refused' e r =
     let none : refused ++ [] ≡ refused' = append-nil refused ∙ sym r in
-    rw none at (keeps_same rows table after refused [] e)
+    rw none at (keeps_same rows table after refused [] e (none_refused rows))
 
 -- one more place whose row is told
 pub told_place : (rows : List TypeRow) (table after : Table) (refused refused' : List RefusedType) (places : List ℕ)

@@ -1,5 +1,5 @@
 -- What a catalog has of the rows from which it was made.
-use Rattle.std.specs.Prelude.{◌≡◌, ℕ, List, map, Some, IsSome}
+use Rattle.std.specs.Prelude.{◌≡◌, ℕ, List, map, Some, IsSome, string_bytes}
 use Rattle.std.specs.Option.{IsSomeAnd}
 use Rattle.std.specs.List.{Contains, slice_get}
 use Rattle.std.specs.Ordering.{nat_cmp}
@@ -38,8 +38,16 @@ abbrev pub AreToldAt : Table → List RefusedType → List TypeRow → List ℕ 
 AreToldAt table refused rows places =
     (place : ℕ) (row : TypeRow) → Contains places place → slice_get rows place ≡ Some row → IsTold table refused row.oid
 
--- if the types of the first table are described, so are those of the second, and what was accounted for still is
+-- each refused row has the OID and the name of one of the rows
+abbrev pub AreOfRows : List RefusedType → List TypeRow → Type 0
+AreOfRows refused rows =
+    (own : RefusedType) → Contains refused own
+    → (place : ℕ) × IsSomeAnd (slice_get rows place) (λ row. (row.oid ≡ own.oid) × (row.name.now ≡ string_bytes own.name))
+
+-- if the types of the first table are described, so are those of the second; what was accounted for still is; and if
+-- the refused rows were of the rows, they still are
 abbrev pub Keeps : List TypeRow → Table → List RefusedType → Table → List RefusedType → Type 0
 Keeps rows table refused table' refused' =
     (AreDescribed table rows → AreDescribed table' rows)
     × ((oid : ℕ) → IsTold table refused oid → IsTold table' refused' oid)
+    × (AreOfRows refused rows → AreOfRows refused' rows)

@@ -10,8 +10,7 @@ ghost use Rattle.postgres_types.specs.ParamWriting.{AppendsFrame, frame_len};
 ghost use Rattle.postgres_types.specs.Writing.{checked};
 
 use crate::placed_fault::{Place, PlacedFault};
-use postgres_types::private::BytesMut;
-use postgres_types::{Fault, Format, ToSql, Type, frame_value};
+use postgres_types::{BytesMut, Fault, Format, ToSql, Type, frame_value};
 use std::alloc::Global;
 
 /// The greatest number of parameters of a Bind message: it is an unsigned number of 2 bytes.

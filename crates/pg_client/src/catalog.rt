@@ -75,7 +75,7 @@ pub struct Catalog {
 
 impl Catalog {
     ghost use Rattle.pg_client.specs.CatalogTypes.{AddsOrHas, IsTypeOf, IsUnknown, IsWhyNotAdded, refused_of, table_of};
-    ghost use Rattle.pg_client.specs.WholeCatalogs.{AreDescribed, AreTold, AreToldAt, IsTold, Keeps};
+    ghost use Rattle.pg_client.specs.WholeCatalogs.{AreDescribed, AreOfRows, AreTold, AreToldAt, IsTold, Keeps};
     ghost use Rattle.pg_client.specs.declared.catalog.TypeRow.{TypeRow as Row};
 
     /// Creates a catalog of the built-in types only.
@@ -94,10 +94,12 @@ impl Catalog {
     /// `Memory`.
     ///
     /// Each type is the one that one of the rows describes, and the OID of each row has a type or
-    /// is listed as refused. If several rows have the same OID, the first one is used.
+    /// is listed as refused, with the name of its row. If several rows have the same OID, the first
+    /// one is used.
     pub fn new(alloc: Global, rows: &[TypeRow<'_>]) -> Result<Catalog, Fault>
         ensures described { IfOk result (λ catalog. AreDescribed (table_of catalog) rows.now) }
         ensures told { IfOk result (λ catalog. AreTold (table_of catalog) (refused_of catalog) rows.now) }
+        ensures refused { IfOk result (λ catalog. AreOfRows (refused_of catalog) rows.now) }
         ensures memory { IfErr result (λ fault. fault ≡ Fault.Memory) }
     {
         let mut catalog = Catalog::built_in(alloc);
@@ -243,8 +245,9 @@ impl Catalog {
     /// Adds the row to the refused ones.
     fn refuse(&mut self, alloc: Global, row: &TypeRow<'_>, fault: TypeFault) -> Result<(), Fault>
         ensures told { OnOk result (IsTold (table_of self.new) (refused_of self.new) row.now.oid) }
-        ensures keeps { OnOk result ((rows : List Row) → Keeps rows (table_of self.old) (refused_of self.old)
-            (table_of self.new) (refused_of self.new)) }
+        ensures keeps { OnOk result ((rows : List Row) (place : ℕ) → slice_get rows place ≡ Some row.now
+            → Keeps rows (table_of self.old) (refused_of self.old) (table_of self.new)
+            (refused_of self.new)) }
         ensures memory { IfErr result (λ fault. fault ≡ Fault.Memory) }
     {
         self.refused.push(RefusedType {

@@ -12,8 +12,7 @@ ghost use Rattle.pg_read.specs.FrameReading.{TakesCell};
 use crate::column::Column;
 use crate::placed_fault::{Place, PlacedFault};
 use pg_tuples::is_count;
-use postgres_types::private::read_value;
-use postgres_types::{Fault, FromSql, Type, check_type, from_sql_nullable};
+use postgres_types::{Fault, FromSql, Type, check_type, from_sql_nullable, read_value};
 use std::alloc::Global;
 
 /// The body of a DataRow message: the number of columns in 2 bytes, and for each column the frame

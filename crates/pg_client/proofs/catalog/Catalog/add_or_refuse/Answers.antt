@@ -19,6 +19,6 @@ returns-in_ok-refuse-in-Err c =
       told = told.told;
       keeps = λ rows place at. keeps_both rows before.types after.types last.types before.refused.items
           after.refused.items last.refused.items (keeps_not_added rows before.types after.types before.refused.items
-          after.refused.items c.in-Err.ensures.kept c.in-Err.ensures.refused) (told.keeps rows);
+          after.refused.items c.in-Err.ensures.kept c.in-Err.ensures.refused) (told.keeps rows place at);
       memory = tt;
     }

@@ -9,4 +9,4 @@ returns-clause-told c =
     let same : c.in-Some.row.now ≡ row = cc in rw same at c.in_ok-refuse.ensures.told
 
 pub returns-clause-keeps : goal.returns-clause-keeps
-returns-clause-keeps c = c.in_ok-refuse.ensures.keeps c.args.rows.now
+returns-clause-keeps c = c.in_ok-refuse.ensures.keeps c.args.rows.now c.args.place c.in-Some.ensures.some
