@@ -4,8 +4,7 @@
 use anyhow::Result;
 use jiff::Timestamp;
 use pg_client::{Bind, Column, PlacedFault, Row};
-use postgres_types::private::BytesMut;
-use postgres_types::{Interval, IpInet, Type};
+use postgres_types::{BytesMut, Interval, IpInet, Type};
 use serde_json::Value;
 use std::alloc::Global;
 use uuid::Uuid;

@@ -1,8 +1,7 @@
 //! Reads the cell of an int4, and writes a text.
 #![tactic(auto)]
 
-use postgres_types::private::BytesMut;
-use postgres_types::{Fault, Type, frame_value, from_sql_nullable};
+use postgres_types::{BytesMut, Fault, Type, frame_value, from_sql_nullable};
 
 fn main(rt: HostRuntime) -> Result<(), Fault> {
     let number: i32 = from_sql_nullable(rt.alloc(), &Type::INT4, Some(&[0, 0, 0, 7]))?;

@@ -12,6 +12,7 @@ mod refusals;
 mod texts;
 mod types;
 pub mod without_memory;
+mod word;
 mod writing;
 
 pub use formats::{has_cells, has_functions};
@@ -25,6 +26,7 @@ use std::test::Fail;
 pub use texts::{debugs, displays};
 pub use types::{accepts, simple_type, unix, user_type};
 pub use without_memory::{null_takes_no_memory, takes_no_memory, writes_by_room};
+pub use word::Word;
 pub use writing::{
     reads_back, refuses_odd, refuses_type, refuses_value, refuses_values, rewrites, spells, writes,
     writes_null,

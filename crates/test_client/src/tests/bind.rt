@@ -2,11 +2,10 @@
 
 use super::row_faults::refused;
 use pg_client::{Bind, MAX_PARAMS, PlacedFault};
-use postgres_types::private::BytesMut;
-use postgres_types::{Fault, Format, IsNull, ToSql, Type, WrongType};
+use postgres_types::{BytesMut, Type};
 use std::alloc::Global;
 use std::test::Fail;
-use test_support::{hoard, same};
+use test_support::{Word, hoard, same};
 
 /// The part of the message before the parameters: an unnamed portal and an unnamed statement.
 const BEFORE: [u8; 2] = [0, 0];
@@ -49,51 +48,6 @@ fn a_refused_parameter_leaves_those_before(rt: HostRuntime) -> Result<(), Fail> 
     bind.finish()?;
     let message = [0, 1, 0, 1, 0, 2, 0, 0, 0, 1, 1, 0, 0, 0, 1, 0, 0, 1, 0, 1];
     same(out.as_slice(), &message)
-}
-
-/// A word, which is written as text.
-#[derive(Debug, Drop)]
-struct Word(&'static str);
-
-impl ToSql for Word {
-    ghost use Rattle.std.specs.Prelude.{Ok, Some, codes};
-    ghost use Rattle.pg_types.specs.declared.format.Format.TheVariants.{Text as TextFormat};
-    ghost use Rattle.pg_types.specs.declared.types.built_in.BuiltIn.TheVariants.{Text};
-    ghost use Rattle.postgres_types.specs.Content.{is_row};
-
-    ghost accepted = { is_row Text };
-
-    ghost name = { codes "Word" };
-
-    ghost wire = { λ _ v. Ok (Some v.0.now) };
-
-    ghost format = { λ _ _. TextFormat };
-
-    fn to_sql(&self, _alloc: Global, _ty: &Type, out: &mut BytesMut) -> Result<IsNull, Fault> {
-        out.extend_from_slice(self.0.as_bytes())?;
-        Ok(IsNull::No)
-    }
-
-    fn accepts(ty: &Type) -> bool {
-        ty.is(&Type::TEXT)
-    }
-
-    fn to_sql_checked(
-        &self,
-        alloc: Global,
-        ty: &Type,
-        out: &mut BytesMut,
-    ) -> Result<IsNull, Fault> {
-        if <Word as ToSql>::accepts(ty) {
-            self.to_sql(alloc, ty, out)
-        } else {
-            Err(Fault::WrongType(WrongType::new(ty.try_clone()?, "Word")))
-        }
-    }
-
-    fn encode_format(&self, _ty: &Type) -> Format {
-        Format::Text
-    }
 }
 
 #[test]

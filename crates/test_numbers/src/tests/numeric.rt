@@ -1,5 +1,7 @@
 //! NUMERIC. The cells are those of a server's `numeric_send`, and the damaged ones were sent to it by COPY.
 
+mod integers;
+
 use pg_numbers::types::{numeric_array_type, numeric_type};
 use pg_numbers::{Decimal, Numeric};
 use postgres_types::{Fault, Kind, Type};
@@ -378,8 +380,10 @@ fn a_text_is_the_servers(rt: HostRuntime) -> Result<(), Fail> {
 }
 
 /// Texts that the server reads as the value of another text, and that text.
-const OTHER_TEXTS: [(&str, &str); 16] = [
+const OTHER_TEXTS: [(&str, &str); 20] = [
     (" 1 ", "1"),
+    ("\x0b1\x0b", "1"),
+    ("\r\x0c\t -12.50 \n", "-12.50"),
     ("+1", "1"),
     ("00012", "12"),
     ("1.", "1"),
@@ -394,12 +398,33 @@ const OTHER_TEXTS: [(&str, &str); 16] = [
     ("inf", "Infinity"),
     ("+Infinity", "Infinity"),
     ("-INF", "-Infinity"),
+    (" -iNfInItY ", "-Infinity"),
+    ("\tNAN\n", "NaN"),
     ("12345678", "12345678"),
 ];
 
 /// Texts that the server refuses.
-const NO_TEXTS: [&str; 12] = [
-    "", " ", "-", "+", ".", "-.", "1.2.3", "1 2", "a", "+NaN", "--1", "1-",
+const NO_TEXTS: [&str; 20] = [
+    "",
+    " ",
+    "-",
+    "+",
+    ".",
+    "-.",
+    "1.2.3",
+    "1 2",
+    "a",
+    "+NaN",
+    "-NaN",
+    "NaNs",
+    "in",
+    "infin",
+    "infinity0",
+    "+ inf",
+    "+-inf",
+    "1\u{a0}",
+    "--1",
+    "1-",
 ];
 
 #[test]
@@ -412,47 +437,4 @@ fn other_texts_are_read(rt: HostRuntime) -> Result<(), Fail> {
     }
     let number = Decimal::parse(rt.alloc(), "-12.30")?;
     displays(rt.alloc(), &number, "-12.30")
-}
-
-#[test]
-fn an_integer_is_a_number_of_the_scale_0(rt: HostRuntime) -> Result<(), Fail> {
-    for n in [
-        0,
-        1,
-        -1,
-        10_000,
-        -10_000,
-        123_456_789_012,
-        i64::MAX,
-        i64::MIN,
-    ] {
-        let number = Decimal::from_i64(rt.alloc(), n)?;
-        displays(rt.alloc(), &number, format!(in rt.alloc(); "{n}")?.as_str())?;
-        same(number.to_i64(), Some(n))?;
-    }
-    Ok(())
-}
-
-/// Texts of numbers, and the integers that they are.
-const INTEGERS: [(&str, Option<i64>); 12] = [
-    ("1.00", Some(1)),
-    ("-120000.0", Some(-120_000)),
-    ("0.000", Some(0)),
-    ("9223372036854775807.0", Some(i64::MAX)),
-    ("-9223372036854775808", Some(i64::MIN)),
-    ("9223372036854775808", None),
-    ("-9223372036854775809", None),
-    ("18446744073709551616", None),
-    ("1.5", None),
-    ("10000.0001", None),
-    ("0.1", None),
-    ("0.00001", None),
-];
-
-#[test]
-fn a_number_without_a_fraction_is_an_integer(rt: HostRuntime) -> Result<(), Fail> {
-    for (text, integer) in INTEGERS {
-        same(Decimal::parse(rt.alloc(), text)?.to_i64(), integer)?;
-    }
-    Ok(())
 }

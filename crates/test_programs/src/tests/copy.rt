@@ -14,6 +14,7 @@ mod lines;
 mod lsn;
 mod network;
 mod numbers;
+mod numerics;
 mod texts;
 mod tuples;
 mod user_types;
@@ -195,6 +196,17 @@ fn written_oid(bytes: [u8; 4]) -> [u8; 4] {
 fn spell(alloc: Global, rows: &[Row]) -> Result<(), Fail> {
     for (name, cell, text) in rows {
         spells(alloc, name, *cell, text)?;
+    }
+    Ok(())
+}
+
+/// Tests that both texts of each row are written as the same cell.
+fn mean_the_same(alloc: Global, rows: &[(&str, &[u8], &[u8])]) -> Result<(), Fail> {
+    for (name, text, usual) in rows {
+        let line = line_of(alloc, text)?;
+        let usual = line_of(alloc, usual)?;
+        let cell = writing(alloc, &[*name], usual.as_slice())?.written;
+        writing(alloc, &[*name], line.as_slice())?.is(cell.as_slice(), "")?;
     }
     Ok(())
 }

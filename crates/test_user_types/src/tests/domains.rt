@@ -158,7 +158,7 @@ fn a_cell_is_that_of_the_underlying_type(rt: HostRuntime) -> Result<(), Fail> {
 }
 
 /// Cells that are no percentage, and the numbers of their faults.
-const NO_PERCENTAGES: [(Option<&[u8]>, u32); 4] = [
+pub const NO_PERCENTAGES: [(Option<&[u8]>, u32); 4] = [
     (None, WAS_NULL),
     (Some(&[100]), SIZE),
     (Some(&[0xff; 2]), USER),

@@ -1,5 +1,6 @@
 //! The types of docs/OWN-TYPES.md.
 
+use super::domains::NO_PERCENTAGES;
 use own_types::domain::Percentage;
 use own_types::newtype::Days;
 use own_types::null_value::Rating;
@@ -105,14 +106,6 @@ fn null_is_of_the_element(rt: HostRuntime) -> Result<(), Fail> {
 fn percentage(number: i16) -> Transparent<Percentage> {
     Transparent(Percentage(number))
 }
-
-/// Cells that are no percentage, and the numbers of their faults.
-const NO_PERCENTAGES: [(Option<&[u8]>, u32); 4] = [
-    (None, WAS_NULL),
-    (Some(&[100]), SIZE),
-    (Some(&[0xff; 2]), USER),
-    (Some(&[0, 101]), USER),
-];
 
 #[test]
 fn percentages_are_refused(rt: HostRuntime) -> Result<(), Fail> {

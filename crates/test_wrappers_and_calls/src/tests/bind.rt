@@ -1,14 +1,13 @@
 //! Parameters of any types, and a program that writes them to a Bind message.
 ghost use Rattle.std.specs.Prelude.{◌≡◌, length};
 
-use super::formats::Word;
 use postgres_types::private::BytesMut;
 use postgres_types::protocol::int2_to_sql;
 use postgres_types::{Fault, Format, ToSql, Type, params_to_sql};
 use std::alloc::Global;
 use std::test::Fail;
 use test_support::code::{TRANSMIT, WRONG_TYPE};
-use test_support::{binds, same, unix};
+use test_support::{Word, binds, same, unix};
 
 /// Appends the part of a Bind message that has the parameters. A refusal leaves the buffer as it
 /// was.

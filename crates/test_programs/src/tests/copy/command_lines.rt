@@ -40,7 +40,7 @@ fn refuses(alloc: Global, line: &str, text: &str) -> Result<(), Fail> {
 }
 
 /// Lines, and the types of the columns that they ask for.
-const COLUMNS: [(&str, &str); 16] = [
+const COLUMNS: [(&str, &str); 17] = [
     ("--help", ""),
     ("--help|int4", ""),
     ("int4", "int4"),
@@ -75,6 +75,10 @@ const COLUMNS: [(&str, &str); 16] = [
     (
         "real|double precision|float4[]|Double Precision[]",
         "float4 float8 float4[] float8[]",
+    ),
+    (
+        "int4, numeric(10,2) ,text|decimal|numeric(3,-2)[]|Decimal(5)[], pg_catalog.numeric",
+        "int4 numeric text numeric numeric[] numeric[] numeric",
     ),
     (
         "citext|public.citext|\"My.Schema\".hstore[]|ltree[]",
@@ -113,8 +117,8 @@ const REFUSED: [(&str, &str); 17] = [
     (" , ", "no conversion of the type "),
     ("int4|money", "no conversion of the type money"),
     (
-        "int4, numeric(10,2) ,text",
-        "no conversion of the type numeric(10,2)",
+        "int4, money(10,2) ,text",
+        "no conversion of the type money(10,2)",
     ),
     (
         "time with time zone",

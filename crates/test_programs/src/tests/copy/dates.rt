@@ -1,6 +1,6 @@
 //! Cells and texts from PostgreSQL 15.18, as `COPY .. TO STDOUT` in both formats gave them.
 
-use super::{Row, have_no_values, spell};
+use super::{Row, have_no_values, mean_the_same, spell};
 use std::test::Fail;
 
 /// Dates, times of day and timestamps.
@@ -193,7 +193,30 @@ const NO_VALUES: &[(&str, &[u8])] = &[
     ("timestamptz", b"2000-01-01 00:00:00+01"),
     ("timestamp", b"400000-01-01 00:00:00"),
     ("timestamp", b"2000-01-01 00:00:00 BC x"),
+    // The server reads these by DateStyle, or refuses them.
+    ("date", b"1-1-1"),
+    ("date", b"10-11-12"),
+    ("date", b"24-02-29"),
+    ("date", b"999-01-01"),
+    ("timestamp", b"1-1-1 1:2:3"),
+    ("timestamptz", b"99-01-01 00:00:00+00"),
+    // A month of three digits is a day of the year.
+    ("date", b"2000-001-01"),
 ];
+
+/// Texts that the server reads as the value with the text beside them.
+const OTHER_TEXTS: &[(&str, &[u8], &[u8])] = &[
+    ("date", b"2000-1-1", b"2000-01-01"),
+    ("date", b"0001-1-1", b"0001-01-01"),
+    ("date", b"002000-01-001", b"2000-01-01"),
+    ("time", b"1:2:3", b"01:02:03"),
+    ("timestamp", b"2000-1-1 001:2:3", b"2000-01-01 01:02:03"),
+];
+
+#[test]
+fn other_texts_mean_the_same_dates(rt: HostRuntime) -> Result<(), Fail> {
+    mean_the_same(rt.alloc(), OTHER_TEXTS)
+}
 
 #[test]
 fn dates_have_the_servers_texts(rt: HostRuntime) -> Result<(), Fail> {

@@ -1,6 +1,6 @@
 //! Cells and texts from PostgreSQL 15.18, as `COPY .. TO STDOUT` in both formats gave them.
 
-use super::{Row, have_no_values, spell};
+use super::{Row, have_no_values, mean_the_same, spell};
 use std::test::Fail;
 
 /// Intervals.
@@ -128,7 +128,34 @@ const NO_VALUES: &[(&str, &[u8])] = &[
     ("interval", b"1 year 1 mon 1 day 00:00:00 1 year"),
     ("interval", b"200000000 years"),
     ("interval", b"00:60:00"),
+    ("interval", b"1 day 2 days"),
+    ("interval", b"1 mon 1 mons"),
+    ("interval", b"1 year 1 year"),
+    ("interval", b"0 years 0 years"),
+    ("interval", b"01:00:00 02:00:00"),
+    ("interval", b"1 day 01:00:00 2 days"),
+    ("interval", b"2147483648 mons -1 years"),
+    ("interval", b"1 monday"),
 ];
+
+/// Texts that the server reads as the value with the text beside them.
+const OTHER_TEXTS: &[(&str, &[u8], &[u8])] = &[
+    ("interval", b"1 mon 1 year", b"1 year 1 mon"),
+    ("interval", b"01:00:00 1 day", b"1 day 01:00:00"),
+    ("interval", b"00:00:00 1 years", b"1 year"),
+    ("interval", b"+1 day +1 mon", b"1 mon 1 day"),
+    (
+        "interval",
+        b"178956971 years -8 mons",
+        b"178956970 years 4 mons",
+    ),
+    ("interval", b"1:2:3", b"01:02:03"),
+];
+
+#[test]
+fn other_texts_mean_the_same_intervals(rt: HostRuntime) -> Result<(), Fail> {
+    mean_the_same(rt.alloc(), OTHER_TEXTS)
+}
 
 #[test]
 fn intervals_have_the_servers_texts(rt: HostRuntime) -> Result<(), Fail> {
