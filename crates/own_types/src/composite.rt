@@ -43,8 +43,6 @@ impl Record for Purchase {
 
     ghost inside = { λ v. and8 v.id v.customer v.paid v.placed v.discount v.tags v.gift v.items end };
 
-    ghost short = { refl };
-
     ghost names_width = { refl };
 
     ghost injective = { λ v w. ap (λ r. record {

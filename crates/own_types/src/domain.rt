@@ -20,8 +20,6 @@ impl Newtype for Percentage {
 
     ghost unmet = { user (codes "percentage") };
 
-    ghost short = { refl };
-
     ghost injective = { λ v w. ap (λ n. record { 0 = n }) };
 
     fn name() -> &'static str {
@@ -59,8 +57,6 @@ impl Newtype for Email {
     ghost type_name = { codes "email" };
 
     ghost inside = { λ v. v.0 };
-
-    ghost short = { refl };
 
     ghost injective = { λ v w. ap (λ text. record { 0 = text }) };
 

@@ -22,8 +22,6 @@ impl EnumType for Level {
 
     ghost place = { elim [ Junior ↦ 0 | Senior ↦ 1 | Staff ↦ 2 ] };
 
-    ghost short = { refl };
-
     ghost proper = { refl };
 
     ghost placed = { elim [ Junior ↦ refl | Senior ↦ refl | Staff ↦ refl ] };

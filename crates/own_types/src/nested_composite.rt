@@ -24,8 +24,6 @@ impl Record for Address {
 
     ghost inside = { λ v. and v.street (and v.city end) };
 
-    ghost short = { refl };
-
     ghost names_width = { refl };
 
     ghost injective = { λ v w. ap (λ r. record { street = r.0; city = r.1.0 }) };
@@ -63,8 +61,6 @@ impl Record for Parcel {
     ghost names = { codes "label" ∷ codes "bill_to" ∷ codes "ship_to" ∷ [] };
 
     ghost inside = { λ v. and v.label (and v.bill_to (and v.ship_to end)) };
-
-    ghost short = { refl };
 
     ghost names_width = { refl };
 

@@ -28,8 +28,6 @@ impl EnumType for Mood {
 
     ghost place = { place };
 
-    ghost short = { refl };
-
     ghost proper = { refl };
 
     ghost placed = { placed };

@@ -9,7 +9,7 @@ postgres_type w = content w.postgres
 
 -- the name of the Rust type that refuses it
 abbrev pub rust_name : WrongType → List ℕ
-rust_name w = w.rust.bytes
+rust_name w = w.rust
 
 -- the text of WasNull
 abbrev pub was_null_text : List ℕ

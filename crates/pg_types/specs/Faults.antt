@@ -81,7 +81,7 @@ refusal_of Family = Some family
 refusal_of Netmask = Some netmask
 refusal_of AddressLength = Some address_length
 refusal_of HostBits = Some host_bits
-refusal_of (User text) = Some (user text.bytes)
+refusal_of (User text) = Some (user text)
 refusal_of FieldCount = Some field_count
 refusal_of FieldOid = Some field_oid
 

@@ -1,20 +1,12 @@
 //! Why a value could not be read or written.
-ghost use Rattle.std.specs.Prelude.{◌≡◌, ◌≤◌, length};
+ghost use Rattle.std.specs.Prelude.{◌≡◌};
 ghost use Rattle.pg_types.specs.declared.fault.Fault.TheVariants.{Memory};
 
 use crate::types::PgType;
-use arrayvec::ArrayString;
+use bytes::ByteStr;
 use std::alloc::{AllocError, AllocFailed};
 use std::error::Error;
 use std::fmt;
-
-/// The greatest length in bytes of a [`Reason`]: a name in a [`WrongType`], or a text in a
-/// [`Fault::User`].
-pub const REASON_LEN: usize = 64;
-
-/// A short text that is stored in the fault itself, so that a fault borrows nothing and does not
-/// allocate.
-pub type Reason = ArrayString<REASON_LEN>;
 
 /// NULL was read as a type that has no value for it.
 #[derive(Debug, Clone, Copy)]
@@ -37,7 +29,7 @@ impl Error for WasNull {}
 #[derive(Debug, Drop)]
 pub struct WrongType {
     postgres: PgType,
-    rust: Reason,
+    rust: ByteStr,
 }
 
 impl WrongType {
@@ -45,27 +37,15 @@ impl WrongType {
     ghost use Rattle.pg_types.specs.Content.{content};
 
     /// Creates the error that the Rust type named `rust` does not accept the Postgres type `ty`.
-    /// The name has at most [`REASON_LEN`] bytes.
     pub fn new(ty: PgType, rust: &'static str) -> WrongType
-        requires { length rust.now ≤ REASON_LEN }
         ensures postgres { postgres_type result ≡ content ty }
         ensures rust { rust_name result ≡ rust.now }
     {
         WrongType {
             postgres: ty,
-            rust: reason(rust),
+            rust: ByteStr::from_static(rust),
         }
     }
-}
-
-/// Copies the text into a `Reason`.
-fn reason(text: &'static str) -> Reason
-    requires { length text.now ≤ REASON_LEN }
-    ensures { result.bytes ≡ text.now }
-{
-    let mut reason = Reason::new();
-    reason.push_str(text);
-    reason
 }
 
 impl fmt::Display for WrongType {
@@ -152,7 +132,7 @@ pub enum Fault {
     /// A user's own conversion refused the cell or the value, with this text; see
     /// [`user`](Fault::user).
     #[error("{0}")]
-    User(Reason),
+    User(ByteStr),
     /// A record has another number of fields than its composite type.
     #[error("invalid field count")]
     FieldCount,
@@ -197,13 +177,12 @@ impl Fault {
         }
     }
 
-    /// Creates the fault with which a user's own conversion refuses a cell or a value. The text has
-    /// at most [`REASON_LEN`] bytes.
+    /// Creates the fault with which a user's own conversion refuses a cell or a value. It does not
+    /// allocate.
     pub fn user(text: &'static str) -> Fault
-        requires { length text.now ≤ REASON_LEN }
         ensures { refusal_of result ≡ Some (user text.now) }
     {
-        Fault::User(reason(text))
+        Fault::User(ByteStr::from_static(text))
     }
 }
 

@@ -1,5 +1,5 @@
 //! The trait of types that are written as cells.
-ghost use Rattle.std.specs.Prelude.{◌≡◌, ◌≤◌, ℕ, List, Bool, IfErr, IfOk, IsTrue, IsSome, false, length, true};
+ghost use Rattle.std.specs.Prelude.{◌≡◌, ℕ, List, Bool, IfErr, IfOk, IsTrue, IsSome, false, true};
 ghost use Rattle.pg_types.specs.declared.format.Format.{Format};
 ghost use Rattle.pg_types.specs.declared.format.Format.TheVariants.{Binary};
 ghost use Rattle.pg_types.specs.Content.{Content, content, IsBuiltIn};
@@ -8,7 +8,7 @@ ghost use Rattle.pg_base.specs.Appending.{KeepsCapacity, Wire};
 ghost use Rattle.pg_write.specs.Writing.{Writes, KeepsRoomRule, checked, IsWrongType};
 
 use bytes::BytesMut;
-use pg_base::fault::{Fault, REASON_LEN, WrongType};
+use pg_base::fault::{Fault, WrongType};
 use pg_base::format::{Format, IsNull};
 use pg_base::types::PgType;
 use std::alloc::Global;
@@ -83,7 +83,7 @@ pub trait ToSql: fmt::Debug + Drop {
 }
 
 /// Writes the value as `to_sql` does if the type is accepted, and fails with [`WrongType`] if it is
-/// not. `rust` is the name of the Rust type in the fault, of at most [`REASON_LEN`] bytes.
+/// not. `rust` is the name of the Rust type in the fault.
 pub fn to_sql_checked_as<T: ToSql>(
     alloc: Global,
     v: &T,
@@ -91,7 +91,6 @@ pub fn to_sql_checked_as<T: ToSql>(
     ty: &PgType,
     out: &mut BytesMut,
 ) -> Result<IsNull, Fault>
-    requires { length rust.now ≤ REASON_LEN }
     ensures writes { Writes (checked T.accepted rust.now T.wire (content ty.now) v.now)
         out.old.items out.new.items result }
     ensures room { T.by_room v.now → IsTrue (T.accepted (content ty.now))
@@ -103,10 +102,9 @@ pub fn to_sql_checked_as<T: ToSql>(
     v.to_sql(alloc, ty, out)
 }
 
-/// Returns `Ok` if `accepted` is true, and otherwise [`WrongType`] with the name `rust`, of at most
-/// [`REASON_LEN`] bytes. It is the first line of a `to_sql_checked`.
+/// Returns `Ok` if `accepted` is true, and otherwise [`WrongType`] with the name `rust`. It is the
+/// first line of a `to_sql_checked`.
 pub fn check_type(accepted: bool, ty: &PgType, rust: &'static str) -> Result<(), Fault>
-    requires { length rust.now ≤ REASON_LEN }
     ensures accepted { IfOk result (λ _. accepted ≡ true) }
     ensures refuses { IfErr result (λ f. (accepted ≡ false) × IsWrongType (content ty.now) rust.now f) }
     ensures never_memory { IsBuiltIn (content ty.now) → NeverMemory result }
@@ -118,10 +116,9 @@ pub fn check_type(accepted: bool, ty: &PgType, rust: &'static str) -> Result<(),
     }
 }
 
-/// Returns [`WrongType`] for a type that is not accepted, with the name `rust`, of at most
-/// [`REASON_LEN`] bytes. It returns `Memory` if a user-defined type cannot be cloned.
+/// Returns [`WrongType`] for a type that is not accepted, with the name `rust`. It returns `Memory`
+/// if a user-defined type cannot be cloned.
 pub fn wrong_type(ty: &PgType, rust: &'static str) -> Fault
-    requires { length rust.now ≤ REASON_LEN }
     ensures refuses { IsWrongType (content ty.now) rust.now result }
     ensures never_memory { IsBuiltIn (content ty.now) → IsSome (refusal_of result) }
 {

@@ -29,7 +29,9 @@ impl ToSql for UnixTime {
 
     #[inline(always)]
     fn to_sql(&self, alloc: Global, _ty: &PgType, out: &mut BytesMut) -> Result<IsNull, Fault> {
-        let micros = self.to_postgres_micros().ok_or(Fault::Transmit)?;
+        let Some(micros) = self.to_postgres_micros() else {
+            return Err(Fault::Transmit);
+        };
         timestamp_to_sql(alloc, micros, out)?;
         Ok(IsNull::No)
     }

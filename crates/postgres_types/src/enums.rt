@@ -1,5 +1,5 @@
 //! Enumerated types, whose cells are labels.
-ghost use Rattle.std.specs.Prelude.{◌≡◌, ◌<◌, IfNone, IfSome, IsTrue, List, Some, false, length, map, nat_le};
+ghost use Rattle.std.specs.Prelude.{◌≡◌, ◌<◌, IfNone, IfSome, IsTrue, List, Some, false, length, map};
 ghost use Rattle.std.specs.Prelude.{slice_get, string_bytes, true, ℕ};
 ghost use Rattle.pg_types.specs.Content.{content};
 ghost use Rattle.pg_types.specs.KindRefs.{kind_ref_view};
@@ -44,8 +44,8 @@ pub trait EnumType: Copy + fmt::Debug {
     /// The index of the label of a variant.
     ghost place: { Self → ℕ };
 
-    /// Returns the name of the enumerated type, without its schema, byte for byte, at most 64 bytes
-    /// long. SQL folds a name that is not quoted to lower case.
+    /// Returns the name of the enumerated type, without its schema, byte for byte. SQL folds a name
+    /// that is not quoted to lower case.
     fn name() -> &'static str
         ensures { result.now ≡ type_name };
 
@@ -61,9 +61,6 @@ pub trait EnumType: Copy + fmt::Debug {
     fn at(index: usize) -> Self
         requires { index < length labels }
         ensures { place result ≡ index };
-
-    /// Law: the name is short enough for a `WrongType`.
-    ghost short: { IsTrue (nat_le (length type_name) 64) };
 
     /// Law: each label has at most 63 bytes, and no label occurs twice.
     ghost proper: { IsTrue (are_labels labels) };

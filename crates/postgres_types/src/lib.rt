@@ -14,7 +14,7 @@ mod rewriting;
 
 pub use paired::{Finite, Paired};
 pub use pg_base::bits::BitVec;
-pub use pg_base::fault::{Fault, REASON_LEN, Reason, WasNull, WrongType};
+pub use pg_base::fault::{Fault, WasNull, WrongType};
 pub use pg_base::format::{Format, IsNull};
 pub use pg_base::interval::Interval;
 pub use pg_base::lsn::{ParseLsnError, PgLsn};

@@ -3,7 +3,7 @@
 //! A struct implements [`Newtype`], and [`FromNewtype`] if it is read. Then [`Domain`] around it is
 //! a value of the domain of its name, and [`Transparent`] around it is read and written as the
 //! value inside.
-ghost use Rattle.std.specs.Prelude.{◌≡◌, ℕ, Bool, IfErr, IfOk, IsTrue, List, Some, codes, false, length, nat_le, true};
+ghost use Rattle.std.specs.Prelude.{◌≡◌, ℕ, Bool, IfErr, IfOk, List, Some, codes, false, true};
 ghost use Rattle.pg_types.specs.Faults.{Refusal, refusal_of, user};
 
 use pg_base::fault::Fault;
@@ -40,8 +40,7 @@ pub trait Newtype: Sized + fmt::Debug + Drop {
     ghost unmet: { Refusal } = { user (codes "constraint") };
 
     /// Returns the name of the domain, without its schema, which is also the name of the Rust type
-    /// in a `WrongType`: byte for byte, at most 64 bytes long. SQL folds a name that is not quoted
-    /// to lower case.
+    /// in a `WrongType`, byte for byte. SQL folds a name that is not quoted to lower case.
     fn name() -> &'static str
         ensures { result.now ≡ type_name };
 
@@ -58,9 +57,6 @@ pub trait Newtype: Sized + fmt::Debug + Drop {
     fn check(inner: &Self::Inner) -> Result<(), Fault>
         ensures met { IfOk result (λ _. meets inner.now ≡ true) }
         ensures unmet { IfErr result (λ f. (meets inner.now ≡ false) × (refusal_of f ≡ Some unmet)) };
-
-    /// Law: the name is short enough for a `WrongType`.
-    ghost short: { IsTrue (nat_le (length type_name) 64) };
 
     /// Law: structs with the same value inside are the same.
     ghost injective: { (v w : Self) → inside v ≡ inside w → v ≡ w };

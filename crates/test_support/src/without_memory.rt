@@ -1,11 +1,9 @@
 //! Calls that do not allocate: with exactly the room for what they append, they succeed while every
 //! allocation fails.
-ghost use Rattle.std.specs.Prelude.{◌≤◌, length};
-
 use crate::code::WAS_NULL;
 use crate::{fault_code, hoard, holds, read};
 use postgres_types::private::BytesMut;
-use postgres_types::{Fault, FromSql, IsNull, REASON_LEN, ToSql, Type};
+use postgres_types::{Fault, FromSql, IsNull, ToSql, Type};
 use std::alloc::Global;
 use std::test::Fail;
 
@@ -14,9 +12,7 @@ use std::test::Fail;
 pub type Answered = Result<(), Fault>;
 
 /// Returns a fault with that name if the condition is false.
-pub fn yes(answered: bool, name: &'static str) -> Answered
-    requires { length name.now ≤ REASON_LEN }
-{
+pub fn yes(answered: bool, name: &'static str) -> Answered {
     if answered {
         Ok(())
     } else {

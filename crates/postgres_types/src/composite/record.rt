@@ -1,5 +1,5 @@
 //! Structs as the values of a composite type.
-ghost use Rattle.std.specs.Prelude.{◌≡◌, ◌≤◌, List, Bool, IsTrue, length, map, nat_le, true, ℕ};
+ghost use Rattle.std.specs.Prelude.{◌≡◌, List, Bool, IsTrue, length, map, true, ℕ};
 ghost use Rattle.pg_types.specs.Content.{content, fields_content, kind_of};
 ghost use Rattle.pg_base.proofs.SamenessLaws.{inside_equivalence};
 ghost use Rattle.pg_read.specs.Laws.Reading.{through_single};
@@ -41,8 +41,8 @@ pub trait Record: Sized + fmt::Debug + Drop {
     /// The values of the fields.
     ghost inside: { Self → Self.Fields };
 
-    /// Returns the name of the composite type, without its schema, byte for byte, at most 64 bytes
-    /// long. SQL folds a name that is not quoted to lower case.
+    /// Returns the name of the composite type, without its schema, byte for byte. SQL folds a name
+    /// that is not quoted to lower case.
     fn name() -> &'static str
         ensures { result.now ≡ type_name };
 
@@ -62,9 +62,6 @@ pub trait Record: Sized + fmt::Debug + Drop {
         ensures bytes { AppendsBytes (Self.Fields.bytes (fields_content fields.now) (inside self.now))
             out.old.items out.new.items result }
         ensures capacity { KeepsCapacity out.old out.new };
-
-    /// Law: the name is short enough for a `WrongType`.
-    ghost short: { IsTrue (nat_le (length type_name) 64) };
 
     /// Law: there are as many names as fields.
     ghost names_width: { length names ≡ Self.Fields.width };
@@ -139,6 +136,7 @@ where
         (composite_single T.type_name T.names T.Fields.FromFields.accepted T.Fields.same T.Fields.reads T.Fields.single
         ty ok) };
 
+    #[tactic(auto, using(crate::specs::Composites::fields_accepted))]
     fn from_sql(alloc: Global, ty: &PgType, raw: &'a [u8]) -> Result<Composite<T>, Fault> {
         let fields = fields_of(ty);
         let mut buf = raw;
@@ -190,6 +188,7 @@ impl<T: Record> ToSql for Composite<T> {
 
     ghost refuses_memory_free = { true };
 
+    #[tactic(auto, using(crate::specs::Composites::fields_accepted))]
     fn to_sql(&self, alloc: Global, ty: &PgType, out: &mut BytesMut) -> Result<IsNull, Fault> {
         record_to_sql(alloc, &self.0, fields_of(ty), out)?;
         Ok(IsNull::No)

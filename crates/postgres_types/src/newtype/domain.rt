@@ -77,12 +77,14 @@ where
         (constrained_single T.Inner.same T.meets T.unmet T.respects (T.Inner.reads (underlying ty))
         (T.Inner.single (underlying ty) (underlying_accepted T.type_name T.Inner.FromSql.accepted ty ok))) };
 
+    #[tactic(auto, using(crate::specs::Laws::Domain::underlying_accepted))]
     fn from_sql(alloc: Global, ty: &PgType, raw: &'a [u8]) -> Result<Domain<T>, Fault> {
         let inner = T::Inner::from_sql(alloc, &underlying_type(ty), raw)?;
         T::check(&inner)?;
         Ok(Domain(T::new(inner)))
     }
 
+    #[tactic(auto, using(crate::specs::Laws::Domain::underlying_accepted))]
     fn from_sql_null(alloc: Global, ty: &PgType) -> Result<Domain<T>, Fault> {
         let inner = T::Inner::from_sql_null(alloc, &underlying_type(ty))?;
         T::check(&inner)?;
@@ -107,6 +109,7 @@ impl<T: Newtype> ToSql for Domain<T> {
 
     ghost refuses_memory_free = { true };
 
+    #[tactic(auto, using(crate::specs::Laws::Domain::underlying_accepted))]
     fn to_sql(&self, alloc: Global, ty: &PgType, out: &mut BytesMut) -> Result<IsNull, Fault> {
         let inner = self.0.inner();
         T::check(inner)?;

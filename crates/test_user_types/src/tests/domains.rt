@@ -29,8 +29,6 @@ impl Newtype for Passed {
 
     ghost unmet = { user (codes "not passed") };
 
-    ghost short = { refl };
-
     ghost injective = { λ v w. ap (λ x. record { 0 = x }) };
 
     fn name() -> &'static str {
@@ -68,8 +66,6 @@ impl Newtype for Rank {
     ghost type_name = { codes "rank" };
 
     ghost inside = { λ v. v.0 };
-
-    ghost short = { refl };
 
     ghost injective = { λ v w. ap (λ x. record { 0 = x }) };
 

@@ -28,8 +28,6 @@ impl Record for Position {
 
     ghost inside = { λ v. and v.line (and v.log end) };
 
-    ghost short = { refl };
-
     ghost names_width = { refl };
 
     ghost injective = { λ v w. ap (λ r. record { line = r.0; log = r.1.0 }) };

@@ -45,8 +45,6 @@ impl Record for Pair {
         And(&self.first, And(&self.second, End)).to_fields(alloc, fields, out)
     }
 
-    ghost short = { refl };
-
     ghost names_width = { refl };
 
     ghost injective = { λ v w. ap (λ r. record { first = r.0; second = r.1.0 }) };

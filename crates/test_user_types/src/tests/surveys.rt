@@ -83,8 +83,6 @@ impl Record for Survey {
         (and8 v.tags v.scores v.note v.rank v.seen v.undo v.level v.score
         (and4 v.mail v.origin v.stops v.former end)) };
 
-    ghost short = { refl };
-
     ghost names_width = { refl };
 
     ghost injective = { λ v w. ap (λ r. record {

@@ -46,8 +46,6 @@ impl Record for Item {
         And(&self.name, And(&self.supplier_id, And(&self.price, End))).to_fields(alloc, fields, out)
     }
 
-    ghost short = { refl };
-
     ghost names_width = { refl };
 
     ghost injective = { λ v w. ap (λ r. record { name = r.0; supplier_id = r.1.0; price = r.1.1.0 }) };

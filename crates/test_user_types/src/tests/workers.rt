@@ -36,8 +36,6 @@ impl Record for Worker {
 
     ghost inside = { λ v. and4 v.name v.level v.score v.mails end };
 
-    ghost short = { refl };
-
     ghost names_width = { refl };
 
     ghost injective = { λ v w. ap (λ r. record { name = r.0; level = r.1; score = r.2; mails = r.3 }) };

@@ -95,8 +95,6 @@ impl Newtype for Measured {
 
     ghost unmet = { user (codes "not measured") };
 
-    ghost short = { refl };
-
     ghost injective = { λ v w. ap (λ x. record { 0 = x }) };
 
     fn name() -> &'static str {
@@ -155,8 +153,6 @@ impl Record for Reading {
     ghost names = { codes "sensor" ∷ codes "value" ∷ codes "error" ∷ [] };
 
     ghost inside = { λ v. and v.sensor (and v.value (and v.error end)) };
-
-    ghost short = { refl };
 
     ghost names_width = { refl };
 
