@@ -86,5 +86,5 @@ cidr_complete b h e =
     let none : host_part octets (slice_index b 1) ≡ 0 = eqb-true _ 0 (first_passes _ host_bits None parts.1).0 in
     (p.0, (p.1, ap (λ s. host_part (drop head_len s) (slice_index s 1)) (sym p.1.is) ∙ none))
 
-pub address_complete : IsComplete FormAddress first_fault_inet
-address_complete b h e = let p = inet_complete b h e in (p.0.address, (p.0.masklen, p.1))
+pub host_complete : IsComplete FormAddress first_fault_inet
+host_complete b h e = let p = inet_complete b h e in (p.0.address, (p.0.masklen, p.1))

@@ -1,6 +1,7 @@
 -- Lemmas on what a text says of a network.
 use Rattle.std.proofs.Common.{◌≡◌, ℕ, ◌==◌, ◌<◌, ◌≤◌, List, ◌∷◌, drop, length, take, sym, subst, ◌∙◌, ap, arith}
-use Rattle.std.proofs.Common.{get_or, refl, [], IfSome, IsSome, Option, Some, None, Result, Ok, Err, false, true}
+use Rattle.std.proofs.Common.{get_or, refl, [], IfSome, IsSome, Option, Some, None, Result, Ok, Err, false, true, inl}
+use Rattle.std.proofs.Common.{codes, inr}
 use Rattle.std.proofs.NetLemmas.Theorems.{IsIpText_unique}
 use Rattle.std.proofs.lemmas.Bool.{eq-eqb, le-leb}
 use Rattle.std.proofs.lemmas.List.{drop_more}
@@ -10,9 +11,9 @@ use Rattle.std.specs.declared.net.ip_addr.IpAddr.{IpAddr}
 use Rattle.std.specs.declared.net.ip_addr.IpAddr.TheVariants.{V4, V6}
 use Rattle.pg_base.specs.Network.{NetmaskFits, Network, NetworkOrFault, NoHostBits, address_bits}
 use Rattle.pg_base.specs.Network.{first_fault_netmask, first_fault_network}
-use Rattle.pg_types.specs.Faults.{Answers, NeverMemory, Refusal, refusal_of}
+use Rattle.pg_types.specs.Faults.{Answers, NeverMemory, Refusal, refusal_of, user}
 use Rattle.pg_types.specs.declared.fault.Fault.{Fault}
-use Rattle.pg_base.specs.NetworkTexts.{ParsesNetwork, SaysNetmask, SaysNetwork, slash_place}
+use Rattle.pg_base.specs.NetworkTexts.{ParsesNetwork, SaysNetmask, SaysNetwork, SaysNoNetwork, slash_place}
 use Rattle.pg_base.specs.NumberTexts.{SaysUnsigned}
 
 -- the text and the same in its two parts
@@ -60,11 +61,26 @@ refused : (o : Option Refusal) (fault : Option Refusal) → IfSome o (λ r. faul
 refused None fault h some e = let bad : false ≡ true = some in cc
 refused (Some r) fault h some e = let bad : None ≡ Some r = sym e ∙ h in cc
 
+-- the fault is that of the first check
+same_fault : (o : Option Refusal) (fault : Option Refusal) → IfSome o (λ r. fault ≡ Some r) → IsSome o → o ≡ fault
+same_fault None fault h some = let bad : false ≡ true = some in cc
+same_fault (Some r) fault h some = sym h
+
 -- the network that a text says is read where it passes the checks
 pub parses : (kind : Network → Type 0) (first_fault : Network → Option Refusal)
     → ((n : Network) → kind n → first_fault n ≡ None) → (text : List ℕ) (m : Network) (r : Result Network Fault)
-    → SaysNetwork text m → Answers (NetworkOrFault m (first_fault m)) r → NeverMemory r → ParsesNetwork kind text r
+    → SaysNetwork text m → Answers (NetworkOrFault m (first_fault m)) r → NeverMemory r
+    → ParsesNetwork kind first_fault text r
 parses kind first_fault passes text m (Ok n) said h never = subst (SaysNetwork text) (sym h.0) said
-parses kind first_fault passes text m (Err f) said h never = λ n says fits.
-    refused (refusal_of f) (first_fault m) h never
-    (subst (λ x. first_fault x ≡ None) (says_one text n m says said) (passes n fits))
+parses kind first_fault passes text m (Err f) said h never = (
+  λ n says fits.
+      refused (refusal_of f) (first_fault m) h never
+      (subst (λ x. first_fault x ≡ None) (says_one text n m says said) (passes n fits)),
+  inr (m, said, same_fault (refusal_of f) (first_fault m) h never),
+)
+
+-- and a text that says none is refused with User
+pub parses_none : (kind : Network → Type 0) (first_fault : Network → Option Refusal)
+    → ((n : Network) → kind n → n.masklen < 256) → (text : List ℕ) (f : Fault) → SaysNoNetwork text
+    → refusal_of f ≡ Some (user (codes "no network address")) → ParsesNetwork kind first_fault text (Err f)
+parses_none kind first_fault small text f none is = (λ n says fits. none n says (small n fits), inl (none, is))

@@ -1,6 +1,6 @@
 -- The texts of network addresses and of MAC addresses.
-use Rattle.std.specs.Prelude.{◌≡◌, ◌&&◌, ℕ, ◌==◌, List, [], ◌∷◌, ◌++◌, Bool, MatchResult, Ok, Result, codes, drop}
-use Rattle.std.specs.Prelude.{if◌then◌else◌, length, map, not, slice_index, take}
+use Rattle.std.specs.Prelude.{◌≡◌, ◌&&◌, ◌<◌, ◌⊎◌, ℕ, ◌==◌, List, [], ◌∷◌, ◌++◌, Bool, MatchResult, Ok, Option, Result}
+use Rattle.std.specs.Prelude.{Some, codes, drop, if◌then◌else◌, length, map, not, slice_index, take}
 use Rattle.std.specs.Fmt.{decimal}
 use Rattle.std.specs.List.{AllZip, join_with_byte, position_or_len}
 use Rattle.std.specs.Net.Addr.{ipv6_segments, octets_of}
@@ -13,6 +13,7 @@ use Rattle.hex.specs.Hex.{decode_of, encode_lower}
 use Rattle.pg_base.specs.Network.{Network, address_bits}
 use Rattle.pg_base.specs.NumberTexts.{SaysUnsigned}
 use Rattle.pg_types.specs.declared.fault.Fault.{Fault}
+use Rattle.pg_types.specs.Faults.{Refusal, refusal_of, user}
 
 -- the first six words of an IPv6 address are 0, and the seventh is not
 abbrev pub is_ipv4_compatible : List ℕ → Bool
@@ -53,10 +54,21 @@ abbrev pub SaysNetwork : List ℕ → Network → Type 0
 SaysNetwork text n =
     IsIpText (take (slash_place text) text) n.address × SaysNetmask (drop (slash_place text) text) n
 
+-- the text says no network, or one whose netmask has a length above 255
+abbrev pub SaysNoNetwork : List ℕ → Type 0
+SaysNoNetwork text = (n : Network) → SaysNetwork text n → n.masklen < 256 → ⊥
+
+-- the fault of a refused text: that of the first check of the network that it says, and User if it says none
+abbrev pub RefusesNetwork : (Network → Option Refusal) → List ℕ → Option Refusal → Type 0
+RefusesNetwork first_fault text fault =
+    (SaysNoNetwork text × (fault ≡ Some (user (codes "no network address"))))
+    ⊎ ((n : Network) × SaysNetwork text n × (fault ≡ first_fault n))
+
 -- a text is read as the network that it says, and refused where it says none of this kind
-abbrev pub ParsesNetwork : (Network → Type 0) → List ℕ → Result Network Fault → Type 0
-ParsesNetwork kind text parsed =
-    MatchResult parsed (SaysNetwork text) (λ _. (n : Network) → SaysNetwork text n → kind n → ⊥)
+abbrev pub ParsesNetwork : (Network → Type 0) → (Network → Option Refusal) → List ℕ → Result Network Fault → Type 0
+ParsesNetwork kind first_fault text parsed =
+    MatchResult parsed (SaysNetwork text) (λ f.
+    ((n : Network) → SaysNetwork text n → kind n → ⊥) × RefusesNetwork first_fault text (refusal_of f))
 
 -- the two hexadecimal digits of a byte
 abbrev pub pair_text : ℕ → List ℕ
@@ -82,7 +94,8 @@ abbrev pub SaysMacaddr : List ℕ → List ℕ → Type 0
 SaysMacaddr text bytes =
     (pairs : List (List ℕ)) × (text ≡ join_with_byte 58 pairs) × AllZip IsPair pairs bytes × (length bytes ≡ 6)
 
--- a text is read as the MAC address that it says, and refused where it says none
+-- a text is read as the MAC address that it says, and refused with User where it says none
 abbrev pub ParsesMacaddr : List ℕ → Result (List ℕ) Fault → Type 0
 ParsesMacaddr text parsed =
-    MatchResult parsed (SaysMacaddr text) (λ _. (bytes : List ℕ) → SaysMacaddr text bytes → ⊥)
+    MatchResult parsed (SaysMacaddr text) (λ f.
+    ((bytes : List ℕ) → SaysMacaddr text bytes → ⊥) × (refusal_of f ≡ Some (user (codes "no MAC address"))))

@@ -41,7 +41,7 @@ pub fn cidr_format()
 {}
 
 /// So is INET's, of which the netmask is left out.
-#[tactic(auto, using(crate::proofs::NetworkLaws::address_grammar, crate::proofs::CompletenessNetwork::address_complete))]
+#[tactic(auto, using(crate::proofs::NetworkLaws::address_grammar, crate::proofs::CompletenessNetwork::host_complete))]
 pub fn address_format()
     ensures grammar { IsGrammar (λ a b. a ≡ b) FormAddress first_fault_inet }
     ensures complete { IsComplete FormAddress first_fault_inet }

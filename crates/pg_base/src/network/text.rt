@@ -3,9 +3,12 @@ ghost use Rattle.std.specs.Prelude.{◌≡◌, ◌<◌, ◌∷◌, [], ℕ, List
 ghost use Rattle.std.specs.Fmt.{WritesOnOk};
 ghost use Rattle.std.specs.Net.Addr.{ipv4_octets, ipv6_segments, low_octets};
 ghost use Rattle.std.specs.Net.Grammar.{IsIpText};
-ghost use Rattle.pg_base.specs.Network.{NetmaskFits, Network, NoHostBits, with_netmask};
+ghost use Rattle.pg_base.specs.Network.{NetmaskFits, NoHostBits, with_netmask};
+ghost use Rattle.pg_base.specs.Network.{first_fault_netmask, first_fault_network};
 ghost use Rattle.pg_base.specs.NetworkTexts.{IsPair, ParsesMacaddr, ParsesNetwork, SaysMacaddr, SaysNetwork};
-ghost use Rattle.pg_base.specs.NetworkTexts.{address_text, cidr_text, has_colons, inet_text, is_ipv4_compatible, macaddr_text, pair_text};
+ghost use Rattle.pg_base.specs.NetworkTexts.{SaysNoNetwork};
+ghost use Rattle.pg_base.specs.NetworkTexts.{address_text, cidr_text, inet_text, is_ipv4_compatible};
+ghost use Rattle.pg_base.specs.NetworkTexts.{has_colons, macaddr_text, pair_text};
 ghost use Rattle.pg_base.specs.NumberTexts.{SaysUnsigned};
 ghost use Rattle.std.specs.declared.net.ip_addr.IpAddr.{IpAddr};
 ghost use Rattle.std.specs.declared.net.ip_addr.IpAddr.TheVariants.{V6};
@@ -86,7 +89,7 @@ fn compatible_ipv4(address: Ipv6Addr) -> Option<Ipv4Addr>
 impl FromStr for IpInet {
     type Err = Fault;
 
-    ghost from_str_gives = { ParsesNetwork NetmaskFits };
+    ghost from_str_gives = { ParsesNetwork NetmaskFits first_fault_netmask };
 
     fn from_str(text: &str) -> Result<IpInet, Fault> {
         let (address, len) = address_and_netmask(text).ok_or(Fault::user("no network address"))?;
@@ -99,7 +102,7 @@ impl FromStr for IpInet {
 impl FromStr for IpCidr {
     type Err = Fault;
 
-    ghost from_str_gives = { ParsesNetwork (λ n. NetmaskFits n × NoHostBits n) };
+    ghost from_str_gives = { ParsesNetwork (λ n. NetmaskFits n × NoHostBits n) first_fault_network };
 
     fn from_str(text: &str) -> Result<IpCidr, Fault> {
         let (address, len) = address_and_netmask(text).ok_or(Fault::user("no network address"))?;
@@ -110,8 +113,7 @@ impl FromStr for IpCidr {
 /// Returns the address and the length of the netmask, which covers all bits of the address if the
 /// text has no `/`.
 fn address_and_netmask(text: &str) -> Option<(IpAddr, u8)>
-    ensures { MatchOption result ((n : Network) → SaysNetwork text.now n → NetmaskFits n → ⊥)
-        (λ r. SaysNetwork text.now (with_netmask r.0 r.1)) }
+    ensures { MatchOption result (SaysNoNetwork text.now) (λ r. SaysNetwork text.now (with_netmask r.0 r.1)) }
 {
     let Some((host, len)) = text.split_once('/') else {
         let address = parse_address(text)?;
