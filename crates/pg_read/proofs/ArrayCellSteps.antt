@@ -4,7 +4,6 @@ use Rattle.std.proofs.Common.{◌++◌, length, Some, None, Ok, Err, refl, sym, 
 use Rattle.std.proofs.Common.{length-append}
 use Rattle.std.specs.Prelude.{◌⊎◌, Option, IfSome, nat_le}
 use Rattle.std.proofs.lemmas.Bool.Decides.{nat_tests}
-use Rattle.std.proofs.lemmas.Option.{IfSome_then}
 use Rattle.pg_base.specs.Arrays.{SpellsHead}
 use Rattle.pg_base.proofs.CellLaws.{no_cell}
 use Rattle.pg_base.specs.Cells.{AreBytes, Cell, Spells, SpellsAll, SpellsNone, CellsInRow}
@@ -100,7 +99,7 @@ all_taken start now cs h end =
     )
 
 -- where the next step fails, these are all cells that are there, and a check after them fails
-cells_missing : (n : ℕ) (cs : List Cell) (rest : List ℕ) → length cs < n → first_fault_of (end_checks n cs rest)
+pub cells_missing : (n : ℕ) (cs : List Cell) (rest : List ℕ) → length cs < n → first_fault_of (end_checks n cs rest)
     ≡ Some size
 cells_missing n cs rest h =
     let fewer : nat_le n (length cs) ≡ false = grind (arith, nat_tests) in
@@ -156,59 +155,6 @@ pub all_remaining : (b : List ℕ) (start now : ToRead) (cs : List Cell) → Spe
 all_remaining b start now cs p bytes h =
     remaining_cells start.bytes now.bytes cs start.left h.spelled (omega (arith, h.so_many))
     (row_bytes start.bytes now.bytes cs h.spelled (head_bytes b start p bytes))
-
-module _ {A X : Type 0} (items : X → List A) (reads : Cell → Outcome A → Type 0) (b : List ℕ) (start now : ToRead)
-    (cs : List Cell) (vs : List A)
-    (head : SpellsHead b start) (taken : HaveBeenTaken start cs now) (values : ReadsAll reads cs (Ok vs)) where
-  -- a list is what was read where nothing is to be read
-  pub list_ends : (x : X) → now ≡ nothing → items x ≡ vs → ReadsList items reads (Some b) (Ok x)
-  list_ends x end is =
-      let all = all_taken start now cs taken end in
-      record {
-        count = start.left;
-        cells = cs;
-        rest = [];
-        body = (start.bytes, head, all.1);
-        gives = (subst (λ xs. ReadsAll reads cs (Ok xs)) (sym is) values, none_left start.left cs all.0);
-      }
-
-  truncated : (r : Refusal) → first_fault_of (next_checks cell_checks now) ≡ Some r
-      → ReadsList items reads (Some b) (Err r)
-  truncated r e =
-      let all = all_there start now cs r taken e in
-      inr (record {
-        count = start.left;
-        cells = cs;
-        rest = now.bytes;
-        body = (start.bytes, head, all.0);
-        gives = inr (vs, values, all.1);
-      })
-
-  -- it is Size where the next step fails
-  pub list_truncated : (fault : Option Refusal)
-      → IfSome fault (λ r. first_fault_of (next_checks cell_checks now) ≡ Some r)
-      → IfSome fault (λ r. ReadsList items reads (Some b) (Err r))
-  list_truncated fault e = IfSome_then fault e truncated
-
-  -- and the fault of the next cell where that is refused
-  module _ (next : ToRead) (t : List ℕ) (c : Cell) (bytes : AreBytes b) (n : next.left + 1 ≡ now.left)
-      (is : now.bytes ≡ t ++ next.bytes) (spells : Spells t c) where
-    refused : (r : Refusal) → reads c (Err r) → ReadsList items reads (Some b) (Err r)
-    refused r h =
-        let one = taken_next start now next cs c t taken n is spells in
-        let all = all_remaining b start next (cs ++ c ∷ []) head bytes one in
-        let fault : ReadsAll reads (cs ++ c ∷ []) (Err r) = fault_more reads cs (c ∷ []) vs r values (inl h) in
-        inr (record {
-          count = start.left;
-          cells = (cs ++ c ∷ []) ++ all.0;
-          rest = all.1;
-          body = (start.bytes, head, all.2);
-          gives = inl (fault_stays reads (cs ++ c ∷ []) all.0 r fault);
-        })
-
-    pub list_refused : (fault : Option Refusal) → IfSome fault (λ r. reads c (Err r))
-        → IfSome fault (λ r. ReadsList items reads (Some b) (Err r))
-    list_refused fault e = IfSome_then fault e refused
 
 -- where one list is read, so is another that holds the same
 pub same_items : {A X Y : Type 0} (items : X → List A) (others : Y → List A)

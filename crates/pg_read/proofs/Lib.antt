@@ -1,8 +1,10 @@
 -- The lemmas of this crate's proofs.
 mod ArrayCellSteps
 mod ElementSteps
+mod FirstFrames
 mod FixedSizeSteps
 mod LastEntries
+mod ListSteps
 mod Refusals
 mod RunFrames
 mod RunSteps

@@ -12,9 +12,9 @@ ghost use Rattle.pg_read.specs.Reading.{NullAlone};
 
 pub(crate) mod fixed_size;
 
-use crate::from_sql::{FromSql, from_sql_nullable};
-use crate::growth::with_first_room;
+use crate::from_sql::FromSql;
 use crate::laws::never_answers_memory_at_null;
+use crate::private::read_values;
 use pg_base::acceptance::element_type;
 use pg_base::fault::Fault;
 use pg_base::protocol::array_from_sql;
@@ -103,8 +103,7 @@ pub(crate) fn accepts_list<'a, T: FromSql<'a>>(ty: &PgType) -> bool
     }
 }
 
-/// Reads the elements of an array of `element`. The list grows as they are read, because the header
-/// may state more elements than the cell has.
+/// Reads the elements of an array of `element`.
 fn read_list<'a, T: FromSql<'a>>(
     alloc: Global,
     element: &PgType,
@@ -113,21 +112,14 @@ fn read_list<'a, T: FromSql<'a>>(
     requires { IsTrue (T.accepted (content element.now)) }
     ensures { Answers (ReadsList (λ v. v.items) (T.reads (content element.now)) (Some raw.entry.now)) result }
 {
-    let mut cells = array_from_sql(alloc, raw)?;
-    let mut values = with_first_room(alloc, cells.len());
-    while let Some(cell) = cells.next() {
-        // A match where a result is returned moves only the fault. `?` would move every result.
-        let cell = match cell {
-            Ok(cell) => cell,
-            Err(fault) => return Err(fault),
-        };
-        let value: T = match from_sql_nullable(alloc, element, cell) {
-            Ok(value) => value,
-            Err(fault) => return Err(fault),
-        };
-        values.push(value)?;
+    let cells = array_from_sql(alloc, raw)?;
+    let mut frames = cells.frames();
+    let values = read_values(alloc, element, cells.len(), &mut frames)?;
+    if frames.is_empty() {
+        Ok(values)
+    } else {
+        Err(Fault::Size)
     }
-    Ok(values)
 }
 
 /// NULL is read without memory.

@@ -10,7 +10,6 @@ mod boxes;
 mod bytea;
 mod civil;
 pub mod from_sql;
-mod growth;
 mod hstore;
 mod interval;
 mod json;

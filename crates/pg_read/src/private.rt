@@ -1,13 +1,12 @@
 //! The calls from which conversions of rows and records are built: they read framed cells from the
 //! front of a slice.
-ghost use Rattle.std.specs.Prelude.{◌<◌, ℕ, IsTrue, slice_index};
+ghost use Rattle.std.specs.Prelude.{◌≡◌, ◌<◌, ℕ, [], IsTrue, slice_index};
 ghost use Rattle.pg_base.specs.Cells.{FramesSingle, FramePrefixesSingle};
 ghost use Rattle.pg_types.specs.Content.{content};
 ghost use Rattle.pg_read.specs.FrameReading.{TakesNumber, TakesCell, ReadsFrame};
 ghost use Rattle.pg_read.specs.RunReading.{ReadsRun, ReadsFrames};
 
-use crate::from_sql::{FromSql, from_sql_nullable};
-use crate::growth::with_first_room;
+use crate::from_sql::FromSql;
 pub use bytes::BytesMut;
 use pg_base::fault::Fault;
 use pg_base::protocol::int4_from_sql;
@@ -61,8 +60,26 @@ pub fn read_value<'a, T: FromSql<'a>>(
     requires { IsTrue (T.accepted (content type_.now)) }
     ensures { ReadsFrame (T.reads (content type_.now)) T.memory_free buf.old.now result buf.new.now }
 {
-    let raw = read_cell(buf)?;
-    from_sql_nullable(alloc, type_, raw)
+    match read_cell(buf)? {
+        Some(raw) => T::from_sql(alloc, type_, raw),
+        None => T::from_sql_null(alloc, type_),
+    }
+}
+
+/// How many values a list has room for at first at most, whatever is stated.
+const FIRST_ROOM: usize = 16;
+
+/// An empty list, for so many values as are stated. It has room for the first of them, at most 16,
+/// since to grow from one room to the next takes longer than to read the values does; where there
+/// is no memory for that, it has no room.
+#[inline(always)]
+fn with_first_room<T>(alloc: Global, stated: usize) -> Vec<T>
+    ensures { result.items ≡ [] }
+{
+    match Vec::with_capacity(alloc, stated.min(FIRST_ROOM)) {
+        Ok(values) => values,
+        Err(_) => Vec::new(alloc),
+    }
 }
 
 /// Each item of a slice of bytes is below 256; proofs know this only of the arguments of a
@@ -83,6 +100,7 @@ fn holds_bytes(bytes: &[u8])
 /// The frames of `n` cells, with any bytes after them, are the frames of no other cells. If each of
 /// these cells gives a value, the call returns those values, or `Memory`.
 #[tactic(auto, using(pg_base::proofs::CellLaws::frames_single, pg_base::proofs::CellLaws::frame_prefixes_single))]
+#[inline(always)]
 pub fn read_values<'a, T: FromSql<'a>>(
     alloc: Global,
     type_: &PgType,
@@ -98,8 +116,14 @@ pub fn read_values<'a, T: FromSql<'a>>(
     holds_bytes(*buf);
     let mut values = with_first_room(alloc, n);
     for _ in 0..n {
-        let value: T = read_value(alloc, type_, buf)?;
-        values.push(value)?;
+        let Ok(cell) = read_cell(buf) else {
+            return Err(Fault::Size);
+        };
+        // What is matched here stays in registers. A result of `read_value` does not.
+        match cell {
+            Some(raw) => values.push(T::from_sql(alloc, type_, raw)?)?,
+            None => values.push(T::from_sql_null(alloc, type_)?)?,
+        }
     }
     Ok(values)
 }

@@ -93,6 +93,13 @@ impl<'a> ArrayCells<'a> {
         self.items.len()
     }
 
+    /// Returns the frames of the cells that are left, with any trailing bytes. It does not allocate.
+    pub fn frames(&self) -> &'a [u8]
+        ensures { result.now ≡ self.now.bytes }
+    {
+        self.items.bytes()
+    }
+
     /// Returns the next cell: its length in 4 bytes, big-endian, and as many bytes; every negative
     /// length is NULL. A truncated length or cell is refused with `Size`, and so are trailing bytes
     /// after the last cell. After a fault, and after the last cell, it returns `None` forever. It

@@ -102,6 +102,13 @@ impl<'a> Items<'a> {
         self.left
     }
 
+    /// Returns the bytes of the items that are left.
+    pub(super) fn bytes(&self) -> &'a [u8]
+        ensures { result.now ≡ self.now.bytes }
+    {
+        self.bytes
+    }
+
     /// Returns the next item, or the fault of the first check that fails. Trailing bytes after the
     /// last item are refused with `Size`. After a fault, and after the last item, it returns `None`
     /// forever.
