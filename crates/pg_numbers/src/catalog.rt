@@ -1,6 +1,7 @@
 //! Types of PostgreSQL's catalog for which the library has no constant.
-ghost use Rattle.std.specs.Prelude.{◌≡◌, IfOk};
+ghost use Rattle.std.specs.Prelude.{◌≡◌, IfErr, IfOk};
 ghost use Rattle.pg_types.specs.Content.{content, kind_content};
+ghost use Rattle.pg_types.specs.declared.fault.Fault.TheVariants.{Memory};
 ghost use Rattle.pg_numbers.specs.CatalogTypes.{catalog_type, is_catalog_type};
 
 use postgres_types::{Fault, Kind, KindRef, Oid, Type};
@@ -18,7 +19,8 @@ pub(crate) fn is_catalog_type(name: &str, oid: Oid, ty: &Type) -> bool
 
 /// Creates the type of this name, OID and kind in the schema `pg_catalog`.
 pub(crate) fn catalog_type(alloc: Global, name: &str, oid: Oid, kind: Kind) -> Result<Type, Fault>
-    ensures { IfOk result (λ ty. content ty ≡ catalog_type name.now oid (kind_content kind)) }
+    ensures value { IfOk result (λ ty. content ty ≡ catalog_type name.now oid (kind_content kind)) }
+    ensures refused { IfErr result (λ fault. fault ≡ Memory) }
 {
     let name = String::from_str(alloc, name)?;
     let schema = String::from_str(alloc, "pg_catalog")?;

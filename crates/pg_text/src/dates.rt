@@ -230,7 +230,7 @@ impl<T: FromText> FromText for Timestamp<T> {
 
     ghost parses = { ParsesSpecial T.parses };
 
-    // A call would return a `Result` with a fault, of 96 bytes, through memory.
+    // A call would return a `Result` with a fault through memory.
     #[inline(always)]
     fn from_text(alloc: Global, text: &str) -> Result<Timestamp<T>, Fault> {
         match text {
