@@ -66,10 +66,6 @@ def fields_of(name):
     return WORDS[len(re.findall(r"^    (?:pub )?\w+: ", body, re.M))]
 
 
-def constant(name):
-    return first(rf"^pub const {name}: \w+ = ([\d_]+);", sources()).replace("_", ",")
-
-
 def fault_code(name):
     return first(rf"Fault::{name}\b[^\n]* => (\d+),", read("crates/pg_types/src/fault.rt"))
 
@@ -134,7 +130,6 @@ COUNTS = [
     ("docs/CONTRACTS.md", r"\(some (?P<n>[\d,]+) cells\)", damaged_cells),
     ("docs/CONTRACTS.md", r"last (?P<lines>\d+) lines hold cells of (?P<n>\d+) base names", base_names_in_last),
     ("docs/SPECIFICATION.md", r"^\| (?P<n>\d+) \| (?P<name>[A-Z]\w+) \|", fault_code),
-    ("docs/SPECIFICATION.md", r"at most (?P<n>[\d,]+) bytes \(`(?P<name>\w+)`\)", constant),
     ("docs/PERFORMANCE.md", r"Of (?P<n>\d+) cases by the crate", partial(count_of, CRATE)),
     ("docs/PERFORMANCE.md", r"(?P<n>\d+) need fewer instructions than in its one program", partial(count_below, CRATE, kind="in_one")),
     ("docs/PERFORMANCE.md", r"one program, (?P<n>\d+) at most (?P<limit>[\d.]+) times", partial(count_of, CRATE, kind="in_one")),

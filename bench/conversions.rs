@@ -20,13 +20,13 @@ use std::io::{self, BufWriter, Write};
 use types::Type;
 
 /// Why a value is not read or not written, by the numbers of docs/SPECIFICATION.md.
-/// On equal terms it is as large as the library's, which has the text of a refusal in place.
+/// On equal terms it is as large as the library's, which holds a type and a name.
 #[rustfmt::skip]
 #[cfg_attr(equal_terms, repr(u8))]
 #[derive(Clone, Copy, Debug)]
 pub enum Fault {
     #[cfg(equal_terms)]
-    Text([u8; 95]) = 1,
+    Text([u8; 55]) = 1,
     WasNull = 2, WrongType = 3, Size = 4, Utf8 = 5, Count = 6, KeyLength = 7, Dimensions = 8, TooFew = 9, Excess = 10,
     Decode = 11, Transmit = 12, JsonVersion = 13, TextVersion = 14, JsonText = 15, JsonNumber = 16, Family = 17,
     Netmask = 18, AddressLength = 19, HostBits = 20, User = 21, FieldCount = 22, FieldOid = 23,
