@@ -5,3 +5,4 @@ pub mod Digest
 pub mod FaultTexts
 pub mod Faults
 pub mod KindRefs
+pub mod Laws

@@ -3,13 +3,18 @@ ghost use Rattle.std.specs.Prelude.{◌≡◌, Some, IsOk, IfOk, IfErr, string_b
 ghost use Rattle.pg_types.specs.declared.fault.Fault.TheVariants.{Memory};
 ghost use Rattle.pg_types.specs.Content.{UserDefinedType, IsBuiltIn, content, kind_content};
 ghost use Rattle.pg_types.specs.Content.{oid_of, name_of, same_type, schema_of, kind_of, type_text};
+ghost use Rattle.pg_types.specs.Laws.Equality.{same_types, type_equivalence};
 ghost use Rattle.pg_types.specs.KindRefs.{kind_ref_view};
+ghost use Rattle.std.proofs.Common.{ap};
+ghost use Rattle.std.specs.Cmp.{on_equiv, on_per, partial_equiv_from_equiv};
+ghost use Rattle.std.specs.Hash as fed;
 
 use super::fault::Fault;
 use built_in::BuiltIn;
 use std::alloc::{AllocError, Global};
 use std::borrow::Cow;
 use std::fmt;
+use std::hash::{Hash, Hasher};
 use std::rc::Rc;
 
 mod built_in;
@@ -28,20 +33,20 @@ pub type Oid = u32;
 /// their name, OID, kind and schema are equal. A user-defined type never equals a built-in one,
 /// even one with the same parts.
 #[cycle(types)]
-#[derive(PartialEq, Eq, Hash, Drop)]
+#[derive(Drop)]
 pub struct PgType {
     inner: Inner,
 }
 
 #[cycle(types)]
-#[derive(PartialEq, Eq, Hash, Drop)]
+#[derive(Drop)]
 enum Inner {
     BuiltIn(BuiltIn),
     Other(Rc<Other>),
 }
 
 #[cycle(types)]
-#[derive(Debug, PartialEq, Eq, Hash, Drop)]
+#[derive(Debug, PartialEq, Drop)]
 struct Other {
     name: String,
     oid: Oid,
@@ -126,19 +131,12 @@ impl PgType {
         }
     }
 
-    /// Whether this type equals `other`, as `==` does. Its contract is the one that a test of
-    /// accepted types needs, so such a test is proved without a lemma.
-    #[inline]
-    #[tactic(auto, using(crate::proofs::DerivedTypes::eq_content, crate::proofs::Contents::eq_rows))]
+    /// Whether this type equals `other`, as `==` does.
+    #[inline(always)]
     pub fn is(&self, other: &PgType) -> bool
         ensures { result ≡ same_type (content self.now) (content other.now) }
     {
-        match (&self.inner, &other.inner) {
-            // Most types are built in, and for them nothing is called.
-            (Inner::BuiltIn(row), Inner::BuiltIn(other)) => *row == *other,
-            (Inner::Other(_), Inner::Other(_)) => *self == *other,
-            _ => false,
-        }
+        *self == *other
     }
 
     /// Returns an equal type. This never fails for a built-in type; for a user-defined type the
@@ -149,6 +147,39 @@ impl PgType {
         ensures built_in { IsBuiltIn (content self.now) → IsOk result }
     {
         Ok(self.clone()?)
+    }
+}
+
+impl PartialEq for PgType {
+    ghost eq = { λ s t. same_type (content s) (content t) };
+
+    ghost laws = { on_per content (partial_equiv_from_equiv type_equivalence) };
+
+    #[cycle(types)]
+    #[inline(always)]
+    #[tactic(auto, using(crate::proofs::DerivedTypes::eq_rows, crate::proofs::DerivedTypes::eq_others))]
+    fn eq(&self, other: &PgType) -> bool {
+        match (&self.inner, &other.inner) {
+            // Most types are built in, and for them nothing is called.
+            (Inner::BuiltIn(row), Inner::BuiltIn(other)) => *row == *other,
+            (Inner::Other(parts), Inner::Other(other)) => **parts == **other,
+            _ => false,
+        }
+    }
+}
+
+impl Eq for PgType {
+    ghost laws = { on_equiv content type_equivalence };
+}
+
+/// A type has the hash of its OID.
+impl Hash for PgType {
+    ghost hash_input = { λ t. fed.u32 (oid_of (content t)) };
+
+    ghost respects_eq = { λ s t same. ap (λ c. fed.u32 (oid_of c)) (same_types (content s) (content t) same) };
+
+    fn hash<H: Hasher>(&self, state: &mut H) {
+        self.oid().hash(state);
     }
 }
 

@@ -2,7 +2,7 @@
 use Rattle.std.proofs.Common.{◌≡◌, ◌∙◌, true, Option, Some, None, IsTrue, ap, refl, subst, sym}
 use Rattle.std.proofs.lemmas.Bool.{and_parts}
 use Rattle.pg_types.specs.Content.{Content, same_type}
-use Rattle.pg_types.proofs.Contents.{type-same, type-self}
+use Rattle.pg_types.specs.Laws.Equality.{type-same, type-self}
 use Rattle.pgcell.specs.Entries.{Types, are_types, same_arrays}
 
 -- types of arrays that the test finds the same are the same

@@ -8,7 +8,7 @@ use Rattle.std.specs.Option.{option_map}
 use Rattle.std.proofs.lemmas.Str.{is_utf8-from_IsUtf8}
 use Rattle.std.specs.List.{list_all, list_any}
 use Rattle.std.specs.Str.{is_utf8}
-use Rattle.pg_types.proofs.Contents.{bytes-same}
+use Rattle.pg_types.specs.Laws.Equality.{bytes-same}
 use Rattle.pg_types.specs.Faults.{Refusal, utf8}
 use Rattle.pg_base.specs.Texts.{first_fault_text}
 use Rattle.postgres_types.specs.Enums.{first_fault_label, has_label, no_label}

@@ -4,7 +4,7 @@ use Rattle.std.specs.Prelude.{Option, Some, None, IsTrue, nat_le, slice_get, ref
 use Rattle.std.specs.Cmp.Lexicographic.{pointwise}
 use Rattle.std.proofs.Common.{sym, ◌∙◌, ap, subst}
 use Rattle.std.proofs.lemmas.Bool.{and_parts}
-use Rattle.pg_types.proofs.Contents.{bytes-self}
+use Rattle.pg_types.specs.Laws.Equality.{bytes-self}
 use Rattle.pg_base.specs.Formats.{IsGrammar}
 use Rattle.pg_read.specs.Reading.{ReadsSingle}
 use Rattle.pg_read.specs.Laws.Reading.{plain_single}

@@ -12,7 +12,7 @@ use Rattle.pg_base.specs.Timestamps.{accepts_timestamps}
 use Rattle.pg_base.specs.Special.{Special, pos_infinity, neg_infinity, value, infinity, minus_infinity}
 use Rattle.pg_base.specs.Special.{IsFiniteCell, FormSpecial, ReadsSpecial, SameSpecial, wire_special}
 use Rattle.pg_base.proofs.SpecialLaws.{infinities_apart, infinity_width, minus_infinity_width}
-use Rattle.pg_types.proofs.Contents.{type-same}
+use Rattle.pg_types.specs.Laws.Equality.{type-same}
 use Rattle.postgres_types.specs.ReadingBack.{IsLawful, KeepsFinite, WrittenFinite, WrittenAsBytes, OfValue}
 use Rattle.postgres_types.specs.ReadingBack.{BackValue, BackSpecial}
 

@@ -1,11 +1,9 @@
--- Two contents are the same just where the test says so.
-use Rattle.std.proofs.Common.{rules, ◌≡◌, ◌∙◌, sym, refl, ap, ◌==◌, ◌&&◌, Bool as Truth, true, false, if◌then◌else◌}
+-- The test of two contents finds the same ones, and it is an equivalence.
+use Rattle.std.proofs.Common.{IsTrue, ◌≡◌, ◌∙◌, sym, refl, ap, ◌==◌, ◌&&◌, Bool as Truth, true, false, if◌then◌else◌}
 use Rattle.std.proofs.Common.{ℕ, List, [], ◌∷◌}
+use Rattle.std.specs.Cmp.{IsEquivalence}
 use Rattle.std.specs.Cmp.Lexicographic.{pointwise}
 use Rattle.std.proofs.lemmas.Bool.{and_parts, eqb-true, eq-eqb}
-use denote.Enum.Bare.{same_true, true_same}
-use Rattle.pg_types.specs.contracts.types.built_in.BuiltIn.{the_type}
-use Rattle.pg_types.specs.contracts.types.built_in.BuiltInPartialEq.TheImpl.{ghosts as rows}
 use Rattle.pg_types.specs.declared.types.built_in.BuiltIn.{BuiltIn as Row}
 use Rattle.pg_types.specs.declared.types.built_in.BuiltIn.TheVariants as row
 use Rattle.pg_types.specs.BuiltInRows.{row_oid}
@@ -57,21 +55,15 @@ row-found row.Bool = refl
 row-found a = refl
 
 -- the same of rows
-row-same : (a b : Row) → (row_oid a == row_oid b) ≡ true → a ≡ b
+pub row-same : (a b : Row) → (row_oid a == row_oid b) ≡ true → a ≡ b
 row-same a b h = sym (row-found a) ∙ ap (λ oid. row-of all_rows oid row.Bool) (eqb-true (row_oid a) (row_oid b) h)
     ∙ row-found b
 
 -- two tests that hold together are one
-one-test : (p q : Truth) → (p ≡ true → q ≡ true) → (q ≡ true → p ≡ true) → p ≡ q
+pub one-test : (p q : Truth) → (p ≡ true → q ≡ true) → (q ≡ true → p ≡ true) → p ≡ q
 one-test true q f g = sym (f refl)
 one-test false true f g = g refl
 one-test false false f g = refl
-
--- the derived == of rows compares their OIDs
-pub eq_rows : (a b : Row) → rows.eq a b ≡ (row_oid a == row_oid b)
-eq_rows a b =
-    one-test _ _ (λ h. eq-eqb _ _ (ap row_oid (same_true the_type (search rules) a b h)))
-    (λ h. true_same the_type a b (row-same a b h))
 
 mutual
   -- types that the test finds the same are the same
@@ -143,3 +135,19 @@ mutual
   pub fields-self : (a : FieldsContent) → same_fields a a ≡ true
   fields-self NoFields = refl
   fields-self (FieldAnd m a p) = rw (bytes-self m, type-self a, fields-self p) refl
+
+-- the same, as a test that holds
+pub same_types : (a b : Content) → IsTrue (same_type a b) → a ≡ b
+same_types a b h = type-same a b h
+
+-- a type that the test finds the same as another is found so by the other
+type-back : (a b : Content) → same_type a b ≡ true → same_type b a ≡ true
+type-back a b h = ap (same_type b) (type-same a b h) ∙ type-self b
+
+-- the test is an equivalence
+pub type_equivalence : IsEquivalence same_type
+type_equivalence = record {
+  refl = type-self;
+  symm = λ a b. one-test _ _ (type-back a b) (type-back b a);
+  congr = λ a b c h. ap (λ t. same_type t c) (type-same a b h);
+}

@@ -1,0 +1,2 @@
+-- Lemmas that the sources cite. Their statements are proved, so none of them has to be trusted.
+pub mod Equality
