@@ -1,5 +1,5 @@
 //! IP addresses with their netmasks, and MAC addresses.
-ghost use Rattle.std.specs.Prelude.{◌≡◌, ◌≢◌, ◌<◌, ◌⊎◌, ◌∷◌, Some, IfOk, IfErr, length};
+ghost use Rattle.std.specs.Prelude.{◌≡◌, ◌≢◌, ◌<◌, ◌⊎◌, ◌∷◌, Some, IfSome, IfNone, length};
 ghost use Rattle.pg_base.specs.Appending.{Appends};
 ghost use Rattle.pg_types.specs.Faults.{Answers, NeverMemory};
 ghost use Rattle.pg_base.specs.FixedBytes.{FormFixedBytes};
@@ -7,7 +7,6 @@ ghost use Rattle.pg_base.specs.Formats.{Decodes};
 ghost use Rattle.pg_base.specs.Network.{FormInet, NetmaskFits, Network, address_len, address_octets};
 ghost use Rattle.pg_base.specs.Network.{family_len, family_of, first_fault_inet, network_bytes, with_netmask};
 ghost use Rattle.pg_base.specs.Numbers.{first_fault_number};
-ghost use Rattle.pg_types.specs.declared.fault.Fault.TheVariants.{Size};
 
 use crate::fault::Fault;
 use bytes::BytesMut;
@@ -81,32 +80,31 @@ pub fn inet_from_sql(raw: &[u8]) -> Result<Inet, Fault>
     if *len != family_len {
         return Err(Fault::AddressLength);
     }
+    let Some(addr) = address_from_octets(*family, octets) else {
+        return Err(Fault::Size);
+    };
     Ok(Inet {
-        addr: address_from_octets(*family, octets)?,
+        addr,
         netmask: *netmask,
     })
 }
 
-/// Returns the address of this family with these octets. Any other number of octets than the family
-/// has is refused with `Size`.
+/// Returns the address of this family with these octets, or `None` for any other number of octets
+/// than the family has.
 #[inline(always)]
 #[tactic(auto, using(crate::proofs::Octets::octets_back))]
-fn address_from_octets(family: u8, octets: &[u8]) -> Result<IpAddr, Fault>
+fn address_from_octets(family: u8, octets: &[u8]) -> Option<IpAddr>
     requires { (family ≡ 2) ⊎ (family ≡ 3) }
-    ensures address { IfOk result (λ a. (family_of a ≡ family) × (address_octets a ≡ octets.now) ×
+    ensures address { IfSome result (λ a. (family_of a ≡ family) × (address_octets a ≡ octets.now) ×
         (length octets.now ≡ address_len a)) }
-    ensures refused { IfErr result (λ f. (f ≡ Size) × (length octets.now ≢ family_len family)) }
+    ensures other { IfNone result (length octets.now ≢ family_len family) }
 {
     if family == IPV4 {
-        match <[u8; 4]>::try_from(octets) {
-            Ok(octets) => Ok(IpAddr::V4(Ipv4Addr::from_octets(octets))),
-            Err(_) => Err(Fault::Size),
-        }
+        let octets = <[u8; 4]>::try_from(octets).ok()?;
+        Some(IpAddr::V4(Ipv4Addr::from_octets(octets)))
     } else {
-        match <[u8; 16]>::try_from(octets) {
-            Ok(octets) => Ok(IpAddr::V6(Ipv6Addr::from_octets(octets))),
-            Err(_) => Err(Fault::Size),
-        }
+        let octets = <[u8; 16]>::try_from(octets).ok()?;
+        Some(IpAddr::V6(Ipv6Addr::from_octets(octets)))
     }
 }
 
