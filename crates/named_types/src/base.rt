@@ -1,5 +1,6 @@
 //! The table of base names.
-ghost use Rattle.std.specs.Prelude.{◌≡◌};
+ghost use Rattle.std.specs.Prelude.{◌≡◌, ◌==◌};
+ghost use Rattle.std.specs.Cmp.Lexicographic.{pointwise};
 ghost use Rattle.named_types.specs.BaseNames.{base_name, base_of, has_arrays};
 
 /// The table of the base names, in alphabetical order and grouped by their first letters. A row has
@@ -142,12 +143,30 @@ macro_rules! found {
     (($bytes:ident) $($letter:literal { $($base:ident $name:literal $types:tt,)* })*) => {
         match $bytes {
             $([$letter, ..] => match $bytes {
-                $(_ if $bytes == $name.as_bytes() => Some(Base::$base),)*
+                $(_ if is_name($bytes, $name) => Some(Base::$base),)*
                 _ => None,
             },)*
             _ => None,
         }
     };
+}
+
+/// Whether the bytes are the name. It is inlined, so that the constant length of a name leaves a
+/// comparison or two.
+#[inline(always)]
+fn is_name(bytes: &[u8], name: &str) -> bool
+    ensures { result ≡ pointwise ◌==◌ bytes.now name.now }
+{
+    let name = name.as_bytes();
+    if bytes.len() != name.len() {
+        return false;
+    }
+    'bytes: for i in 0..bytes.len() {
+        if bytes[i] != name[i] {
+            return false;
+        }
+    }
+    true
 }
 
 // All base names.
