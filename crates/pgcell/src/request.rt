@@ -27,17 +27,14 @@ impl<'a> Request<'a> {
     pub fn parse(line: &'a [u8], bytes: &'a mut Vec<u8>) -> Result<Option<Request<'a>>, AllocError>
         ensures { IfOk result (λ request. option_map view request ≡ request_of line.now) }
     {
-        let Some((command, rest)) = split_word(line) else {
-            return Ok(None);
-        };
-        if command == b"norm".as_slice() {
-            return Request::parse_norm(rest, bytes);
+        if let Some(words) = line.strip_prefix(b"norm ") {
+            return Request::parse_norm(words, bytes);
         }
-        if command == b"type".as_slice() {
-            return Ok(Request::parse_type(rest));
+        if let Some(word) = line.strip_prefix(b"type ") {
+            return Ok(Request::parse_type(word));
         }
-        if command == b"lsn".as_slice() {
-            return Ok(Request::parse_lsn(rest));
+        if let Some(text) = line.strip_prefix(b"lsn ") {
+            return Ok(Request::parse_lsn(text));
         }
         Ok(None)
     }
