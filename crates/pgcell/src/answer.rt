@@ -15,7 +15,7 @@ use streams::lines::AnswerLine;
 /// those of rewriting.
 #[derive(Drop)]
 pub struct Answerer {
-    bytes: Vec<u8>,
+    bytes: BytesMut,
     text: String,
     rewriter: Rewriter,
 }
@@ -24,7 +24,7 @@ impl Answerer {
     /// Creates an answerer. Nothing is allocated before the first line.
     pub fn new(alloc: Global) -> Answerer {
         Answerer {
-            bytes: Vec::new(alloc),
+            bytes: BytesMut::new(alloc),
             text: String::new(alloc),
             rewriter: Rewriter::new(alloc),
         }

@@ -181,7 +181,8 @@ fn append_digits(bytes: &[u8], text: &mut BytesMut) -> Result<(), AllocError>
     if bytes.len() > (usize::MAX - start) / 2 {
         return Err(AllocError);
     }
-    text.resize(start + 2 * bytes.len(), 0)?;
+    text.reserve(2 * bytes.len())?;
+    text.advance_mut(2 * bytes.len());
     match hex::encode_to_slice(bytes, &mut text[start..]) {
         Ok(()) => Ok(()),
         Err(_) => unreachable!(),

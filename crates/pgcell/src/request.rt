@@ -5,6 +5,7 @@ ghost use Rattle.pgcell.specs.Request.{cell_of_word, lsn_of_text, norm_of, oid_o
 ghost use Rattle.pgcell.specs.Request.{digits_cell, split, type_of};
 ghost use Rattle.postgres_types.specs.Cells.{cell_of};
 
+use bytes::BytesMut;
 use named_types::Name;
 use postgres_types::Oid;
 use std::alloc::AllocError;
@@ -24,7 +25,7 @@ pub enum Request<'a> {
 impl<'a> Request<'a> {
     /// Returns what the line asks for, or `None` if it is not well formed. `bytes` is overwritten
     /// with the bytes of a cell.
-    pub fn parse(line: &'a [u8], bytes: &'a mut Vec<u8>) -> Result<Option<Request<'a>>, AllocError>
+    pub fn parse(line: &'a [u8], bytes: &'a mut BytesMut) -> Result<Option<Request<'a>>, AllocError>
         ensures { IfOk result (λ request. option_map view request ≡ request_of line.now) }
     {
         if let Some(words) = line.strip_prefix(b"norm ") {
@@ -42,7 +43,7 @@ impl<'a> Request<'a> {
     /// Returns what `norm` and these words ask for.
     fn parse_norm(
         words: &'a [u8],
-        bytes: &'a mut Vec<u8>,
+        bytes: &'a mut BytesMut,
     ) -> Result<Option<Request<'a>>, AllocError>
         ensures { IfOk result (λ request. option_map view request ≡ norm_of words.now) }
     {
@@ -81,7 +82,7 @@ impl<'a> Request<'a> {
 /// hexadecimal digits. `bytes` is overwritten with its bytes.
 fn parse_cell<'a>(
     word: &[u8],
-    bytes: &'a mut Vec<u8>,
+    bytes: &'a mut BytesMut,
 ) -> Result<Option<Option<&'a [u8]>>, AllocError>
     ensures { IfOk result (λ cell. option_map cell_of cell ≡ cell_of_word word.now) }
 {
@@ -98,11 +99,12 @@ fn parse_cell<'a>(
 
 /// Returns the bytes that the digits spell, or `None` if they spell none. `bytes` is overwritten
 /// with them.
-fn decode<'a>(digits: &[u8], bytes: &'a mut Vec<u8>) -> Result<Option<&'a [u8]>, AllocError>
+fn decode<'a>(digits: &[u8], bytes: &'a mut BytesMut) -> Result<Option<&'a [u8]>, AllocError>
     ensures { IfOk result (λ cell. option_map (λ b. Some b.now) cell ≡ digits_cell (decode_of digits.now)) }
 {
     bytes.clear();
-    bytes.resize(digits.len() / 2, 0)?;
+    bytes.reserve(digits.len() / 2)?;
+    bytes.advance_mut(digits.len() / 2);
     match hex::decode_to_slice(digits, bytes.as_mut_slice()) {
         Ok(()) => Ok(Some(bytes.as_slice())),
         Err(_) => Ok(None),
