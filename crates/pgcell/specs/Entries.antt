@@ -81,6 +81,11 @@ abbrev pub user_defined : Option Types → Rewriting → Entry
 user_defined None rewriting = no_entry
 user_defined (Some types) rewriting = entry types.0 types.1 rewriting
 
+-- the types of an entry
+abbrev pub types_in : Entry → Option Types
+types_in no_entry = None
+types_in (entry own arrays rewriting) = Some (own, arrays)
+
 -- a map of texts
 abbrev pub Map : Type 0
 Map = HashMap (String Global) (Option (String Global)) (BuildHasherDefault FoldHasher)

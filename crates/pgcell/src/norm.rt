@@ -15,51 +15,36 @@ use named_types::{Base, Form, Name, base_names};
 use postgres_types::{Fault, IsNull, Paired, Type, rewrite};
 use std::alloc::{AllocError, Global};
 
-// A cell is rewritten by the row of its base name.
+// A cell is rewritten as the Rust type of its row.
 macro_rules! norm {
     (
-        ($this:ident, $alloc:ident, $name:ident, $cell:ident, $pending:ident)
-        $($letter:literal { $($base:ident $text:literal $types:tt,)* })*
+        ($this:ident, $alloc:ident, $base:expr, $typed:ident, $pending:ident)
+        $($letter:literal { $($of:ident $name:literal [$rust:ty, $($types:tt)*],)* })*
     ) => {
-        match $name.base {
-            $($(Base::$base => norm_as!(
-                ($this, $alloc, $name, $cell, $pending) $types
-            ),)*)*
+        match $base {
+            $($(Base::$of => $this.norm_as::<$rust>($alloc, &$typed, $pending),)*)*
         }
     };
 }
 
-// A cell is rewritten by the types of a row.
-macro_rules! norm_as {
-    (
-        ($this:ident, $alloc:ident, $name:ident, $cell:ident, $pending:ident)
-        [$rust:ty, $own:ident]
-    ) => {
-        $this.norm_as::<$rust>($alloc, $name.form, Type::$own, None, $cell, $pending)
-    };
-    (
-        ($this:ident, $alloc:ident, $name:ident, $cell:ident, $pending:ident)
-        [$rust:ty, $own:ident, $arrays:ident]
-    ) => {
-        $this.norm_as::<$rust>(
-            $alloc,
-            $name.form,
-            Type::$own,
-            Some(Type::$arrays),
-            $cell,
-            $pending,
-        )
-    };
-    // The types are made by the row.
-    (
-        ($this:ident, $alloc:ident, $name:ident, $cell:ident, $pending:ident)
-        [$rust:ty, $($made:tt)*]
-    ) => {{
-        let Some((own, arrays)) = $this.types.of($alloc, $name.base)? else {
-            unreachable!()
-        };
-        $this.norm_as::<$rust>($alloc, $name.form, own, arrays, $cell, $pending)
-    }};
+/// A cell, with the types of its name and the form in which it is rewritten.
+#[derive(Drop)]
+struct Typed<'a> {
+    form: Form,
+    own: Type,
+    arrays: Option<Type>,
+    cell: Option<&'a [u8]>,
+}
+
+impl<'a> Typed<'a> {
+    /// Returns the type for the form; `None` if the form is one of arrays and there are none.
+    #[tactic(auto, using(named_types::proofs::Picked::picked_map))]
+    fn ty(&self) -> Option<&Type>
+        ensures { option_map (λ ty. content ty.now) result
+            ≡ picked self.now.form (content self.now.own) (option_map content self.now.arrays) }
+    {
+        self.form.pick(&self.own, self.arrays.as_ref())
+    }
 }
 
 /// What is kept from cell to cell: the user-defined types that were made, and a buffer for the cell
@@ -93,46 +78,44 @@ impl Rewriter {
             × (pending.new.items ≡ pending.old.items ++ text)) }
         ensures err { OnErr result (pending.new.items ≡ pending.old.items) }
     {
-        base_names!(norm(self, alloc, name, cell, pending))
+        let (own, arrays) = self.types.of(alloc, name.base)?;
+        let typed = Typed {
+            form: name.form,
+            own,
+            arrays,
+            cell,
+        };
+        base_names!(norm(self, alloc, name.base, typed, pending))
     }
 
-    /// Rewrites the cell as a `T` in this form, by the Postgres type or the type of its arrays.
+    /// Rewrites the cell as a `T` in its form, by the Postgres type or the type of its arrays. It is
+    /// not inlined: else `norm` would clear the variables of every row.
+    #[inline(never)]
     fn norm_as<'a, T: Paired<'a>>(
         &mut self,
         alloc: Global,
-        form: Form,
-        own: Type,
-        arrays: Option<Type>,
-        cell: Option<&'a [u8]>,
+        typed: &Typed<'a>,
         pending: &mut BytesMut,
     ) -> Result<(), AllocError>
-        requires own_type { IsTrue (T.FromSql.accepted (content own)) }
-        requires array_type { IfSome (option_map content arrays)
+        requires own_type { IsTrue (T.FromSql.accepted (content typed.now.own)) }
+        requires array_type { IfSome (option_map content typed.now.arrays)
             (λ ty. IsTrue (accepted_list T.FromSql.accepted ty)) }
         ensures ok { OnOk result ((text : List ℕ)
-            × AnswersIn (content own) (option_map content arrays) (RewrittenAs T.reads T.wire) form
-            (cell_of cell.entry) text
+            × AnswersIn (content typed.now.own) (option_map content typed.now.arrays)
+            (RewrittenAs T.reads T.wire) typed.now.form (cell_of typed.now.cell) text
             × (pending.new.items ≡ pending.old.items ++ text)) }
         ensures err { OnErr result (pending.new.items ≡ pending.old.items) }
     {
-        let Some(ty) = pick(form, own, arrays) else {
+        let Some(ty) = typed.ty() else {
             return pending.extend_from_slice(b"bad line");
         };
         self.written.clear();
-        match rewrite_as::<T>(alloc, form, &ty, cell, &mut self.written) {
+        match rewrite_as::<T>(alloc, typed.form, ty, typed.cell, &mut self.written) {
             Ok(IsNull::Yes) => pending.extend_from_slice(b"null"),
             Ok(IsNull::No) => append_bytes(&self.written, pending),
             Err(fault) => append_fault(alloc, &fault, pending),
         }
     }
-}
-
-/// Returns the type for this form, given a type and the type of its arrays.
-#[tactic(auto, using(named_types::proofs::Picked::map_picked))]
-fn pick(form: Form, own: Type, arrays: Option<Type>) -> Option<Type>
-    ensures { option_map content result ≡ picked form (content own) (option_map content arrays) }
-{
-    form.pick(own, arrays)
 }
 
 /// Rewrites the cell as a `T` in that form.

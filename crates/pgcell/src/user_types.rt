@@ -1,8 +1,8 @@
-//! The user-defined types in the table of base names: those of `pg_numbers` in the schema
+//! The types in the table of base names. The user-defined ones of `pg_numbers` are in the schema
 //! `pg_catalog`, and the others in the schema `public`.
-ghost use Rattle.std.specs.Prelude.{◌≡◌, IsTrue, IfOk, Some, option_map};
+ghost use Rattle.std.specs.Prelude.{◌≡◌, IsSome, IsTrue, IfNone, IfOk, IfSome, Some, option_map};
 ghost use Rattle.postgres_types.specs.Content.{content};
-ghost use Rattle.pgcell.specs.Entries.{are_types, user_types};
+ghost use Rattle.pgcell.specs.Entries.{are_types, entry_of, types_in, user_types};
 
 use named_types::{Base, base_names};
 use pg_record::types::{item_array_type, item_type, mood_type, session_id_type, simple_type};
@@ -11,6 +11,28 @@ use std::alloc::{AllocError, Global};
 
 /// A type and, if it has arrays, their type.
 pub type Types = (Type, Option<Type>);
+
+// The built-in types of a base name, by its row.
+macro_rules! built_in {
+    (($of:ident) $($letter:literal { $($base:ident $name:literal $types:tt,)* })*) => {
+        match $of {
+            $($(Base::$base => row_built_in!($types),)*)*
+        }
+    };
+}
+
+// The types of a row that are constants.
+macro_rules! row_built_in {
+    ([$rust:ty, $own:ident]) => {
+        Some((Type::$own, None))
+    };
+    ([$rust:ty, $own:ident, $arrays:ident]) => {
+        Some((Type::$own, Some(Type::$arrays)))
+    };
+    ($types:tt) => {
+        None
+    };
+}
 
 // Makes the types of a base name, by its row.
 macro_rules! made {
@@ -49,6 +71,15 @@ macro_rules! row_made {
     ($args:tt $types:tt) => {
         None
     };
+}
+
+/// Returns the built-in types of a base name; `None` if its types are user-defined.
+fn built_in(base: Base) -> Option<Types>
+    ensures some { IfSome result (λ types.
+        Some (content types.0, option_map content types.1) ≡ types_in (entry_of base)) }
+    ensures none { IfNone result (IsSome (user_types base) × (types_in (entry_of base) ≡ user_types base)) }
+{
+    base_names!(built_in(base))
 }
 
 /// Makes the user-defined types of a base name, with the OIDs that a server has for them or could
@@ -107,10 +138,24 @@ impl UserTypes {
         }
     }
 
-    /// Returns the user-defined types of a base name; `None` if it has none. The only error is a
-    /// failed allocation.
+    /// Returns the types of a base name. The only error is a failed allocation.
+    pub fn of(&mut self, alloc: Global, base: Base) -> Result<Types, AllocError>
+        ensures { IfOk result (λ types.
+            Some (content types.0, option_map content types.1) ≡ types_in (entry_of base)) }
+    {
+        if let Some(types) = built_in(base) {
+            return Ok(types);
+        }
+        let Some(types) = self.user_defined(alloc, base)? else {
+            unreachable!()
+        };
+        Ok(types)
+    }
+
+    /// Returns the user-defined types of a base name; `None` if it has none.
     #[tactic(auto, using(crate::proofs::Types::known))]
-    pub fn of(&mut self, alloc: Global, base: Base) -> Result<Option<Types>, AllocError>
+    #[inline(never)]
+    fn user_defined(&mut self, alloc: Global, base: Base) -> Result<Option<Types>, AllocError>
         ensures { IfOk result (λ types.
             option_map (λ t. (content t.0, option_map content t.1)) types ≡ user_types base) }
     {

@@ -10,17 +10,18 @@ use Rattle.streams.proofs.Outcomes.{ok_weaker}
 use Rattle.pgcell.proofs.Printing.{refusal_answers}
 use Rattle.pgcell.proofs.norm.Rewriter.norm_as.Goals as goal
 
-pub returns-clause-ok : goal.returns-clause-ok
-returns-clause-ok g c =
-    let cell = cell_of c.args.cell in
+pub returns-in-Err-clause-ok : goal.returns-in-Err-clause-ok
+returns-in-Err-clause-ok g c =
+    let typed = c.args.typed.now in
+    let cell = cell_of typed.cell in
     let old = c.args.pending.now.items in
     let new = c.append_fault.new.pending.items in
-    let rewritten = RewrittenAs g.T.FromSql.reads g.T.ToSql.wire c.args.form in
-    let gives = rewritten (content c.in-Some.ty) cell in
+    let rewritten = RewrittenAs g.T.FromSql.reads g.T.ToSql.wire typed.form in
+    let gives = rewritten (content c.in-Some.ty.now) cell in
     let Printed = λ (ty : Option Content). OnOk c.append_fault.result
     ((text : List ℕ) × AnswersAt ty rewritten cell text × (new ≡ old ++ text)) in
-    let ty = picked c.args.form (content c.args.own) (option_map content c.args.arrays) in
-    let is = rw c.in-Some.is at c.pick.ensures in
+    let ty = picked typed.form (content typed.own) (option_map content typed.arrays) in
+    let is = rw c.in-Some.is at c.ty.ensures in
     subst Printed {y = ty} is
     (ok_weaker c.append_fault.result (refusal_answers gives (refusal_of c.in-Err.fault) old new c.in-Err.ensures.1)
     c.append_fault.ensures.ok)
