@@ -10,6 +10,7 @@ use pg_calendar::{Civil, Clock, DateTime, two_digits, year_of_era};
 use std::alloc::AllocError;
 
 /// Appends the date without its era. Years before year 1 are counted back from 1 BC.
+#[inline(always)]
 pub fn push_date(date: Civil, out: &mut Vec<u8>) -> Result<(), AllocError>
     ensures { OnOk result (out.new.items ≡ out.old.items ++ day_text date.year date.month date.day) }
 {
@@ -53,6 +54,7 @@ pub fn push_era(date: Civil, out: &mut Vec<u8>) -> Result<(), AllocError>
 }
 
 /// Appends the time of day, with a fraction of the second if there is one.
+#[inline(always)]
 pub fn push_clock(clock: Clock, out: &mut Vec<u8>) -> Result<(), AllocError>
     ensures { OnOk result (out.new.items ≡ out.old.items
         ++ clock_text clock.hour clock.minute clock.second clock.micros) }
@@ -87,6 +89,7 @@ fn push_long_clock(clock: Clock, out: &mut Vec<u8>) -> Result<(), AllocError>
 }
 
 /// Appends the date, the time of day, the zone and the era.
+#[inline(always)]
 pub fn push_datetime(datetime: DateTime, zone: &[u8], out: &mut Vec<u8>) -> Result<(), AllocError>
     ensures { OnOk result (out.new.items ≡ out.old.items
         ++ timestamp_text datetime.date.year datetime.date.month datetime.date.day
