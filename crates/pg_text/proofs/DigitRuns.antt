@@ -1,7 +1,7 @@
 -- Lemmas on numbers that are read digit by digit.
 use Rattle.std.proofs.Common.{◌≡◌, ℕ, zero, suc, ◌+◌, ◌-◌, ◌*◌, ◌<◌, ◌≤◌, List, [], ◌∷◌, ◌++◌, length, take}
 use Rattle.std.proofs.Common.{drop, get_or, ap, sym, ◌∙◌}
-use Rattle.std.proofs.Common.{add-one, arith, subst}
+use Rattle.std.proofs.Common.{add-one, arith, refl, subst}
 use Rattle.std.specs.Char.{digit_value}
 use Rattle.std.specs.Int.{IsInRange}
 use Rattle.std.specs.Str.Parse.{AllDigits, digits_value}
@@ -41,3 +41,30 @@ takes_digits text len n rest some within digits number left =
       sym h,
       sym (take-append-drop len text) ∙ ap (λ r. take len text ++ r) (sym left),
     )
+
+join_pairs : (ds es text mid rest : List ℕ) (a b : ℕ) → AllDigits 10 ds → AllDigits 10 es → a ≡ digits_value 10 ds
+    → b ≡ digits_value 10 es
+    → 2 ≡ length ds
+    → 2 ≡ length es
+    → text ≡ ds ++ mid
+    → mid ≡ es ++ rest
+    → TakesDigits text (a * 100 + b) 4 rest
+join_pairs [] es text mid rest a b p q is also m n at then = absurd (omega arith)
+join_pairs (c ∷ []) es text mid rest a b p q is also m n at then = absurd (omega arith)
+join_pairs (c ∷ d ∷ x ∷ ds) es text mid rest a b p q is also m n at then = absurd (omega arith)
+join_pairs (c ∷ d ∷ []) [] text mid rest a b p q is also m n at then = absurd (omega arith)
+join_pairs (c ∷ d ∷ []) (e ∷ []) text mid rest a b p q is also m n at then = absurd (omega arith)
+join_pairs (c ∷ d ∷ []) (e ∷ f ∷ x ∷ es) text mid rest a b p q is also m n at then = absurd (omega arith)
+join_pairs (c ∷ d ∷ []) (e ∷ f ∷ []) text mid rest a b p q is also m n at then = (
+  c ∷ d ∷ e ∷ f ∷ [],
+  (omega arith, (p.0, (p.1.0, q))),
+  omega arith,
+  refl,
+  at ∙ ap (λ l. c ∷ d ∷ l) then,
+)
+
+-- two digits and two more are four
+pub pairs_taken : (text mid rest : List ℕ) (a b : ℕ) → TakesDigits text a 2 mid → TakesDigits mid b 2 rest
+    → TakesDigits text (a * 100 + b) 4 rest
+pairs_taken text mid rest a b p q =
+    join_pairs p.0 q.0 text mid rest a b p.1.1 q.1.1 p.2 q.2 p.3 q.3 p.4 q.4

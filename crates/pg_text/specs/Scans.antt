@@ -58,6 +58,11 @@ TakesDay text year month day rest =
     × TakesNumber b day rest
     × (year ≡ pos n)
 
+-- a day in its era, a space and a time of day
+abbrev pub TakesDateTime : List ℕ → ℤ → ℕ → ℕ → ℕ → ℕ → ℕ → ℕ → List ℕ → Type 0
+TakesDateTime text year month day hour minute second micros rest =
+    (a : List ℕ) × TakesDay text year month day (32 ∷ a) × TakesClock a hour minute second micros rest
+
 -- the era at the end; years BC are counted back from 1
 abbrev pub TakesEra : List ℕ → ℤ → ℤ → Type 0
 TakesEra text inside year = ((text ≡ codes " BC") × (year ≡ pos 1 -ℤ inside)) ⊎ ((text ≡ []) × (year ≡ inside))

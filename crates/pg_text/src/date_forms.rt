@@ -1,7 +1,7 @@
 //! The parts of the texts of dates, times of day and timestamps.
 ghost use Rattle.std.specs.Prelude.{◌≡◌, ◌++◌, [], ℕ, ℤ, List, IfSome, OnOk, pos, ◌+ℤ◌};
 ghost use Rattle.std.specs.Prelude.{◌*ℤ◌};
-ghost use Rattle.pg_text.specs.Scans.{SaysNanos, TakesClock, TakesDay, TakesEra, TakesTimestamp};
+ghost use Rattle.pg_text.specs.Scans.{SaysNanos, TakesClock, TakesDateTime, TakesDay, TakesEra, TakesTimestamp};
 ghost use Rattle.pg_calendar.specs.Texts.{clock_text, day_text, era_text, seconds_text, timestamp_text, year_of_era};
 
 use crate::digits::{push_fraction, push_padded};
@@ -151,6 +151,64 @@ fn take_clock(scanner: &mut Scanner<'_>) -> Option<Clock>
     })
 }
 
+/// Takes a date without its era whose year has four digits, and whose month and day have two.
+#[inline(always)]
+fn take_short_date(scanner: &mut Scanner<'_>) -> Option<Civil>
+    ensures { IfSome result (λ d. TakesDay scanner.old.rest.now d.year d.month d.day scanner.new.rest.now) }
+{
+    let century = scanner.pair()?;
+    let year = century * 100 + scanner.pair()?;
+    scanner.expect(b"-")?;
+    let month = scanner.pair()?;
+    scanner.expect(b"-")?;
+    let day = scanner.pair()?;
+    if year == 0 {
+        return None;
+    }
+    let year = i64::from(year);
+    Some(Civil { year, month, day })
+}
+
+/// Takes a date and a time of day as the server writes them up to the year 9999.
+#[inline(always)]
+fn take_short_datetime(scanner: &mut Scanner<'_>) -> Option<DateTime>
+    ensures { IfSome result (λ dt. TakesDateTime scanner.old.rest.now dt.date.year dt.date.month dt.date.day
+        dt.clock.hour dt.clock.minute dt.clock.second dt.clock.micros scanner.new.rest.now) }
+{
+    let date = take_short_date(scanner)?;
+    scanner.expect(b" ")?;
+    let hour = scanner.pair()?;
+    scanner.expect(b":")?;
+    let minute = scanner.pair()?;
+    scanner.expect(b":")?;
+    let second = scanner.number_u32()?;
+    let micros = scanner.fraction()?;
+    let clock = Clock {
+        hour,
+        minute,
+        second,
+        micros,
+    };
+    Some(DateTime { date, clock })
+}
+
+/// Takes a date and a time of day.
+#[inline(always)]
+fn take_datetime(scanner: &mut Scanner<'_>) -> Option<DateTime>
+    ensures { IfSome result (λ dt. TakesDateTime scanner.old.rest.now dt.date.year dt.date.month dt.date.day
+        dt.clock.hour dt.clock.minute dt.clock.second dt.clock.micros scanner.new.rest.now) }
+{
+    let mut short = *scanner;
+    if let Some(datetime) = take_short_datetime(&mut short) {
+        *scanner = short;
+        return Some(datetime);
+    }
+    let date = take_date(scanner)?;
+    scanner.expect(b" ")?;
+    let clock = take_clock(scanner)?;
+    Some(DateTime { date, clock })
+}
+
 /// Parses a date; `None` if the text is not one.
 pub fn parse_date(text: &str) -> Option<Civil>
     ensures { IfSome result (λ d. (inside : ℤ) × (rest : List ℕ) × TakesDay text.now inside d.month d.day rest
@@ -172,23 +230,26 @@ pub fn parse_clock(text: &str) -> Option<Clock>
 }
 
 /// Parses a date and a time of day with this zone; `None` if the text is not one.
+#[inline(always)]
 pub fn parse_datetime(text: &str, zone: &[u8]) -> Option<DateTime>
     ensures { IfSome result (λ dt. TakesTimestamp text.now zone.now dt.date.year dt.date.month dt.date.day
         dt.clock.hour dt.clock.minute dt.clock.second dt.clock.micros) }
 {
     let mut scanner = Scanner::new(text);
-    let date = take_date(&mut scanner)?;
-    scanner.expect(b" ")?;
-    let clock = take_clock(&mut scanner)?;
+    let datetime = take_datetime(&mut scanner)?;
     scanner.expect(zone)?;
-    let year = take_era(date.year, &mut scanner)?;
-    let date = Civil { year, ..date };
-    Some(DateTime { date, clock })
+    let year = take_era(datetime.date.year, &mut scanner)?;
+    let date = Civil {
+        year,
+        ..datetime.date
+    };
+    Some(DateTime { date, ..datetime })
 }
 
 /// Parses a timestamp with this zone. Returns the microseconds to it from midnight of day `day`,
 /// which is counted in days from 1970-01-01; `None` if the text is not a timestamp, or if they do
 /// not fit in an `i64`.
+#[inline(always)]
 pub fn parse_micros(text: &str, zone: &[u8], day: i64) -> Option<i64>
     ensures { IfSome result
         (SaysNanos (λ micros. (micros +ℤ day *ℤ pos 86_400_000_000) *ℤ pos 1_000) zone.now text.now) }

@@ -1,5 +1,5 @@
 //! Reading a text from the front.
-ghost use Rattle.std.specs.Prelude.{◌≡◌, ◌≤◌, ◌-◌, ◌*◌, ◌^◌, ◌==◌, ◌++◌, IfSome, MatchBool, length};
+ghost use Rattle.std.specs.Prelude.{◌≡◌, ◌<◌, ◌≤◌, ◌-◌, ◌*◌, ◌^◌, ◌==◌, ◌++◌, IfSome, MatchBool, length};
 ghost use Rattle.pg_text.specs.Scans.{TakesDigits, TakesFraction, TakesNumber};
 
 /// The rest of a text.
@@ -44,6 +44,22 @@ impl<'a> Scanner<'a> {
         ensures { IfSome result (λ _. self.old.rest.now ≡ word.now ++ self.new.rest.now) }
     {
         if self.take(word) { Some(()) } else { None }
+    }
+
+    /// Takes two digits, and returns their number; `None` if the rest does not begin with two.
+    #[inline(always)]
+    pub fn pair(&mut self) -> Option<u32>
+        ensures digits { IfSome result (λ n. TakesDigits self.old.rest.now n 2 self.new.rest.now) }
+        ensures bound { IfSome result (λ n. n < 100) }
+    {
+        let [high, low, rest @ ..] = self.rest else {
+            return None;
+        };
+        if !high.is_ascii_digit() || !low.is_ascii_digit() {
+            return None;
+        }
+        self.rest = rest;
+        Some(u32::from(high - b'0') * 10 + u32::from(low - b'0'))
     }
 
     /// Takes a decimal number, and returns it and how many digits it has; `None` if there is no

@@ -5,19 +5,15 @@ use Rattle.pg_text.proofs.date_forms.parse_datetime.Goals as goal
 
 pub returns : goal.returns
 returns c =
-    let date = c.in_ok-date.date in
-    let clock = c.in_ok-clock.clock in
-    let a = c.expect.new.self.rest.now in
-    let b = c.expect-2.new.self.rest.now in
+    let date = c.in_ok-datetime.datetime.date in
+    let clock = c.in_ok-datetime.datetime.clock in
+    let read = c.in_ok-datetime.ensures in
     let inside : to_z w64 (of_z w64 date.year) ≡ date.year = search rules in
     let year : to_z w64 (of_z w64 c.in_ok-year.year) ≡ c.in_ok-year.year = search rules in (
       date.year,
-      a,
-      b,
-      subst (λ text. TakesDay text date.year date.month date.day (32 ∷ a)) c.new-scanner.ensures
-          (subst (TakesDay c.new-scanner.result.rest.now date.year date.month date.day) c.in_ok-expect.ensures
-          c.in_ok-date.ensures),
-      subst (TakesClock a clock.hour clock.minute clock.second clock.micros) c.in_ok-expect-2.ensures
-          c.in_ok-clock.ensures,
+      read.0,
+      c.expect.new.self.rest.now,
+      subst (λ text. TakesDay text date.year date.month date.day (32 ∷ read.0)) c.new-scanner.ensures read.1,
+      subst (TakesClock read.0 clock.hour clock.minute clock.second clock.micros) c.in_ok-expect.ensures read.2,
       rw year (rw inside at c.in_ok-year.ensures),
     )
