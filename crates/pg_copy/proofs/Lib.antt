@@ -5,6 +5,7 @@ mod CompositeSteps
 mod EscapeLaws
 mod EscapeTable
 mod LineLaws
+mod PlainLanes
 mod ReadingLaws
 mod ReadingRuns
 mod RecordFaults

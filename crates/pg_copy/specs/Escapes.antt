@@ -1,5 +1,6 @@
 -- The escapes of COPY's text format (CopyAttributeOutText).
-use Rattle.std.specs.Prelude.{ℕ, ◌==◌, Bool, List, [], ◌∷◌, ◌++◌, Option, Some, None, is_none, if◌then◌else◌}
+use Rattle.std.specs.Prelude.{◌≡◌, ◌<◌, ◌≤◌, ℕ, ◌==◌, Bool, true, List, [], ◌∷◌, ◌++◌, Option, Some, None, is_none}
+use Rattle.std.specs.Prelude.{if◌then◌else◌, slice_index}
 
 -- the letter that stands for a byte after a backslash, if it has one
 abbrev pub letter_of : ℕ → Option ℕ
@@ -30,3 +31,7 @@ escaped (byte ∷ text) = escaped_byte byte (letter_of byte) ++ escaped text
 -- whether a byte stands for itself
 abbrev pub is_plain : ℕ → Bool
 is_plain byte = is_none (letter_of byte)
+
+-- the bytes from one index to another stand for themselves
+abbrev pub PlainBetween : List ℕ → ℕ → ℕ → Type 0
+PlainBetween text from to = (k : ℕ) → from ≤ k → k < to → is_plain (slice_index text k) ≡ true

@@ -1,11 +1,13 @@
 //! The escapes of the text format of COPY.
-ghost use Rattle.std.specs.Prelude.{◌≡◌, ◌++◌, IfOk, OnOk, OnErr};
+ghost use Rattle.std.specs.Prelude.{◌≡◌, ◌+◌, ◌≤◌, ◌++◌, IfOk, OnOk, OnErr, length, true};
+ghost use Rattle.std.specs.Bool.{OnTrue};
 ghost use Rattle.std.specs.List.{list_all};
-ghost use Rattle.pg_copy.specs.Escapes.{escaped, escaped_byte, is_plain, letter_in, letter_of};
+ghost use Rattle.pg_copy.specs.Escapes.{PlainBetween, escaped, escaped_byte, is_plain, letter_in, letter_of};
 ghost use Rattle.pg_copy.specs.Outputs.{Extends};
 ghost use Rattle.pg_copy.specs.TextLines.{Unescapes, is_refused_byte, letter_byte};
 
 use std::alloc::AllocError;
+use std::simd::prelude::*;
 
 // The letter of each byte that is escaped, at the index of the byte; 0 for every other byte.
 static LETTERS: [u8; 256] = *b"\
@@ -62,6 +64,41 @@ fn is_plain(text: &[u8]) -> bool
     letters == 0
 }
 
+/// The number of bytes that are tested at once.
+const LANES: usize = 16;
+
+/// Whether none of these bytes from an index is a control character or a backslash, so that none is
+/// escaped.
+#[inline(always)]
+fn are_plain(text: &[u8], at: usize) -> bool
+    requires { at + LANES ≤ length text.now }
+    ensures { OnTrue result (PlainBetween text.now at (at + LANES)) }
+{
+    let bytes = u8x16::from_slice(&text[at..]);
+    bytes.simd_lt(u8x16::splat(0x20)).to_bitmask() == 0
+        && bytes.simd_eq(u8x16::splat(b'\\')).to_bitmask() == 0
+}
+
+/// Whether no byte of the text is escaped; a long text with control characters may be taken for
+/// one with escapes. The last bytes of a long text are tested together with some before them.
+#[inline(always)]
+fn is_surely_plain(text: &[u8]) -> bool
+    ensures { OnTrue result (list_all is_plain text.now ≡ true) }
+{
+    let len = text.len();
+    if len < LANES {
+        return is_plain(text);
+    }
+    let mut at = 0;
+    'bytes: while at < len - LANES {
+        if !are_plain(text, at) {
+            return false;
+        }
+        at += LANES;
+    }
+    are_plain(text, len - LANES)
+}
+
 /// Appends the text with a backslash and a letter for each byte that has one
 /// (`CopyAttributeOutText`). An error leaves a part of it.
 pub fn escape(text: &[u8], out: &mut Vec<u8>) -> Result<(), AllocError>
@@ -69,7 +106,7 @@ pub fn escape(text: &[u8], out: &mut Vec<u8>) -> Result<(), AllocError>
     ensures err { OnErr result (Extends out.old.items out.new.items) }
 {
     // Most texts have no such byte.
-    if is_plain(text) {
+    if is_surely_plain(text) {
         return out.extend_from_slice(text);
     }
     'bytes: for byte in text {

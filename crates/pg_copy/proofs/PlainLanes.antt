@@ -1,0 +1,84 @@
+-- From a vector's masks to bytes that stand for themselves.
+use Rattle.std.proofs.Common.{◌≡◌, ℕ, zero, suc, ◌+◌, ◌-◌, ◌*◌, ◌%◌, ◌^◌, ◌<◌, ◌≤◌, Bool, true, false, cond, eqb, ltb}
+use Rattle.std.proofs.Common.{List, [], ◌∷◌, get_or, length, map, replicate, refl, ap, sym, ◌∙◌, arith, w8}
+use Rattle.std.proofs.Common.{eq-zero-or-pos, inl, inr, ◌==◌}
+use Rattle.std.proofs.lemmas.Bool.{eqb-true, ltb-false, ne_eqb}
+use Rattle.std.proofs.lemmas.Simd.{bitmask_splat, get_or-chunk, length-chunk}
+use Rattle.std.specs.Bool.{OnTrue}
+use Rattle.std.specs.List.{list_all}
+use lib.Lanes.{chunk, mask_l, top, zip2}
+use Rattle.pg_copy.specs.Escapes.{PlainBetween, is_plain}
+
+unset : (b : Bool) (n : ℕ) → cond b 1 0 + 2 * n ≡ 0 → (b ≡ false) × (n ≡ 0)
+unset true n e = absurd (omega arith)
+unset false n e = (refl, omega arith)
+
+-- where no bit is set, no lane passes the test
+none_passes : (p : ℕ → Bool) (xs : List ℕ) → mask_l (map p xs) ≡ 0 → (k : ℕ) → k < length xs
+    → p (get_or xs k 0) ≡ false
+none_passes p [] e k h = absurd (omega arith)
+none_passes p (x ∷ xs) e zero h = (unset (p x) (mask_l (map p xs)) e).0
+none_passes p (x ∷ xs) e (suc k) h =
+    none_passes p xs (unset (p x) (mask_l (map p xs)) e).1 k (omega arith)
+
+-- nor does one of the bytes that were loaded
+none_passes_at : (t : ℕ → ℕ → Bool) (y : ℕ) (text : List ℕ) (at : ℕ) → at + 16 ≤ length text
+    → mask_l (map (top 7) (zip2 (λ a b. cond (t a b) 255 0) (chunk at 16 text) (replicate 16 y))) % 2 ^ 64 ≡ 0
+    → (k : ℕ) → at ≤ k → k < at + 16 → t (get_or text k 0) y ≡ false
+none_passes_at t y text at room none k from to =
+    let long = length-chunk at 16 text room in
+    let mask = bitmask_splat w8 t (chunk at 16 text) 16 y long (omega arith) in
+    let back : at + (k - at) ≡ k = omega arith in
+    let byte = sym (get_or-chunk at 16 text (k - at) 0 (omega arith) ∙ ap (λ j. get_or text j 0) back) in
+    ap (λ b. t b y) byte
+    ∙ none_passes (λ b. t b y) (chunk at 16 text) (sym mask ∙ none) (k - at) (omega arith)
+
+-- neither a control character nor a backslash
+plain_byte : (byte : ℕ) → ltb byte 32 ≡ false → eqb byte 92 ≡ false → is_plain byte ≡ true
+plain_byte byte printed other =
+    let from : 32 ≤ byte = ltb-false byte 32 printed in
+    rw (
+      ne_eqb byte 8 (λ e. omega (arith, e)),
+      ne_eqb byte 9 (λ e. omega (arith, e)),
+      ne_eqb byte 10 (λ e. omega (arith, e)),
+      ne_eqb byte 11 (λ e. omega (arith, e)),
+      ne_eqb byte 12 (λ e. omega (arith, e)),
+      ne_eqb byte 13 (λ e. omega (arith, e)),
+      other,
+    ) refl
+
+on_true : (b : Bool) (P : Type 0) → (b ≡ true → P) → OnTrue b P
+on_true true P f = f refl
+on_true false P f = tt
+
+-- the two tests of the lanes, as the code makes them
+pub plain_lanes : (text : List ℕ) (at : ℕ) → at + 16 ≤ length text
+    → mask_l (map (top 7) (zip2 (λ a b. cond (ltb a b) 255 0) (chunk at 16 text) (replicate 16 32))) % 2 ^ 64 ≡ 0
+    → OnTrue
+    (mask_l (map (top 7) (zip2 (λ a b. cond (eqb a b) 255 0) (chunk at 16 text) (replicate 16 92))) % 2 ^ 64 == 0)
+    (PlainBetween text at (at + 16))
+plain_lanes text at room printed =
+    on_true _ (PlainBetween text at (at + 16)) (λ e k from to. plain_byte (get_or text k 0) (none_passes_at ltb 32 text at room printed k from to)
+    (none_passes_at eqb 92 text at room (eqb-true _ 0 e) k from to))
+
+-- the bytes before an index and those from there
+pub plain_until : (text : List ℕ) (from at to : ℕ) → from ≤ at → PlainBetween text 0 at → PlainBetween text from to
+    → PlainBetween text 0 to
+plain_until text from at to le before after k start end =
+    elim (eq-zero-or-pos (at - k)) [
+      | inl none ↦ after k (omega arith) end
+      | inr more ↦ before k start (omega arith)
+    ]
+
+all_plain : (text : List ℕ) → PlainBetween text 0 (length text) → list_all is_plain text ≡ true
+all_plain [] h = refl
+all_plain (byte ∷ text) h =
+    rw (h 0 (omega arith) (omega arith)) (all_plain text (λ k from to. h (suc k) (omega arith) (omega arith)))
+
+-- the whole text, if its last bytes stand for themselves
+pub plain_to_end : (b : Bool) (text : List ℕ) (from at : ℕ) → from ≤ at → from + 16 ≡ length text
+    → PlainBetween text 0 at → OnTrue b (PlainBetween text from (from + 16))
+    → OnTrue b (list_all is_plain text ≡ true)
+plain_to_end false text from at le len before after = tt
+plain_to_end true text from at le len before after =
+    all_plain text (λ k start end. plain_until text from at (from + 16) le before after k start (omega arith))
