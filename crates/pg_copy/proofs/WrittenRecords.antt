@@ -1,6 +1,6 @@
 -- Lemmas on the records of texts, and on arrays of them.
 use Rattle.std.proofs.Common.{◌≡◌, ℕ, ◌+◌, ◌<◌, ◌≤◌, Bool, List, [], ◌∷◌, ◌++◌, length, get_or, take, map}
-use Rattle.std.proofs.Common.{Option, Some, None, Err, Result, option_map, refl, sym, subst, ap, ◌∙◌, append_assoc}
+use Rattle.std.proofs.Common.{Option, Some, None, Ok, Err, Result, option_map, refl, sym, subst, ap, ◌∙◌, append_assoc}
 use Rattle.std.proofs.Common.{append-nil, if◌then◌else◌}
 use Rattle.std.specs.Global.{Global}
 use Rattle.std.specs.List.{AllZip, flat_map, join_with_byte}
@@ -19,7 +19,7 @@ use Rattle.pg_write.specs.ArrayWriting.{cons_cell, element_cells, element_frame_
 use Rattle.pg_write.specs.ArrayWriting.{wire_by_element, wire_list}
 use Rattle.pg_copy.proofs.Wires.{list_never_null, value_frame}
 use Rattle.pg_copy.specs.Outputs.{Gains}
-use Rattle.pg_copy.specs.Values.{in_form, values_of}
+use Rattle.pg_copy.specs.Values.{TextValues, in_form, values_of}
 use Rattle.pg_copy.specs.WrittenCells.{FrameAs}
 use Rattle.pg_copy.specs.WrittenComposites.{FieldOf, RecordOf, SaysRecord, WritesItem, composite_texts}
 use Rattle.pg_copy.specs.WrittenComposites.{record_of}
@@ -182,3 +182,9 @@ module _ (base : Base) (is_array : Bool) (ty : Content) (text : Option (List ℕ
       → OnOk r (Gains (FrameAs (in_form is_array (texts_with fields base)) ty text) old new)
   with_fields [] some h = absurd (some refl)
   with_fields (f ∷ fs) some h = h
+
+-- what is appended for NULL is its frame
+pub null_frame : {T E : Type 0} (own : TextValues) (ty : Content) (old new : List ℕ) (r : Result T E)
+    → OnOk r (new ≡ old ++ 255 ∷ 255 ∷ 255 ∷ 255 ∷ []) → OnOk r (Gains (FrameAs own ty None) old new)
+null_frame own ty old new (Ok done) is = (255 ∷ 255 ∷ 255 ∷ 255 ∷ [], (None, refl, refl), is)
+null_frame own ty old new (Err fault) is = tt

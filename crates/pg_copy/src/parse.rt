@@ -1,5 +1,5 @@
 //! The cell for a text, by the type of its column.
-ghost use Rattle.std.specs.Prelude.{◌≡◌, IfOk, OnErr, OnOk, map};
+ghost use Rattle.std.specs.Prelude.{◌≡◌, ◌++◌, IfOk, OnErr, OnOk, Some, map};
 ghost use Rattle.pg_copy.specs.Outputs.{Gains};
 ghost use Rattle.pg_copy.specs.Values.{in_form, text_arrays_of, text_values, texts, texts_with_arrays, values_of};
 ghost use Rattle.pg_copy.specs.WrittenCells.{FrameAs, NeverNull, text_of};
@@ -17,6 +17,9 @@ use postgres_types::composite::field_count_to_sql;
 use postgres_types::private::BytesMut;
 use postgres_types::{Fault, ToSql, Type, frame_value};
 use std::alloc::Global;
+
+/// The frame of NULL: the length -1.
+const NULL: &[u8; 4] = b"\xff\xff\xff\xff";
 
 /// A text, of which `None` is NULL.
 pub type Text<'a> = Option<&'a str>;
@@ -66,7 +69,7 @@ pub fn push_frame(
 }
 
 /// Appends the frame of a value that is not composite.
-#[tactic(auto, using(crate::proofs::Wires::never_null))]
+#[inline(always)]
 fn push_value(
     alloc: Global,
     base: &Base,
@@ -79,6 +82,34 @@ fn push_value(
         (text_of text.entry)) out.old.items out.new.items) }
     ensures err { OnErr result (out.new.items ≡ out.old.items) }
 {
+    match text {
+        None => push_null(out),
+        Some(text) => push_by_type(alloc, base, is_array, ty, text, out),
+    }
+}
+
+/// Appends the frame of NULL.
+fn push_null(out: &mut BytesMut) -> Result<(), Fault>
+    ensures ok { OnOk result (out.new.items ≡ out.old.items ++ NULL.now) }
+    ensures err { OnErr result (out.new.items ≡ out.old.items) }
+{
+    Ok(out.extend_from_slice(NULL)?)
+}
+
+/// Appends the frame of a value that is neither composite nor NULL.
+#[tactic(auto, using(crate::proofs::Wires::never_null))]
+fn push_by_type(
+    alloc: Global,
+    base: &Base,
+    is_array: bool,
+    ty: &Type,
+    text: &str,
+    out: &mut BytesMut,
+) -> Result<(), Fault>
+    ensures ok { OnOk result (Gains (FrameAs (in_form is_array (values_of base.now).1) (content ty.now)
+        (Some text.now)) out.old.items out.new.items) }
+    ensures err { OnErr result (out.new.items ≡ out.old.items) }
+{
     base_types!(push(alloc, base, is_array, ty, text, out))
 }
 
@@ -88,20 +119,17 @@ fn push_text(
     alloc: Global,
     is_array: bool,
     ty: &Type,
-    text: Text<'_>,
+    text: &str,
     out: &mut BytesMut,
 ) -> Result<(), Fault>
-    ensures ok { OnOk result (Gains (FrameAs (in_form is_array texts.1) (content ty.now) (text_of text.entry))
+    ensures ok { OnOk result (Gains (FrameAs (in_form is_array texts.1) (content ty.now) (Some text.now))
         out.old.items out.new.items) }
     ensures err { OnErr result (out.new.items ≡ out.old.items) }
 {
     if is_array {
         return push_array_as::<String>(alloc, ty, text, out);
     }
-    match text {
-        None => frame_value(alloc, &None::<&str>, ty, out),
-        Some(text) => frame_value(alloc, &text, ty, out),
-    }
+    frame_value(alloc, &text, ty, out)
 }
 
 /// Appends the frame of a `T`, or of an array of them.
@@ -109,42 +137,34 @@ fn push_as<T: FromText + ToSql>(
     alloc: Global,
     is_array: bool,
     ty: &Type,
-    text: Text<'_>,
+    text: &str,
     out: &mut BytesMut,
 ) -> Result<(), Fault>
     requires { (ty : Content) (value : T) → NeverNull (T.wire ty value) }
     ensures ok { OnOk result (Gains (FrameAs (in_form is_array
         (text_values T.says T.wire, text_arrays_of (text_values T.says T.wire)))
-        (content ty.now) (text_of text.entry)) out.old.items out.new.items) }
+        (content ty.now) (Some text.now)) out.old.items out.new.items) }
     ensures err { OnErr result (out.new.items ≡ out.old.items) }
 {
     if is_array {
         return push_array_as::<T>(alloc, ty, text, out);
     }
-    match text {
-        None => frame_value(alloc, &None::<T>, ty, out),
-        Some(text) => frame_value(alloc, &T::from_text(alloc, text)?, ty, out),
-    }
+    frame_value(alloc, &T::from_text(alloc, text)?, ty, out)
 }
 
 /// Appends the frame of an array of `T`s.
 fn push_array_as<T: FromText + ToSql>(
     alloc: Global,
     ty: &Type,
-    text: Text<'_>,
+    text: &str,
     out: &mut BytesMut,
 ) -> Result<(), Fault>
     ensures ok { OnOk result (Gains (FrameAs (text_arrays_of (text_values T.says T.wire)) (content ty.now)
-        (text_of text.entry)) out.old.items out.new.items) }
+        (Some text.now)) out.old.items out.new.items) }
     ensures err { OnErr result (out.new.items ≡ out.old.items) }
 {
-    match text {
-        None => frame_value(alloc, &None::<Vec<Option<T>>>, ty, out),
-        Some(text) => {
-            let elements: Vec<Option<T>> = parse_array(alloc, text)?;
-            frame_value(alloc, &elements, ty, out)
-        }
-    }
+    let elements: Vec<Option<T>> = parse_array(alloc, text)?;
+    frame_value(alloc, &elements, ty, out)
 }
 
 /// Appends the frame of a composite value, or of an array of them. The element type is

@@ -205,6 +205,8 @@ fn push_field(
 }
 
 /// Appends the frame of the cell for a text. Bytes that are not UTF-8 are refused with `Utf8`.
+// A call would return a `Result` with a fault through memory.
+#[inline(always)]
 fn push_utf8(alloc: Global, column: &Column, text: &[u8], out: &mut BytesMut) -> Result<(), Fault>
     ensures ok { OnOk result (Gains (FrameOf column.now (Some text.now)) out.old.items out.new.items) }
     ensures err { OnErr result (out.new.items ≡ out.old.items) }

@@ -6,10 +6,10 @@ use Rattle.pg_copy.proofs.parse.push_as.Goals as goal
 pub returns-then-is_array-clause-ok : goal.returns-then-is_array-clause-ok
 returns-then-is_array-clause-ok g c = rw c.if-is_array.true c.push_array_as.ensures.ok
 
-pub returns-in_ok-from_text-in-Some-clause-ok : goal.returns-in_ok-from_text-in-Some-clause-ok
-returns-in_ok-from_text-in-Some-clause-ok g c =
+pub returns-clause-ok : goal.returns-clause-ok
+returns-clause-ok g c =
     let ty = content c.args.ty.now in
-    let value = c.in_ok-from_text-in-Some.field-0 in
-    rw (c.if-is_array.false, c.in-Some.is) (value_frame g.T.FromText.says g.T.ToSql.accepted g.T.ToSql.name g.T.ToSql.wire ty
-    c.in-Some.text.now value c.in_ok-from_text-in-Some.ensures (c.requires ty value) c.args.out.now.items
-    c.frame_value-in-Some.new.out.items c.frame_value-in-Some.result c.frame_value-in-Some.ensures.frame)
+    let value = c.in_ok-from_text.field-0 in
+    rw c.if-is_array.false (value_frame g.T.FromText.says g.T.ToSql.accepted g.T.ToSql.name g.T.ToSql.wire ty
+    c.args.text.now value c.in_ok-from_text.ensures (c.requires ty value) c.args.out.now.items
+    c.frame_value.new.out.items c.frame_value.result c.frame_value.ensures.frame)

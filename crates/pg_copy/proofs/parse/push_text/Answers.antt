@@ -12,11 +12,11 @@ use Rattle.pg_copy.proofs.parse.push_text.Goals as goal
 pub returns-then-is_array-clause-ok : goal.returns-then-is_array-clause-ok
 returns-then-is_array-clause-ok c = rw c.if-is_array.true c.push_array_as.ensures.ok
 
-pub returns-in-Some-clause-ok : goal.returns-in-Some-clause-ok
-returns-in-Some-clause-ok c =
+pub returns-clause-ok : goal.returns-clause-ok
+returns-clause-ok c =
     let ty = content c.args.ty.now in
-    let bytes = c.in-Some.text.now in
-    rw (c.if-is_array.false, c.in-Some.is) (value_frame {A = Bor (List ℕ)} (λ text s. s.now ≡ text) accepted_text (codes "&str")
-    (λ ty s. wire_text (has_version ty) s.now) ty bytes c.in-Some.text refl
+    let bytes = c.args.text.now in
+    rw c.if-is_array.false (value_frame {A = Bor (List ℕ)} (λ text s. s.now ≡ text) accepted_text (codes "&str")
+    (λ ty s. wire_text (has_version ty) s.now) ty bytes c.args.text refl
     (bytes_or_fault (is_utf8 bytes) (versioned_cell (has_version ty) bytes) transmit) c.args.out.now.items
-    c.frame_value-in-Some.new.out.items c.frame_value-in-Some.result c.frame_value-in-Some.ensures.frame)
+    c.frame_value.new.out.items c.frame_value.result c.frame_value.ensures.frame)
