@@ -95,11 +95,6 @@ def median_of(title, kind="ratio"):
     return f"{median(getattr(it, kind) for it in cases(title)):.2f}"
 
 
-def ratios_of_lists():
-    lists = [it.ratio for it in cases(PGCELL) if "[]" in it.name or "vector" in it.name]
-    return f"{min(lists):.2f} to {max(lists):.2f}"
-
-
 def instructions_of_read(case, column):
     head, rows = next(it for it in tables(section("The library beside the Rust crate")) if "read" in it[0])
     return next(it[head.index(column)] for it in rows if it[0] == case)
@@ -139,7 +134,6 @@ COUNTS = [
     ("docs/PERFORMANCE.md", r"beside the better build \d+, \d+ and (?P<n>[\d.]*\d)", partial(median_of, CRATE)),
     ("docs/PERFORMANCE.md", r"Of (?P<n>\d+) names", partial(count_of, PGCELL)),
     ("docs/PERFORMANCE.md", r"names, (?P<n>\d+) take at most (?P<limit>[\d.]+) times", partial(count_of, PGCELL)),
-    ("docs/PERFORMANCE.md", r"arrays and vectors take (?P<n>[\d.]+ to [\d.]+) times", ratios_of_lists),
 ]
 
 
