@@ -13,14 +13,24 @@ import sys
 sys.dont_write_bytecode = True
 
 
+def load(name):
+    """Returns a module that lies beside rt, or is rt itself."""
+    path = f"{os.path.dirname(os.path.realpath(shutil.which('rt')))}/{name}"
+    loader = importlib.machinery.SourceFileLoader(name.removesuffix(".py"), path)
+    made = importlib.util.module_from_spec(importlib.util.spec_from_loader(loader.name, loader))
+    sys.modules[loader.name] = made
+    loader.exec_module(made)
+    return made
+
+
 def load_kit():
     """Returns the module in which rt has its crates."""
-    path = f"{os.path.dirname(os.path.realpath(shutil.which('rt')))}/rtlib.py"
-    loader = importlib.machinery.SourceFileLoader("rtlib", path)
-    kit = importlib.util.module_from_spec(importlib.util.spec_from_loader("rtlib", loader))
-    sys.modules["rtlib"] = kit
-    loader.exec_module(kit)
-    return kit
+    return load("rtlib.py")
+
+
+def load_rt():
+    """Returns the module in which rt has its gate; its crates' module is in `rtlib`."""
+    return load("rt")
 
 
 def crates_in(kit, folder):

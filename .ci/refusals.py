@@ -1,0 +1,87 @@
+"""Which must-fail edits were refused over what: the lines of `.ci/refused`, and what is kept of the runs on this machine."""
+import hashlib
+import json
+import os
+
+from copies import lines_of, with_below
+from edits import read_edits
+from keeping import EDITS, kit_words
+from statements import sum_of_statements, walked
+
+CI = os.path.dirname(os.path.abspath(__file__))
+REFUSED = f"{CI}/refused"
+# How edits are tried: these files' texts are part of each checksum.
+TOOLS = ["edits.py", "rounds.py", "verdicts.py"]
+NOT_REFUSED = "NOT REFUSED"
+
+
+def has_edits(crate):
+    return os.path.isdir(f"crates/{crate}/must-fail")
+
+
+def checksum(crate, crates, copy):
+    """Returns the checksum of a crate and its edits, of what those below it state, of the kit's logic, and of how edits are tried."""
+    sums = hashlib.sha256((" ".join(kit_words()[1:]) + lines_of([crate])).encode())
+    own = [path for it in ("src", "specs", "proofs", "must-fail") for path in walked(f"crates/{crate}/{it}")]
+    for path in [*(f"{CI}/{it}" for it in TOOLS), *own]:
+        with open(path, "rb") as it:
+            sums.update(f"{path.removeprefix(CI)} {hashlib.sha256(it.read()).hexdigest()}\n".encode())
+    for it in with_below(crate, crates)[:-1]:
+        sums.update(f"{it} {sum_of_statements(f'{copy}/crates/{it}/out/rlib/{it}.rlib')}\n".encode())
+    return sums.hexdigest()
+
+
+class Record:
+    """What was said on this machine of the edits of a crate, by the checksum of what they were tried over."""
+
+    def __init__(self, crate, of, anew=False):
+        self.of, self.edits = of, {it.name for it in read_edits(f"crates/{crate}")}
+        self.path, self.said, self.seconds = f"{EDITS}/{of}", {}, 0
+        if os.path.isfile(self.path) and not anew:
+            with open(self.path, encoding="utf-8") as it:
+                self.said, self.seconds = json.load(it)
+
+    @property
+    def missed(self):
+        return sorted(name for name, said in self.said.items() if said == NOT_REFUSED)
+
+    @property
+    def refused(self):
+        return len(self.said) - len(self.missed)
+
+    @property
+    def left(self):
+        return self.edits - self.said.keys()
+
+    def add(self, said, seconds):
+        """Notes what was said of some edits, at once, so that a run that is ended was not for nothing."""
+        self.said.update(said)
+        self.seconds += seconds
+        os.makedirs(EDITS, exist_ok=True)
+        with open(f"{self.path}.new", "w", encoding="utf-8") as it:
+            json.dump([self.said, round(self.seconds)], it)
+        os.replace(f"{self.path}.new", self.path)
+
+    def line(self):
+        return self.of, self.refused, len(self.edits)
+
+
+class Lines:
+    """The lines of `.ci/refused`: of each crate the checksum, how many edits were refused, and how many there are."""
+
+    HEAD = "# The must-fail edits of each crate that a run of {} refused, and the checksum of what they were tried over.\n"
+
+    def __init__(self):
+        self.kit, self.of = "", {}
+        with open(REFUSED, encoding="utf-8") as it:
+            for line in map(str.split, it):
+                if line[0] == "#":
+                    self.kit = next((word for word in line if word.startswith("rattle-kit")), "")
+                elif len(line) == 5:
+                    self.of[line[0]] = line[1], int(line[2]), int(line[4])
+
+    def write(self, order):
+        """Writes the lines, lowest crate first."""
+        with open(REFUSED, "w", encoding="utf-8") as it:
+            it.write(self.HEAD.format(kit_words()[0]))
+            it.writelines("{} {} {} of {}\n".format(crate, *self.of[crate]) for crate in order if crate in self.of)
