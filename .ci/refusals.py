@@ -20,9 +20,9 @@ def has_edits(crate):
 
 
 def checksum(crate, crates, copy):
-    """Returns the checksum of a crate and its edits, of what those below it state, of the kit's logic, and of how edits are tried."""
+    """Returns the checksum of a crate, of what those below it state, of the kit's logic, and of how edits are tried."""
     sums = hashlib.sha256((" ".join(kit_words()[1:]) + lines_of([crate])).encode())
-    own = [path for it in ("src", "specs", "proofs", "must-fail") for path in walked(f"crates/{crate}/{it}")]
+    own = [path for it in ("src", "specs", "proofs") for path in walked(f"crates/{crate}/{it}")]
     for path in [*(f"{CI}/{it}" for it in TOOLS), *own]:
         with open(path, "rb") as it:
             sums.update(f"{path.removeprefix(CI)} {hashlib.sha256(it.read()).hexdigest()}\n".encode())
@@ -32,14 +32,18 @@ def checksum(crate, crates, copy):
 
 
 class Record:
-    """What was said on this machine of the edits of a crate, by the checksum of what they were tried over."""
+    """What was said on this machine of the edits of a crate, of each by its text, over what has this checksum."""
 
-    def __init__(self, crate, of, anew=False):
-        self.of, self.edits = of, {it.name for it in read_edits(f"crates/{crate}")}
-        self.path, self.said, self.seconds = f"{EDITS}/{of}", {}, 0
+    def __init__(self, crate, over, anew=False):
+        self.path = f"{EDITS}/{over}"
+        self.edits = {it.name: hashlib.sha256(repr(it).encode()).hexdigest() for it in read_edits(f"crates/{crate}")}
+        # the checksum of the crate's line
+        self.of = hashlib.sha256(repr((over, self.edits)).encode()).hexdigest()
+        self.said, self.seconds = {}, 0
         if os.path.isfile(self.path) and not anew:
             with open(self.path, encoding="utf-8") as it:
-                self.said, self.seconds = json.load(it)
+                said, self.seconds = json.load(it)
+            self.said = {name: of for name, (text, of) in said.items() if text == self.edits.get(name)}
 
     @property
     def missed(self):
@@ -51,7 +55,7 @@ class Record:
 
     @property
     def left(self):
-        return self.edits - self.said.keys()
+        return self.edits.keys() - self.said.keys()
 
     def add(self, said, seconds):
         """Notes what was said of some edits, at once, so that a run that is ended was not for nothing."""
@@ -59,10 +63,15 @@ class Record:
         self.seconds += seconds
         os.makedirs(EDITS, exist_ok=True)
         with open(f"{self.path}.new", "w", encoding="utf-8") as it:
-            json.dump([self.said, round(self.seconds)], it)
+            json.dump([{name: (self.edits[name], of) for name, of in self.said.items()}, round(self.seconds)], it)
         os.replace(f"{self.path}.new", self.path)
 
     def line(self):
+        """Returns the crate's line, and notes that it was written on this machine."""
+        if self.said:
+            os.makedirs(EDITS, exist_ok=True)
+            with open(f"{EDITS}/{self.of}", "w", encoding="utf-8") as it:
+                it.write(f"{self.refused} of {len(self.edits)}\n")
         return self.of, self.refused, len(self.edits)
 
 
