@@ -70,6 +70,20 @@ def fault_code(name):
     return first(rf"Fault::{name}\b[^\n]* => (\d+),", read("crates/pg_types/src/fault.rt"))
 
 
+def must_fail_edits():
+    """Returns how many must-fail edits each line of .ci/refused says were refused, and how many there are."""
+    return [(int(refused), int(edits)) for refused, edits in re.findall(r" (\d+) of (\d+)$", read(".ci/refused"), re.M)]
+
+
+def edits_in_all():
+    return f"{sum(edits for _, edits in must_fail_edits()):,}"
+
+
+def edits_left():
+    left = sum(edits - refused for refused, edits in must_fail_edits())
+    return f"{left:,}" if left else "none"
+
+
 def damaged_cells():
     """Returns how many cells .ci/damaged-cells has of each form, to the nearest thousand."""
     cells = sum(len(it.fronts) + 1 + len(BYTES) * (1 + len(it.replaced)) for _, it in forms())
@@ -118,6 +132,8 @@ COUNTS = [
     ("README.md", r"an (?P<case>int4) is read in \d+ instructions \(by the Rust crate in (?P<n>\d+)", partial(instructions_of_read, column="crate")),
     ("README.md", r"an (?P<case>int4) is read in \d+ instructions \(by the Rust crate in \d+, or in (?P<n>\d+)", best_instructions_of_read),
     ("README.md", r"`(?P<program>copy_read)` turns (?P<n>[\d.]+) million rows", million_rows),
+    ("CONTRIBUTING.md", r"There are (?P<n>[\d,]+) must-fail edits", edits_in_all),
+    ("CONTRIBUTING.md", r"must-fail edits; (?P<n>[\d,]+|none) of them", edits_left),
     ("docs/OWN-TYPES.md", r"^\|[^|]*\|[^|]*\|[^|]*\| (?P<names>[^|]*) \| (?P<n>\d+(?:, \d+)*) \|$", example_lines),
     ("docs/OWN-TYPES.md", r"`(?P<name>\w+)` has (?P<n>\w+) fields", fields_of),
     ("docs/OWN-TYPES.md", r"`(?P<name>\w+)`, among the tests, (?P<n>\w+)", fields_of),

@@ -18,12 +18,17 @@ class Lanes:
         # how many rounds of a crate are left, and why a lane stopped
         self.left, self.failed = {}, None
 
+    def kept_of(self, crate):
+        """Returns the folder of what the crate's own proof kept, which is not there where a kit's gate keeps it elsewhere."""
+        return f"{self.copy}/crates/{crate}/out/incremental"
+
     def copy_of(self, lane, crate):
         """Returns a lane's copy of a crate, with what its own proof kept."""
         to = f"{self.room}/lane-{lane}-{crate}"
         if not os.path.isdir(to):
             copy_crates(with_below(crate, self.crates), self.copy, to)
-            link_tree(f"{self.copy}/crates/{crate}/out/incremental", f"{to}/crates/{crate}/out/proof", ".oantt")
+            if os.path.isdir(self.kept_of(crate)):
+                link_tree(self.kept_of(crate), f"{to}/crates/{crate}/out/proof", ".oantt")
         return f"{to}/crates/{crate}"
 
     def divide(self, lane, crate):
@@ -33,6 +38,9 @@ class Lanes:
         status, lines = check(folder, texts, texts)
         if status:
             raise OSError("\n".join([f"{crate} is NOT proved without an edit", *lines]))
+        if not os.path.isdir(self.kept_of(crate)):
+            for to in (self.kept_of(crate), f"{folder}/out/proof"):
+                link_tree(f"{folder}/out/incremental", to, ".oantt")
         edits = [it for it in read_edits(f"crates/{crate}") if it.name in self.records[crate].left]
         rounds = rounds_of([*tries_of(edits, texts, proved_in(lines))], texts)
         self.left[crate] = len(rounds)
