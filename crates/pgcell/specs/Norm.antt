@@ -12,7 +12,7 @@ use Rattle.pg_types.specs.declared.format.IsNull.{IsNull}
 use Rattle.named_types.specs.Names.{picked}
 use Rattle.named_types.specs.declared.name.Form.{Form}
 use Rattle.named_types.specs.declared.name.Name.{Name}
-use Rattle.pgcell.specs.Entries.{Entry, no_entry, entry, entry_of}
+use Rattle.pgcell.specs.Entries.{types_of, rewriting_of}
 use Rattle.pgcell.specs.Rewritten.{Rewriting}
 
 -- the text of a written form: `null`, `ok` and the bytes in hexadecimal, or `-` if there are none, or `refused` and the
@@ -42,11 +42,6 @@ AnswersAt (Some ty) rewritten cell text = (w : Wire) × rewritten ty cell w × (
 abbrev pub AnswersIn : Content → Option Content → Rewriting → Form → Cell → List ℕ → Type 0
 AnswersIn own arrays rewritten form = AnswersAt (picked form own arrays) (rewritten form)
 
--- the same by an entry of the table; without one, the line is not well formed
-abbrev pub AnswersEntry : Entry → Form → Cell → List ℕ → Type 0
-AnswersEntry no_entry form cell text = text ≡ codes "bad line"
-AnswersEntry (entry own arrays rewritten) form cell text = AnswersIn own arrays rewritten form cell text
-
 -- the text answers `norm` of a name and a cell
 abbrev pub AnswersNorm : Name → Cell → List ℕ → Type 0
-AnswersNorm name = AnswersEntry (entry_of name.base) name.form
+AnswersNorm name = AnswersIn (types_of name.base).0 (types_of name.base).1 (rewriting_of name.base) name.form

@@ -1,8 +1,8 @@
 //! The types in the table of base names. The user-defined ones of `pg_numbers` are in the schema
 //! `pg_catalog`, and the others in the schema `public`.
-ghost use Rattle.std.specs.Prelude.{◌≡◌, IsSome, IsTrue, IfNone, IfOk, IfSome, Some, option_map};
+ghost use Rattle.std.specs.Prelude.{◌≡◌, IsTrue, IfNone, IfOk, IfSome, Some, option_map};
 ghost use Rattle.postgres_types.specs.Content.{content};
-ghost use Rattle.pgcell.specs.Entries.{are_types, entry_of, types_in, user_types};
+ghost use Rattle.pgcell.specs.Entries.{are_types, types_of, user_types};
 
 use named_types::{Base, base_names};
 use pg_record::types::{item_array_type, item_type, mood_type, session_id_type, simple_type};
@@ -75,9 +75,8 @@ macro_rules! row_made {
 
 /// Returns the built-in types of a base name; `None` if its types are user-defined.
 fn built_in(base: Base) -> Option<Types>
-    ensures some { IfSome result (λ types.
-        Some (content types.0, option_map content types.1) ≡ types_in (entry_of base)) }
-    ensures none { IfNone result (IsSome (user_types base) × (types_in (entry_of base) ≡ user_types base)) }
+    ensures some { IfSome result (λ types. (content types.0, option_map content types.1) ≡ types_of base) }
+    ensures none { IfNone result (user_types base ≡ Some (types_of base)) }
 {
     base_names!(built_in(base))
 }
@@ -140,8 +139,7 @@ impl UserTypes {
 
     /// Returns the types of a base name. The only error is a failed allocation.
     pub fn of(&mut self, alloc: Global, base: Base) -> Result<Types, AllocError>
-        ensures { IfOk result (λ types.
-            Some (content types.0, option_map content types.1) ≡ types_in (entry_of base)) }
+        ensures { IfOk result (λ types. (content types.0, option_map content types.1) ≡ types_of base) }
     {
         if let Some(types) = built_in(base) {
             return Ok(types);
