@@ -1,6 +1,6 @@
 //! Values that both functions for writing refuse.
 
-use crate::{BEFORE, refuses_value, same};
+use crate::{BEFORE, fault_code, refuses_value, same};
 use postgres_types::private::BytesMut;
 use postgres_types::{ToSql, Type};
 use std::alloc::Global;
@@ -15,6 +15,6 @@ pub fn refuses_both<T: ToSql>(alloc: Global, value: &T, ty: &Type, code: u32) ->
     }
     let mut out = BytesMut::copy_from_slice(alloc, BEFORE)?;
     let refused = value.to_sql(alloc, ty, &mut out);
-    same(refused.err().map(|fault| fault.code()), Some(code))?;
+    same(fault_code(refused), code)?;
     same(out.as_slice(), BEFORE)
 }

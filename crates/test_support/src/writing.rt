@@ -1,7 +1,7 @@
 //! Tables of writing.
 
 use crate::code::WRONG_TYPE;
-use crate::{BEFORE, read, reads, same, simple_type};
+use crate::{BEFORE, fault_code, read, reads, same, simple_type};
 use postgres_types::private::BytesMut;
 use postgres_types::{FromSql, IsNull, Paired, ToSql, Type, rewrite, to_sql_checked_as};
 use std::alloc::Global;
@@ -48,7 +48,7 @@ pub fn writes_null<T: ToSql>(alloc: Global, value: &T, ty: &Type) -> Result<(), 
 pub fn refuses_value<T: ToSql>(alloc: Global, value: &T, ty: &Type, code: u32) -> Result<(), Fail> {
     let mut out = BytesMut::copy_from_slice(alloc, BEFORE)?;
     let refused = value.to_sql_checked(alloc, ty, &mut out);
-    same(refused.err().map(|fault| fault.code()), Some(code))?;
+    same(fault_code(refused), code)?;
     same(out.as_slice(), BEFORE)
 }
 

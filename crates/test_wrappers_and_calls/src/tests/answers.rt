@@ -5,7 +5,7 @@ use postgres_types::{Fault, Type, frame_value, from_sql_nullable};
 use std::alloc::{AllocError, Global};
 use std::test::Fail;
 use test_support::code::{SIZE, USER, WAS_NULL};
-use test_support::{holds, same};
+use test_support::{fault_code, holds, same};
 
 /// Returns a text for the value of a column `note text`.
 fn describe_note(alloc: Global, cell: Option<&[u8]>) -> Result<&'static str, Fault> {
@@ -70,7 +70,7 @@ fn a_refusal_has_a_number(rt: HostRuntime) -> Result<(), Fail> {
     ];
     for (cell, code) in rows {
         let refused = read_port(rt.alloc(), cell);
-        same(refused.err().map(|fault| fault.code()), Some(code))?;
+        same(fault_code(refused), code)?;
     }
     same(read_port(rt.alloc(), Some(&[0, 0, 0x15, 0x38]))?, 5432)
 }

@@ -7,7 +7,7 @@ use postgres_types::{Fault, Format, ToSql, Type, params_to_sql};
 use std::alloc::Global;
 use std::test::Fail;
 use test_support::code::{TRANSMIT, WRONG_TYPE};
-use test_support::{Word, binds, same, unix};
+use test_support::{Word, binds, fault_code, same, unix};
 
 /// Appends the part of a Bind message that has the parameters. A refusal leaves the buffer as it
 /// was.
@@ -181,6 +181,6 @@ fn a_refused_bind_leaves_the_buffer(rt: HostRuntime) -> Result<(), Fail> {
     let types = [Type::INT4, Type::TEXT, Type::INT8];
     let mut out = BytesMut::copy_from_slice(alloc, &MESSAGE)?;
     let refused = bind_params(alloc, &params, &types, &mut out);
-    same(refused.err().map(|fault| fault.code()), Some(WRONG_TYPE))?;
+    same(fault_code(refused), WRONG_TYPE)?;
     same(out.as_slice(), &MESSAGE)
 }

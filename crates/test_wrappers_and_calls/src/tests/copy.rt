@@ -5,7 +5,7 @@ use postgres_types::protocol::{int2_to_sql, int4_to_sql};
 use postgres_types::{Fault, Type, frame_value};
 use std::alloc::Global;
 use std::test::Fail;
-use test_support::{code, same};
+use test_support::{code, fault_code, same};
 
 /// A row of the types int4 and text.
 type Row<'a> = (i32, Option<&'a str>);
@@ -46,6 +46,6 @@ fn a_refused_field_leaves_the_buffer(rt: HostRuntime) -> Result<(), Fail> {
     let mut out = BytesMut::new(alloc);
     out.extend_from_slice(b"kept")?;
     let refused = frame_value(alloc, &"ab", &Type::INT4, &mut out);
-    same(refused.map_err(|fault| fault.code()), Err(code::WRONG_TYPE))?;
+    same(fault_code(refused), code::WRONG_TYPE)?;
     same(out.as_slice(), b"kept".as_slice())
 }

@@ -6,7 +6,7 @@ use postgres_types::{Fault, Type};
 use std::alloc::Global;
 use std::test::Fail;
 use test_support::code::{COUNT, SIZE, WAS_NULL};
-use test_support::same;
+use test_support::{fault_code, same};
 
 /// A row of `SELECT id, name, sizes`, of the types int4, text and int4[].
 #[derive(Debug, Drop)]
@@ -81,7 +81,7 @@ fn damaged_rows_are_refused(rt: HostRuntime) -> Result<(), Fail> {
     ];
     for (body, code) in rows {
         let refused = read_item(rt.alloc(), body);
-        same(refused.err().map(|fault| fault.code()), Some(code))?;
+        same(fault_code(refused), code)?;
     }
     Ok(())
 }

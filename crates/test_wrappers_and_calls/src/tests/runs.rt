@@ -6,7 +6,7 @@ use std::alloc::Global;
 use std::fmt::Debug;
 use std::test::Fail;
 use test_support::code::{SIZE, WAS_NULL};
-use test_support::same;
+use test_support::{fault_code, same};
 
 /// The cells of 1 and 2, and a trailing byte.
 const TWO: [u8; 17] = [0, 0, 0, 4, 0, 0, 0, 1, 0, 0, 0, 4, 0, 0, 0, 2, 0xff];
@@ -72,7 +72,7 @@ fn a_refused_cell_ends_a_run(rt: HostRuntime) -> Result<(), Fail> {
     for (bytes, n, code, rest) in REFUSED {
         let mut buf = bytes;
         let refused = read_values::<i32>(rt.alloc(), &Type::INT4, n, &mut buf);
-        same(refused.err().map(|fault| fault.code()), Some(code))?;
+        same(fault_code(refused), code)?;
         same(buf, rest)?;
     }
     Ok(())

@@ -5,7 +5,7 @@ use postgres_types::protocol::{array_from_sql, hstore_from_sql, int4_from_sql};
 use std::alloc::Global;
 use std::test::Fail;
 use test_support::code::SIZE;
-use test_support::same;
+use test_support::{fault_code, same};
 
 /// Returns the sum of the elements of an `int4[]` cell without those that are NULL. It does not
 /// allocate.
@@ -47,7 +47,7 @@ const A_AND_B: &[u8] = b"\0\0\0\x02\0\0\0\x01a\0\0\0\x011\0\0\0\x01b\xff\xff\xff
 fn elements_are_added_in_place(rt: HostRuntime) -> Result<(), Fail> {
     same(sum_of_elements(rt.alloc(), &ONE_NULL_TWO)?, 3)?;
     let truncated = sum_of_elements(rt.alloc(), &ONE_NULL_TWO[..39]);
-    same(truncated.err().map(|fault| fault.code()), Some(SIZE))
+    same(fault_code(truncated), SIZE)
 }
 
 #[test]
