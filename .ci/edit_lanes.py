@@ -19,7 +19,7 @@ class Lanes:
         self.left, self.failed = {}, None
 
     def kept_of(self, crate):
-        """Returns the folder of what the crate's own proof kept, which is not there where a kit's gate keeps it elsewhere."""
+        """Returns the folder of what the crate's own proof kept, which `divide` makes where there is none."""
         return f"{self.copy}/crates/{crate}/out/incremental"
 
     def copy_of(self, lane, crate):

@@ -2,12 +2,10 @@
 use Rattle.std.proofs.Common.{◌≡◌, ◌-◌, ◌+◌, ◌<◌, ℕ, List, [], ◌∷◌, ◌++◌, Some, length, ap, arith, refl, subst, sym}
 use Rattle.std.proofs.Common.{◌∙◌, append-nil, append_assoc, drop, length-append, take, take-append-drop}
 use Rattle.std.proofs.lemmas.List.{nil_from_length}
-use Rattle.std.specs.Prelude.{pos}
-use Rattle.std.specs.Int.{w16}
-use Rattle.pg_base.specs.Cells.{Cell, be, frames}
-use Rattle.pg_tuples.proofs.TupleLaws.{copy_next}
+use Rattle.pg_base.specs.Cells.{Cell, frames}
+use Rattle.pg_tuples.proofs.TupleLaws.{copy_next, tuple_counted}
 use Rattle.pg_tuples.specs.Reading.{AwaitsExtension, EndsInExtension}
-use Rattle.pg_tuples.specs.Tuples.{BeginsCopy, FramesThen, IsCopy, IsHeader, trailer, tuple}
+use Rattle.pg_tuples.specs.Tuples.{BeginsCopy, CountThen, FramesThen, IsCopy, IsHeader, trailer}
 
 -- the header of a COPY of no row
 pub begins_none : (s t mid extension rest : List ℕ) (len : ℕ) → AwaitsExtension len t → s ≡ t ++ mid
@@ -34,21 +32,21 @@ ends_in_extension s t extension len awaits is few = (
 -- so many rows were taken, and these bytes are left
 module _ (bytes left : List ℕ) (rows : List (List Cell)) (count : ℕ)
     (so_far : (t : List ℕ) × BeginsCopy rows t × (bytes ≡ t ++ left) × (count ≡ length rows)) where
-  pub row_next : (n : ℕ) (row rest : List ℕ) → FramesThen row n [] → left ≡ be w16 (pos n) ++ (row ++ rest)
+  pub row_next : (n : ℕ) (row rest : List ℕ) → FramesThen row n [] → CountThen left n (row ++ rest)
       → (cells : List Cell) × (length cells ≡ n) × (frames cells ≡ Some row)
       × ((t : List ℕ) × BeginsCopy (rows ++ cells ∷ []) t × (bytes ≡ t ++ rest)
       × (count + 1 ≡ length (rows ++ cells ∷ [])))
-  row_next n row rest (cells, framed, many, are, is) stands =
-      let same : row ≡ framed = is ∙ append-nil framed in
-      let tuple_is : tuple cells ≡ Some (be w16 (pos n) ++ row) = rw (many, are, same) refl in (
+  row_next n row rest (cells, framed, many, are, is) (number, counted, stands) =
+      let framed_row : frames cells ≡ Some row = are ∙ ap Some (sym (is ∙ append-nil framed)) in (
         cells,
         many,
-        are ∙ ap Some (sym same),
+        framed_row,
         (
-          so_far.0 ++ (be w16 (pos n) ++ row),
-          copy_next rows cells so_far.0 (be w16 (pos n) ++ row) so_far.1 tuple_is,
-          so_far.2 ∙ ap (λ l. so_far.0 ++ l) (stands ∙ sym (append_assoc (be w16 (pos n)) row rest))
-              ∙ sym (append_assoc so_far.0 (be w16 (pos n) ++ row) rest),
+          so_far.0 ++ (number ++ row),
+          copy_next rows cells so_far.0 (number ++ row) so_far.1
+              (tuple_counted cells n number row many counted framed_row),
+          so_far.2 ∙ ap (λ l. so_far.0 ++ l) (stands ∙ sym (append_assoc number row rest))
+              ∙ sym (append_assoc so_far.0 (number ++ row) rest),
           (let sum = length-append rows (cells ∷ []) in omega (arith, sum, so_far.3)),
         ),
       )

@@ -1,10 +1,11 @@
 -- Laws of escaped texts.
-use Rattle.std.proofs.Common.{◌≡◌, ℕ, Bool, true, false, List, [], ◌∷◌, ◌++◌, Option, Some, None, is_none, refl, ap}
+use Rattle.std.proofs.Common.{◌≡◌, ◌==◌, ℕ, Bool, true, false, List, [], ◌∷◌, ◌++◌, Option, Some, None, is_none, refl, ap}
 use Rattle.std.proofs.Common.{sym, ◌∙◌}
 use Rattle.std.proofs.Common.{◌+◌, ◌<◌, length, take, get_or, append_assoc, append-nil, add-one}
 use Rattle.std.proofs.Math.Seq.{take-suc}
 use Rattle.std.proofs.Common.{◌&&◌, Result, Ok, Err, OnOk, is_ok, if◌then◌else◌}
 use Rattle.std.specs.List.{list_all}
+use Rattle.streams.specs.Lines.{IsOneLine}
 use Rattle.pg_copy.specs.Escapes.{escaped, escaped_byte, is_plain, letter_of}
 
 -- a byte that stands for itself is escaped by nothing
@@ -51,3 +52,29 @@ escaped_next text old mid new i x h is before after =
     ap escaped more ∙ escaped_append (take i text) (x ∷ []) ∙ ap (λ l. escaped (take i text) ++ l) last in
     after ∙ ap (λ l. l ++ escaped_byte x (letter_of x)) before
     ∙ append_assoc old (escaped (take i text)) (escaped_byte x (letter_of x)) ∙ ap (λ l. old ++ l) (sym all)
+
+-- an escaped text is one line
+
+one_line_of_both : (xs ys : List ℕ) → IsOneLine xs → IsOneLine ys → IsOneLine (xs ++ ys)
+one_line_of_both [] ys p q = q
+one_line_of_both (x ∷ xs) ys p q = (p.0, one_line_of_both xs ys p.1 q)
+
+-- whether the byte is each of those that have a letter
+one_line_by : (b8 b9 b10 b11 b12 b13 b92 : Bool) (byte : ℕ) → (byte == 10) ≡ b10
+    → IsOneLine (escaped_byte byte (if b8 then Some 98 else if b9 then Some 116 else if b10 then Some 110
+    else if b11 then Some 118 else if b12 then Some 102 else if b13 then Some 114 else if b92 then Some 92 else None))
+one_line_by true b9 b10 b11 b12 b13 b92 byte e = (refl, (refl, tt))
+one_line_by false true b10 b11 b12 b13 b92 byte e = (refl, (refl, tt))
+one_line_by false false true b11 b12 b13 b92 byte e = (refl, (refl, tt))
+one_line_by false false false true b12 b13 b92 byte e = (refl, (refl, tt))
+one_line_by false false false false true b13 b92 byte e = (refl, (refl, tt))
+one_line_by false false false false false true b92 byte e = (refl, (refl, tt))
+one_line_by false false false false false false true byte e = (refl, (refl, tt))
+one_line_by false false false false false false false byte e = (e, tt)
+
+pub escaped_one_line : (text : List ℕ) → IsOneLine (escaped text)
+escaped_one_line [] = tt
+escaped_one_line (byte ∷ text) =
+    one_line_of_both (escaped_byte byte (letter_of byte)) (escaped text)
+    (one_line_by (byte == 8) (byte == 9) (byte == 10) (byte == 11) (byte == 12) (byte == 13) (byte == 92) byte refl)
+    (escaped_one_line text)

@@ -2,6 +2,7 @@
 mod ArrayBounds
 mod CellTexts
 mod CompositeSteps
+mod EndLaws
 mod EscapeLaws
 mod EscapeTable
 mod LineLaws
@@ -14,7 +15,6 @@ mod RefusalLaws
 mod RowLaws
 mod StopLaws
 mod TextLaws
-pub mod TypeNames
 mod TypeTexts
 pub mod Wires
 mod WrittenLaws

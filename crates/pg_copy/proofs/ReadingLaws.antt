@@ -1,18 +1,17 @@
 -- Laws of reading a binary COPY.
-use Rattle.std.proofs.Common.{◌≡◌, ◌+◌, ℕ, pos, List, [], ◌∷◌, ◌++◌, Some, length, inl, inr, refl}
+use Rattle.std.proofs.Common.{◌≡◌, ◌+◌, ℕ, List, [], ◌∷◌, ◌++◌, Some, length, inl, inr, refl}
 use Rattle.std.proofs.Common.{ap, sym, subst, ◌∙◌, append_assoc, append-nil, arith, length-append}
 use Rattle.std.proofs.lemmas.List.{nil_from_length}
-use Rattle.std.specs.Int.{w16}
 use Rattle.pg_base.proofs.CellLaws.{cells_single, frames_spell}
-use Rattle.pg_base.specs.Cells.{Cell, SpellsAll, be}
+use Rattle.pg_base.specs.Cells.{Cell, SpellsAll}
 use Rattle.pg_copy.proofs.LineLaws.{fields_width, lines_next}
 use Rattle.pg_copy.specs.Lines.{IsLineOf}
 use Rattle.pg_copy.specs.ReadingSteps.{AddsRow, Advances, HasRead}
 use Rattle.pg_copy.specs.Refusals.{row_count}
 use Rattle.pg_copy.specs.Rows.{BeginsRows, BeginsWithRows, StartsCopyOf}
-use Rattle.pg_tuples.proofs.TupleLaws.{copy_next}
+use Rattle.pg_tuples.proofs.TupleLaws.{copy_next, tuple_counted}
 use Rattle.pg_tuples.specs.Reading.{AwaitsExtension, TakesHeader}
-use Rattle.pg_tuples.specs.Tuples.{FramesThen, IsHeader, trailer, tuple}
+use Rattle.pg_tuples.specs.Tuples.{CountThen, FramesThen, IsHeader, trailer, tuple}
 use Rattle.pg_copy.specs.declared.columns.Column.{Column}
 use Rattle.pg_copy.specs.declared.read.Place.{Place}
 use Rattle.pg_copy.specs.declared.read.Place.TheVariants.{Header, Extension, Tuples, End}
@@ -96,24 +95,24 @@ module _ (columns : List Column) where
       omega (arith, next, so_far, sum)
 
   pub row_taken : (i j : ℕ) (s frames rest lines longer : List ℕ) → FramesThen frames (length columns) []
-      → s ≡ be w16 (pos (length columns)) ++ (frames ++ rest) → AddsRow columns frames lines longer
+      → CountThen s (length columns) (frames ++ rest) → AddsRow columns frames lines longer
       → j ≡ row_count (i + 1) → Advances columns Tuples i s lines Tuples j rest longer
-  row_taken i j s frames rest lines longer (cells, bytes, count, are, then) is
+  row_taken i j s frames rest lines longer (cells, bytes, many, are, then) (count, counted, is)
       (left, (row, spelled, (line, one, grown))) next =
       let width : length row ≡ length columns = (fields_width columns row one.0 one.1).0 in
       let framed = subst (λ x. SpellsAll x cells []) (sym then) (frames_spell cells bytes [] are) in
-      let single = cells_single frames (length columns) cells row [] left (framed, omega (arith, count), inl count)
+      let single = cells_single frames (length columns) cells row [] left (framed, omega (arith, many), inl many)
       (spelled, omega (arith, width), inl width) in
-      let same : frames ≡ bytes = then ∙ append-nil bytes in
-      let tuple_is : tuple row ≡ Some (be w16 (pos (length columns)) ++ frames) =
-      subst (λ x. tuple x ≡ Some (be w16 (pos (length columns)) ++ frames)) single.0 (rw (count, are, same) refl) in (
-        be w16 (pos (length columns)) ++ frames,
+      let framed_cells = are ∙ ap Some (sym (then ∙ append-nil bytes)) in
+      let tuple_is : tuple row ≡ Some (count ++ frames) = subst (λ x. tuple x ≡ Some (count ++ frames)) single.0
+      (tuple_counted cells (length columns) count frames many counted framed_cells) in (
+        count ++ frames,
         line,
-        is ∙ sym (append_assoc (be w16 (pos (length columns))) frames rest),
+        is ∙ sym (append_assoc count frames rest),
         grown,
         λ t so_far h. (
           h.0 ++ row ∷ [],
-          rows_next t (be w16 (pos (length columns)) ++ frames) so_far line h.0 row h.1 tuple_is one,
+          rows_next t (count ++ frames) so_far line h.0 row h.1 tuple_is one,
           one_more i j h.0 row next h.2,
         ),
       )

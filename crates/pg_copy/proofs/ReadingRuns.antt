@@ -32,7 +32,7 @@ at_end (Some x) None read Holds c e h = absurd c
 at_end (Some x) (Some y) read Holds c e h =
     subst Holds (sym (c ∙ ap (λ s. read ++ s) e ∙ append-nil read)) h
 
-of_input_weaker : (a : Option (List ℕ)) (P Q : List ℕ → Type 0) → ((s : List ℕ) → P s → Q s) → OfInput a P
+pub of_input_weaker : (a : Option (List ℕ)) (P Q : List ℕ → Type 0) → ((s : List ℕ) → P s → Q s) → OfInput a P
     → OfInput a Q
 of_input_weaker None P Q f h = (h.0, f h.0 h.1)
 of_input_weaker (Some s) P Q f h = f s h

@@ -1,12 +1,11 @@
 -- Laws of what is refused of a binary COPY.
-use Rattle.std.proofs.Common.{◌≡◌, ◌+◌, ◌<◌, ℕ, suc, pos, Bool, List, [], ◌∷◌, ◌++◌, length, Option, Some, None}
+use Rattle.std.proofs.Common.{◌≡◌, ◌≢◌, ◌+◌, ◌<◌, ℕ, suc, Bool, true, false, List, [], ◌∷◌, ◌++◌, length, Option, Some, None}
 use Rattle.std.proofs.Common.{take, drop, get_or, inl, inr, refl, sym, ap, subst, ◌∙◌, arith}
 use Rattle.std.proofs.Common.{take-append-drop, length-take}
 use Rattle.std.proofs.Math.Seq.{drop-cons}
 use Rattle.std.specs.Prelude.{IfSome, IsSome}
-use Rattle.std.specs.Int.{w16}
 use Rattle.pg_base.proofs.CellLaws.{cells_single, frames_spell}
-use Rattle.pg_base.specs.Cells.{Cell, SpellsAll, SpellsNone, be}
+use Rattle.pg_base.specs.Cells.{Cell, SpellsAll, SpellsNone}
 use Rattle.pg_copy.specs.Values.{Values, values}
 use Rattle.pg_types.specs.Content.{Content}
 use Rattle.pg_types.specs.Faults.{Refusal, refusal_of}
@@ -15,13 +14,13 @@ use Rattle.pg_types.specs.declared.fault.Fault.TheVariants as fault
 use Rattle.pg_copy.proofs.LineLaws.{TakesFields, fields_width}
 use Rattle.pg_copy.specs.CellRefusals.{CellFault, RefusesAs}
 use Rattle.pg_copy.specs.Refusals.{IsValueFault, RefusesAt, RefusesIn, RefusesRow}
-use Rattle.pg_copy.specs.Refusals.{TupleRefused, UnlessMemory, ValueRefused, tuple_fault}
+use Rattle.pg_copy.specs.Refusals.{TupleRefused, UnlessMemory, ValueRefused, is_write, tuple_fault}
 use Rattle.pg_tuples.specs.Refusals.{RefusesTupleOf}
-use Rattle.pg_tuples.specs.Tuples.{FramesThen}
+use Rattle.pg_tuples.specs.Tuples.{CountThen, FramesThen}
 use Rattle.pg_tuples.specs.declared.tuples.TupleFault.{TupleFault}
 use Rattle.pg_copy.specs.declared.columns.Column.{Column}
 use Rattle.pg_copy.specs.declared.copy_fault.CopyFault.{CopyFault}
-use Rattle.pg_copy.specs.declared.copy_fault.CopyFault.TheVariants.{Memory, Value}
+use Rattle.pg_copy.specs.declared.copy_fault.CopyFault.TheVariants.{Memory, Value, Write}
 use Rattle.pg_copy.specs.declared.copy_fault.Row.{Row}
 
 -- a fault that is not Memory is a refusal
@@ -119,6 +118,10 @@ module _ (row : Row) (columns : List Column) (place : ℕ) (d : Column) (s rest 
       }
   row_refused f within framed taken h = absurd h
 
+-- a fault of which it is known that writing did not fail
+pub no_failed_write : (fault : CopyFault) → false ≡ is_write fault → fault ≢ Write
+no_failed_write fault other is = let bad : false ≡ true = other ∙ ap is_write is in let no : ⊥ = cc in no
+
 -- what stands in the place of a tuple is refused
 module _ (row : Row) (columns : List Column) (s : List ℕ) where
   pub front_refused : (e : TupleFault) → RefusesTupleOf (length columns) s e
@@ -126,7 +129,7 @@ module _ (row : Row) (columns : List Column) (s : List ℕ) where
   front_refused e h f is = unless (TupleRefused row columns s) f (inl (e, h, is))
 
   pub tuple_refused : (frames rest : List ℕ) → FramesThen frames (length columns) []
-      → s ≡ be w16 (pos (length columns)) ++ (frames ++ rest)
+      → CountThen s (length columns) (frames ++ rest)
       → (f : CopyFault) → UnlessMemory (RefusesRow row columns frames) f → UnlessMemory (TupleRefused row columns s) f
   tuple_refused frames rest framed is f h =
       unless_weaker (RefusesRow row columns frames) (TupleRefused row columns s) f

@@ -1,15 +1,15 @@
 -- Laws of the tuples of lines.
-use Rattle.std.proofs.Common.{◌≡◌, ℕ, ◌+◌, ◌<◌, ◌≤◌, pos, List, [], ◌∷◌, ◌++◌, Option, Some, None, Result, Ok, Err}
+use Rattle.std.proofs.Common.{◌≡◌, ℕ, ◌+◌, ◌<◌, ◌≤◌, suc, pos, List, [], ◌∷◌, ◌++◌, Option, Some, None, Result, Ok, Err}
 use Rattle.std.proofs.Common.{OnOk, length, take, get_or, refl, sym, ap, subst, ◌∙◌, append_assoc, append-nil, arith}
 use Rattle.std.proofs.Common.{add-one}
 use Rattle.std.proofs.Common.{length-append}
 use Rattle.std.proofs.Math.Seq.{take-suc}
 use Rattle.std.proofs.lemmas.List.Splits.{length-slice_split}
 use Rattle.std.specs.Prelude.{◌==◌}
-use Rattle.std.specs.Int.{w16}
 use Rattle.std.specs.List.{AllByRecursion}
 use Rattle.pg_base.specs.Cells.{Cell, be, frames}
-use Rattle.pg_tuples.proofs.TupleLaws.{next_frames}
+use Rattle.std.specs.Int.{w16}
+use Rattle.pg_tuples.proofs.TupleLaws.{counted_below, next_frames, tuple_counted}
 use Rattle.pg_copy.specs.Outputs.{Extends, Gains}
 use Rattle.pg_copy.specs.TextLines.{LacksEscapes, Says, fields_left, fields_of}
 use Rattle.pg_copy.proofs.TextLaws.{plain_fields}
@@ -106,18 +106,32 @@ pub so_far_extends : (columns : List Column) (line : List ℕ) (n : ℕ) (rest :
     → SoFar columns line n rest old new → Extends old new
 so_far_extends columns line n rest old new s = (s.bytes, s.is)
 
+-- there is a cell for each column
+as_many : (columns : List Column) (fields : List (List ℕ)) (cells : List Cell) → FieldCells columns fields cells
+    → length cells ≡ length columns
+as_many [] [] cells of = ap length of
+as_many [] (field ∷ fields) cells of = absurd of
+as_many (column ∷ columns) [] cells of = absurd of
+as_many (column ∷ columns) (field ∷ fields) [] of = absurd of
+as_many (column ∷ columns) (field ∷ fields) (cell ∷ cells) of = ap suc (as_many columns fields cells of.1)
+
 -- each column has had its field, and none is left
 pub so_far_all : (columns : List Column) (line : List ℕ) (n : ℕ) (old count new : List ℕ)
-    → SoFar columns line n None (old ++ count) new → count ≡ be w16 (pos (length columns)) → take n columns ≡ columns
-    → Gains (TupleOf columns line) old new
-so_far_all columns line n old count new s is all =
+    → SoFar columns line n None (old ++ count) new → length columns < 32768 → count ≡ be w16 (pos (length columns))
+    → take n columns ≡ columns → Gains (TupleOf columns line) old new
+so_far_all columns line n old count new s below is all =
     let fields : fields_of line ≡ s.done = s.are ∙ append-nil s.done in
     let cells : FieldCells columns (fields_of line) s.cells =
     subst (λ (l : List (List ℕ)). FieldCells columns l s.cells) (sym fields)
     (subst (λ (l : List Column). FieldCells l s.done s.cells) all s.of) in (
-      be w16 (pos (length columns)) ++ s.bytes,
-      (s.cells, s.bytes, cells, s.frames_are, refl),
-      s.is ∙ append_assoc old count s.bytes ∙ ap (λ (l : List ℕ). old ++ (l ++ s.bytes)) is,
+      count ++ s.bytes,
+      (
+        s.cells,
+        cells,
+        tuple_counted s.cells (length columns) count s.bytes (as_many columns (fields_of line) s.cells cells)
+            (counted_below (length columns) below ∙ ap Some (sym is)) s.frames_are,
+      ),
+      s.is ∙ append_assoc old count s.bytes,
     )
 
 -- how many fields the line has

@@ -1,7 +1,6 @@
 -- Laws of why reading a binary COPY stops, whatever bytes come after those that were read.
 use Rattle.std.proofs.Common.{◌≡◌, ◌≢◌, ◌+◌, ℕ, List, [], ◌∷◌, ◌++◌, length, inl, inr, refl, sym, ap, subst}
 use Rattle.std.proofs.Common.{◌∙◌, append_assoc, append-nil, arith}
-use Rattle.std.specs.Prelude.{pos}
 use Rattle.std.specs.Int.{w16}
 use Rattle.pg_base.specs.Cells.{be}
 use Rattle.pg_copy.specs.ReadingSteps.{Awaits, HasRead, StopsAt}
@@ -9,7 +8,7 @@ use Rattle.pg_copy.specs.Refusals.{HeaderRefused, IsTruncated, Refused, StopsAft
 use Rattle.pg_copy.specs.Refusals.{UnlessMemory, header_fault, next_row, row_count, tuple_fault}
 use Rattle.pg_tuples.specs.Reading.{AwaitsExtension, EndsInHeader}
 use Rattle.pg_tuples.specs.Refusals.{HasNegativeLength, RefusesHeader, RefusesTupleOf}
-use Rattle.pg_tuples.specs.Tuples.{FramesThen, trailer}
+use Rattle.pg_tuples.specs.Tuples.{CountThen, FramesThen, trailer}
 use Rattle.pg_tuples.specs.declared.header.HeaderFault.{HeaderFault}
 use Rattle.pg_tuples.specs.declared.header.HeaderFault.TheVariants as header
 use Rattle.pg_tuples.specs.declared.tuples.TupleFault.{TupleFault}
@@ -57,6 +56,10 @@ module _ (more : List ℕ) where
   negative_more s (n, len, rest, number, is) =
       (n, len, rest ++ more, number, ap (λ (l : List ℕ). l ++ more) is ∙ append_assoc len rest more)
 
+  count_more : (s : List ℕ) (n : ℕ) (fields : List ℕ) → CountThen s n fields → CountThen (s ++ more) n (fields ++ more)
+  count_more s n fields (count, counted, is) =
+      (count, counted, ap (λ (l : List ℕ). l ++ more) is ∙ append_assoc count fields more)
+
   front_more : (n : ℕ) (s : List ℕ) (e : TupleFault) → RefusesTupleOf n s e → RefusesTupleOf n (s ++ more) e
   front_more n s (tuple.Columns expected got) (wanted, other, no_trailer, fits, rest, is) = (
     wanted,
@@ -71,7 +74,7 @@ module _ (more : List ℕ) where
     fields ++ more,
     rest ++ more,
     below,
-    ap (λ (l : List ℕ). l ++ more) is ∙ append_assoc (be w16 (pos n)) fields more,
+    count_more s n fields is,
     frames_more fields place rest framed,
     number,
     negative_more rest negative,
@@ -86,9 +89,8 @@ module _ (more : List ℕ) where
           refused.0,
           refused.1 ++ more,
           refused.2,
-          ap (λ (l : List ℕ). l ++ more) refused.3
-              ∙ append_assoc (be w16 (pos (length columns))) (refused.0 ++ refused.1) more
-              ∙ ap (λ (l : List ℕ). be w16 (pos (length columns)) ++ l) (append_assoc refused.0 refused.1 more),
+          subst (CountThen (s ++ more) (length columns)) (append_assoc refused.0 refused.1 more)
+              (count_more s (length columns) (refused.0 ++ refused.1) refused.3),
           refused.4,
         )
       ]

@@ -14,12 +14,17 @@ use Rattle.streams.specs.declared.lines.RunFault.{RunFault}
 use Rattle.streams.specs.declared.lines.RunFault.TheVariants as run
 use Rattle.pg_copy.specs.Outputs.{WritesPart, WritesWhole}
 use Rattle.pg_tuples.specs.Tuples.{header, trailer}
-use Rattle.pg_copy.specs.WrittenRows.{BeginsCopy, CopyOf, LineFault, Stops, TupleOf, fault_of}
+use Rattle.pg_copy.specs.WrittenRows.{BeginsCopy, CopyOf, LineFault, StopsWith, TupleOf, fault_of}
 use Rattle.pg_copy.specs.declared.columns.Column.{Column}
 use Rattle.pg_copy.specs.declared.copy_fault.CopyFault.{CopyFault}
 use Rattle.pg_copy.specs.declared.copy_fault.CopyFault.TheVariants.{Memory, Read, TooManyColumns, Write}
 
-take_front : (j : ℕ) (xs ys : List ℕ) → take (length (take j xs)) (xs ++ ys) ≡ take j xs
+-- a fault that leaves the header and complete tuples
+abbrev pub Begun : List Column → Option (List ℕ) → Option (List ℕ) → Option (List ℕ) → Option (List ℕ) → CopyFault
+    → Type 0
+Begun columns = StopsWith (BeginsCopy columns) columns
+
+pub take_front : (j : ℕ) (xs ys : List ℕ) → take (length (take j xs)) (xs ++ ys) ≡ take j xs
 take_front zero xs ys = refl
 take_front (suc j) [] ys = refl
 take_front (suc j) (x ∷ xs) ys = ap (λ (l : List ℕ). x ∷ l) (take_front j xs ys)
@@ -74,7 +79,7 @@ module _ (columns : List Column) where
 
   module _ (input left a b c : Option (List ℕ)) (begun : Appends a b header) where
     stops_before : (fault : CopyFault) → AnswersBefore (TupleOf columns) (LineFault columns) fault input b c
-        → Stops columns input left a c fault
+        → Begun columns input left a c fault
     stops_before Read (done, line, rest, are, w, refused) = absurd refused
     stops_before Write (done, line, rest, are, w, refused) = absurd refused
     stops_before TooManyColumns (done, line, rest, are, w, refused) = absurd refused
@@ -84,18 +89,18 @@ module _ (columns : List Column) where
 
     stops_refused : (fault : CopyFault) → AnswersSome (TupleOf columns) input b c
         → (fault ≡ Memory) ⊎ AnswersBefore (TupleOf columns) (LineFault columns) fault input b c
-        → Stops columns input left a c fault
+        → Begun columns input left a c fault
     stops_refused fault s (inl memory) =
-        subst (Stops columns input left a c) (sym memory) (s.0, s.1, s.2, begins s.0 a b c begun s.3)
+        subst (Begun columns input left a c) (sym memory) (s.0, s.1, s.2, begins s.0 a b c begun s.3)
     stops_refused fault s (inr before) = stops_before fault before
 
     pub stops : (e : RunFault CopyFault) → (e ≢ run.Write → AnswersSome (TupleOf columns) input b c)
         → IfRefused e (λ fault. (fault ≡ Memory)
         ⊎ AnswersBefore (TupleOf columns) (LineFault columns) fault input b c)
         → (e ≡ run.Read → AnswersGiven (TupleOf columns) input left b c)
-        → (e ≡ run.Write → AnswersPart (TupleOf columns) input b c) → Stops columns input left a c (fault_of e)
+        → (e ≡ run.Write → AnswersPart (TupleOf columns) input b c) → Begun columns input left a c (fault_of e)
     stops run.Read some refused given part =
         let g = given refl in (g.0, g.1, g.2.0, g.2.1, begins g.2.0 a b c begun g.2.2)
     stops run.Write some refused given part =
-        let p = part refl in (p.0, p.1, p.2, tuples_part p.0 a b c begun p.3)
+        let p = part refl in (p.0, p.1, p.2, inl (tuples_part p.0 a b c begun p.3))
     stops (run.Refused fault) some refused given part = stops_refused fault (some (λ e. cc)) refused

@@ -10,6 +10,10 @@ WritesWhole Is old new = (bytes : List ℕ) × Is bytes × Appends old new bytes
 abbrev pub WritesPart : (List ℕ → Type 0) → Option (List ℕ) → Option (List ℕ) → Type 0
 WritesPart Is old new = (bytes : List ℕ) × (n : ℕ) × Is bytes × Appends old new (take n bytes)
 
+-- such bytes, and then such an end
+abbrev pub EndsIn : (List ℕ → Type 0) → (List ℕ → Type 0) → List ℕ → Type 0
+EndsIn Is IsEnd bytes = (begun end : List ℕ) × Is begun × IsEnd end × (bytes ≡ begun ++ end)
+
 -- such bytes were appended
 abbrev pub Gains : (List ℕ → Type 0) → List ℕ → List ℕ → Type 0
 Gains Is old new = (bytes : List ℕ) × Is bytes × (new ≡ old ++ bytes)

@@ -1,8 +1,7 @@
 -- Why reading a binary COPY stops: which bytes are refused ("Binary Format" in the documentation of the command COPY).
-use Rattle.std.specs.Prelude.{◌≡◌, ◌≢◌, ◌⊎◌, ◌+◌, ◌-◌, ◌^◌, ℕ, pos, List, [], ◌∷◌, ◌++◌, length}
+use Rattle.std.specs.Prelude.{◌≡◌, ◌≢◌, ◌⊎◌, ◌+◌, ◌-◌, ◌^◌, ℕ, Bool, true, false, List, [], ◌∷◌, ◌++◌, length}
 use Rattle.std.specs.Prelude.{Some, None, IsSome, min}
-use Rattle.std.specs.Int.{w16, w32}
-use Rattle.pg_base.specs.Cells.{Cell, SpellsAll, SpellsNone, be}
+use Rattle.pg_base.specs.Cells.{Cell, SpellsAll}
 use Rattle.pg_types.specs.Content.{content}
 use Rattle.pg_types.specs.Faults.{Refusal, refusal_of}
 use Rattle.pg_types.specs.declared.fault.Fault.{Fault}
@@ -18,7 +17,7 @@ use Rattle.pg_copy.specs.declared.copy_fault.Row.{Row}
 use Rattle.pg_copy.specs.declared.copy_fault.Row.TheVariants.{Tuple}
 use Rattle.pg_tuples.specs.Reading.{EndsInExtension, EndsInHeader, EndsInTuple}
 use Rattle.pg_tuples.specs.Refusals.{RefusesHeader, RefusesTupleOf}
-use Rattle.pg_tuples.specs.Tuples.{FramesThen, trailer}
+use Rattle.pg_tuples.specs.Tuples.{CountThen, FramesThen, trailer}
 use Rattle.pg_tuples.specs.declared.header.HeaderFault.{HeaderFault}
 use Rattle.pg_tuples.specs.declared.header.HeaderFault.TheVariants as header
 use Rattle.pg_tuples.specs.declared.tuples.TupleFault.{TupleFault}
@@ -107,8 +106,8 @@ FrontRefused row n s fault = (e : TupleFault) × RefusesTupleOf n s e × (fault 
 -- the bytes begin with a tuple whose row is refused
 abbrev pub RefusesTuple : Row → List Column → List ℕ → CopyFault → Type 0
 RefusesTuple row columns s fault =
-    (frames rest : List ℕ) × FramesThen frames (length columns) []
-    × (s ≡ be w16 (pos (length columns)) ++ (frames ++ rest)) × RefusesRow row columns frames fault
+    (frames rest : List ℕ) × FramesThen frames (length columns) [] × CountThen s (length columns) (frames ++ rest)
+    × RefusesRow row columns frames fault
 
 -- the bytes in place of a tuple are refused
 abbrev pub TupleRefused : Row → List Column → List ℕ → CopyFault → Type 0
@@ -130,6 +129,11 @@ abbrev pub IsTruncated : List Column → List ℕ → List ℕ → Type 0
 IsTruncated columns s lines =
     ((lines ≡ []) × (EndsInHeader s ⊎ EndsInExtension s))
     ⊎ ((t rest : List ℕ) × BeginsRows columns t lines × (s ≡ t ++ rest) × EndsInTuple (length columns) rest)
+
+-- whether writing failed
+abbrev pub is_write : CopyFault → Bool
+is_write Write = true
+is_write fault = false
 
 -- why a COPY with these bytes stops with this fault after these lines; the faults of reading, writing and memory do not
 -- depend on the bytes

@@ -1,9 +1,10 @@
 -- A binary COPY that is read, and the lines of its rows ("Binary Format" in the documentation of the command COPY).
-use Rattle.std.specs.Prelude.{◌≡◌, ◌⊎◌, ℕ, List, [], ◌++◌, Option, Some, None}
+use Rattle.std.specs.Prelude.{◌≡◌, ◌⊎◌, ℕ, List, [], ◌∷◌, ◌++◌, Option, Some, None, codes}
 use Rattle.pg_base.specs.Cells.{Cell}
 use Rattle.pg_copy.specs.Lines.{AreLinesOf}
 use Rattle.pg_copy.specs.declared.columns.Column.{Column}
 use Rattle.pg_tuples.specs.Tuples.{BeginsCopy, trailer}
+use Rattle.streams.specs.Lines.{IsOneLine}
 
 -- a header and the tuples of these rows, which have these lines
 abbrev pub BeginsWithRows : List Column → List (List Cell) → List ℕ → List ℕ → Type 0
@@ -26,3 +27,7 @@ StartsCopyOf columns s lines =
 abbrev pub OfInput : Option (List ℕ) → (List ℕ → Type 0) → Type 0
 OfInput None Holds = (s : List ℕ) × Holds s
 OfInput (Some s) Holds = Holds s
+
+-- the line that ends the lines after a fault: \. and a text, by which it is no row and no server takes it for the end
+abbrev pub IsFaultLine : List ℕ → Type 0
+IsFaultLine line = (text : List ℕ) × IsOneLine text × (line ≡ codes "\\.fault" ++ (text ++ 10 ∷ []))

@@ -1,9 +1,9 @@
 -- The names of the types of columns, as PostgreSQL has them.
 use Rattle.std.specs.Borrow.{Bor}
 use Rattle.std.specs.Cmp.Lexicographic.{pointwise}
-use Rattle.std.specs.List.{starts_with}
-use Rattle.std.specs.Prelude.{◌≡◌, ◌≢◌, ◌==◌, ◌||◌, ℕ, Bool, true, false, List, [], ◌∷◌, ◌++◌, Option, Some, None}
-use Rattle.std.specs.Prelude.{MatchBool, MatchOption, codes, if◌then◌else◌}
+use Rattle.std.specs.List.{find, list_any, starts_with}
+use Rattle.std.specs.Prelude.{◌≡◌, ◌≢◌, ◌==◌, ℕ, Bool, true, false, List, [], ◌∷◌, ◌++◌, Option, Some, None}
+use Rattle.std.specs.Prelude.{MatchBool, MatchOption, codes}
 use Rattle.pg_copy.specs.declared.types.Base.{Base}
 use Rattle.pg_copy.specs.declared.types.Base.TheVariants as base
 
@@ -57,19 +57,13 @@ bases =
     ∷ base.Numeric ∷ base.Oid ∷ base.OidVector ∷ base.PgLsn ∷ base.Text ∷ base.Time ∷ base.Timestamp
     ∷ base.Timestamptz ∷ base.Unknown ∷ base.Uuid ∷ base.Varbit ∷ base.Varchar ∷ []
 
--- whether the name is one of these
-abbrev pub is_one_of : List (List ℕ) → List ℕ → Bool
-is_one_of [] name = false
-is_one_of (first ∷ others) name = pointwise ◌==◌ name first || is_one_of others name
-
--- the first of these types that has this name
-abbrev pub named : List Base → List ℕ → Option Base
-named [] name = None
-named (first ∷ others) name = if is_one_of (names_of first) name then Some first else named others name
+-- whether a type has this name
+abbrev pub has_name : Base → List ℕ → Bool
+has_name base name = list_any (λ own. pointwise ◌==◌ name own) (names_of base)
 
 -- the type that has this name
 abbrev pub base_of : List ℕ → Option Base
-base_of = named bases
+base_of name = find (λ base. has_name base name) bases
 
 -- whether a type has arrays
 abbrev pub has_arrays : Base → Bool

@@ -1,20 +1,19 @@
 -- The binary COPY that is written for lines.
-use Rattle.std.specs.Prelude.{◌≡◌, ◌≢◌, ◌<◌, ◌≤◌, ◌-◌, ◌^◌, min, ℕ, pos, List, [], ◌∷◌, ◌++◌, length}
+use Rattle.std.specs.Prelude.{◌≡◌, ◌≢◌, ◌⊎◌, ◌<◌, ◌≤◌, ◌-◌, ◌^◌, min, ℕ, Bool, true, false, pos, List, [], ◌∷◌, ◌++◌, length}
 use Rattle.std.specs.Prelude.{Option, Some}
-use Rattle.std.specs.Int.{w16}
 use Rattle.std.specs.Io.KnownBytes.{Keeps}
-use Rattle.pg_base.specs.Cells.{Cell, be, frame, frames}
+use Rattle.pg_base.specs.Cells.{Cell, frame}
 use Rattle.streams.specs.Answers.{Answered, LinesAre, IsDone}
 use Rattle.streams.specs.Lines.{IsOneLine}
 use Rattle.streams.specs.declared.lines.RunFault.{RunFault}
 use Rattle.streams.specs.declared.lines.RunFault.TheVariants as run
-use Rattle.pg_copy.specs.Outputs.{WritesWhole, WritesPart}
+use Rattle.pg_copy.specs.Outputs.{EndsIn, WritesWhole, WritesPart}
 use Rattle.pg_copy.specs.TextLines.{Says, fields_of}
 use Rattle.pg_copy.specs.Values.{TextValues, in_form, values_of}
 use Rattle.pg_copy.specs.WrittenCells.{CellAs, FrameAs}
 use Rattle.pg_copy.specs.WrittenComposites.{composite_texts}
 use Rattle.postgres_types.specs.Content.{content}
-use Rattle.pg_tuples.specs.Tuples.{header, trailer}
+use Rattle.pg_tuples.specs.Tuples.{header, trailer, tuple}
 use Rattle.pg_copy.specs.declared.columns.Column.{Column}
 use Rattle.pg_copy.specs.declared.columns.Field.{Field}
 use Rattle.pg_copy.specs.declared.types.Base.{Base}
@@ -55,11 +54,10 @@ FieldCells (column ∷ columns) (field ∷ fields) [] = ⊥
 FieldCells (column ∷ columns) (field ∷ fields) (cell ∷ cells) =
     FieldCell column field cell × FieldCells columns fields cells
 
--- the tuple of a line: the number of columns in two bytes, and the frame of the cell of each field
+-- the tuple of a line: that of the cells of its fields
 abbrev pub TupleOf : List Column → List ℕ → List ℕ → Type 0
-TupleOf columns line tuple =
-    (cells : List Cell) × (bytes : List ℕ) × FieldCells columns (fields_of line) cells × (frames cells ≡ Some bytes)
-    × (tuple ≡ be w16 (pos (length columns)) ++ bytes)
+TupleOf columns line bytes =
+    (cells : List Cell) × FieldCells columns (fields_of line) cells × (tuple cells ≡ Some bytes)
 
 -- the header and the tuple of each line, in order
 abbrev pub BeginsCopy : List Column → List (List ℕ) → List ℕ → Type 0
@@ -70,6 +68,15 @@ BeginsCopy columns lines bytes =
 abbrev pub CopyOf : List Column → List (List ℕ) → List ℕ → Type 0
 CopyOf columns lines bytes =
     (begun : List ℕ) × BeginsCopy columns lines begun × (bytes ≡ begun ++ trailer)
+
+-- -32768 instead of a number of columns
+abbrev pub stopped : List ℕ
+stopped = 128 ∷ 0 ∷ []
+
+-- what a fault leaves of the binary COPY of these lines: the header, the tuple of each line, in order, and a number of
+-- columns that no row has
+abbrev pub StoppedCopyOf : List Column → List (List ℕ) → List ℕ → Type 0
+StoppedCopyOf columns lines = EndsIn (BeginsCopy columns lines) (λ end. end ≡ stopped)
 
 -- the fault of a line with another number of fields than columns; its number of fields is limited to what fits in 64
 -- bits, signed
@@ -95,22 +102,34 @@ LineFault columns line (Value row column base is_array fault) =
     (0 < column) × (column ≤ length columns) × (column ≤ length (fields_of line))
 LineFault columns line fault = ⊥
 
--- what is written if a COPY stops with a fault: the header and the tuples of some first lines, those before the line
--- that is refused. If reading failed, these are the lines that end in what the reader gave; a write that failed leaves
--- a prefix; and more columns than fit in two bytes leave nothing
+-- what is written if a COPY stops with a fault: the bytes that are left of some first lines, those before the line that
+-- is refused. If reading failed, these are the lines that end in what the reader gave; a write that failed leaves a
+-- prefix; and more columns than fit in two bytes leave nothing
+abbrev pub StopsWith : (List (List ℕ) → List ℕ → Type 0) → List Column → Option (List ℕ) → Option (List ℕ)
+    → Option (List ℕ) → Option (List ℕ) → CopyFault → Type 0
+StopsWith IsLeft columns input left old new TooManyColumns = (2 ^ 15 ≤ length columns) × Keeps old new
+StopsWith IsLeft columns input left old new Read =
+    (line : List ℕ) × IsOneLine line × (done : List (List ℕ)) × IsDone input left line done
+    × WritesWhole (IsLeft done) old new
+StopsWith IsLeft columns input left old new Write =
+    (done rest : List (List ℕ)) × LinesAre input (done ++ rest)
+    × (WritesPart (CopyOf columns done) old new ⊎ WritesPart (IsLeft done) old new)
+StopsWith IsLeft columns input left old new Memory =
+    (done rest : List (List ℕ)) × LinesAre input (done ++ rest) × WritesWhole (IsLeft done) old new
+StopsWith IsLeft columns input left old new fault =
+    (done : List (List ℕ)) × (line : List ℕ) × (rest : List (List ℕ)) × LinesAre input (done ++ line ∷ rest)
+    × WritesWhole (IsLeft done) old new × LineFault columns line fault
+
+-- whether nothing was written before the fault, or nothing can be written after it
+abbrev pub is_last : CopyFault → Bool
+is_last TooManyColumns = true
+is_last Write = true
+is_last fault = false
+
+-- a fault leaves what no server reads as a COPY
 abbrev pub Stops : List Column → Option (List ℕ) → Option (List ℕ) → Option (List ℕ) → Option (List ℕ) → CopyFault
     → Type 0
-Stops columns input left old new TooManyColumns = (2 ^ 15 ≤ length columns) × Keeps old new
-Stops columns input left old new Read =
-    (line : List ℕ) × IsOneLine line × (done : List (List ℕ)) × IsDone input left line done
-    × WritesWhole (BeginsCopy columns done) old new
-Stops columns input left old new Write =
-    (done rest : List (List ℕ)) × LinesAre input (done ++ rest) × WritesPart (CopyOf columns done) old new
-Stops columns input left old new Memory =
-    (done rest : List (List ℕ)) × LinesAre input (done ++ rest) × WritesWhole (BeginsCopy columns done) old new
-Stops columns input left old new fault =
-    (done : List (List ℕ)) × (line : List ℕ) × (rest : List (List ℕ)) × LinesAre input (done ++ line ∷ rest)
-    × WritesWhole (BeginsCopy columns done) old new × LineFault columns line fault
+Stops columns = StopsWith (StoppedCopyOf columns) columns
 
 -- the fault of a run over lines
 abbrev pub fault_of : RunFault CopyFault → CopyFault

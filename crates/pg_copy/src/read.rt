@@ -1,10 +1,11 @@
 //! Reading: from a binary COPY to lines of text.
 ghost use Rattle.std.specs.Prelude.{◌≡◌, ◌≢◌, ◌+◌, ◌<◌, ℕ, List, [], ◌++◌, IfErr, IfOk, OnErr, OnOk, length};
-ghost use Rattle.pg_copy.specs.Outputs.{Extends, WritesPart, WritesWhole};
+ghost use Rattle.pg_copy.specs.Outputs.{EndsIn, Extends, WritesPart, WritesWhole};
 ghost use Rattle.pg_copy.specs.ReadingSteps.{Advances, Awaits, AwaitsHeader, AwaitsMore, StopsAt, TakesField};
 ghost use Rattle.pg_copy.specs.ReadingSteps.{AddsRow, TakesRow};
-ghost use Rattle.pg_copy.specs.Refusals.{RefusesAt, RefusesRow, StopsAfter, UnlessMemory, ValueRefused, next_row};
-ghost use Rattle.pg_copy.specs.Rows.{IsCopyOf, OfInput, StartsCopyOf};
+ghost use Rattle.pg_copy.specs.Refusals.{RefusesAt, RefusesRow, StopsAfter, UnlessMemory, ValueRefused, is_write};
+ghost use Rattle.pg_copy.specs.Refusals.{next_row};
+ghost use Rattle.pg_copy.specs.Rows.{IsCopyOf, IsFaultLine, OfInput, StartsCopyOf};
 ghost use Rattle.pg_text.specs.Lists.{separator};
 ghost use Rattle.pg_tuples.specs.Tuples.{FramesThen};
 
@@ -13,8 +14,8 @@ use crate::copy_fault::{CopyFault, Row, refused_tuple, value_fault};
 use crate::escapes::escape;
 use crate::show::push_cell;
 use pg_tuples::{Front, front_of, take_header};
-use std::alloc::Global;
-use std::io::{Read, Write};
+use std::alloc::{AllocError, Global};
+use std::io::{self, Read, Write};
 use std::mem;
 use streams::blocks::{BLOCK, read_block, write_whole};
 
@@ -45,14 +46,79 @@ struct Reading<'a> {
     lines: Vec<u8>,
 }
 
+/// What begins the line of a fault.
+const FAULT: &[u8; 7] = b"\\.fault";
+
+/// The line of a fault whose text cannot be written for want of memory.
+const FAULT_LINE: &[u8; 8] = b"\\.fault\n";
+
 /// Reads a binary COPY with these columns, and writes a line for each row in the text format of
 /// COPY: columns are separated by a tab, NULL is `\N`, and each value is its text in PostgreSQL.
 ///
-/// After a fault, complete lines are written, those of the rows before it; after a failed write, a
-/// prefix of them. A fault other than those of reading, writing and memory is that of the bytes
-/// after these rows, and names the row after them. Memory holds no more than the longest row, a
-/// block of input and its lines.
+/// After a fault, complete lines are written, those of the rows before it, and then a line of
+/// `\.fault` and the fault's text, for which every server refuses the lines, and so loads none of
+/// them; after a failed write, a prefix of these. A fault other than those of reading, writing and
+/// memory is that of the bytes after these rows, and names the row after them. Memory holds no more
+/// than the longest row, a block of input and its lines.
 pub fn read<R: Read, W: Write>(
+    alloc: Global,
+    columns: &[Column],
+    input: &mut R,
+    output: &mut W,
+) -> Result<(), CopyFault>
+    ensures ok { OnOk result (OfInput (R.remaining input.old) (λ bytes.
+        WritesWhole (IsCopyOf columns.now bytes) (W.contents output.old) (W.contents output.new))) }
+    ensures whole { IfErr result (λ e. e ≢ CopyFault.Write → OfInput (R.remaining input.old) (λ bytes. WritesWhole
+        (EndsIn (StartsCopyOf columns.now bytes) IsFaultLine) (W.contents output.old) (W.contents output.new))) }
+    ensures part { OnErr result (OfInput (R.remaining input.old) (λ bytes. WritesPart
+        (EndsIn (StartsCopyOf columns.now bytes) IsFaultLine) (W.contents output.old) (W.contents output.new))) }
+    ensures stops { IfErr result (λ e. e ≢ CopyFault.Write → OfInput (R.remaining input.old) (λ bytes. WritesWhole
+        (EndsIn (λ lines. StopsAfter columns.now bytes lines e) IsFaultLine)
+        (W.contents output.old) (W.contents output.new))) }
+{
+    let Err(fault) = read_rows(alloc, columns, input, output) else {
+        return Ok(());
+    };
+    if is_write(&fault) {
+        return Err(CopyFault::Write);
+    }
+    if write_fault(alloc, &fault, output).is_err() {
+        return Err(CopyFault::Write);
+    }
+    Err(fault)
+}
+
+/// Whether writing failed.
+fn is_write(fault: &CopyFault) -> bool
+    ensures { result ≡ is_write fault.now }
+{
+    matches!(fault, CopyFault::Write)
+}
+
+/// Writes the line of a fault. An error leaves a part of it.
+fn write_fault<W: Write>(alloc: Global, fault: &CopyFault, output: &mut W) -> io::Result<()>
+    ensures ok { OnOk result (WritesWhole IsFaultLine (W.contents output.old) (W.contents output.new)) }
+    ensures err { OnErr result (WritesPart IsFaultLine (W.contents output.old) (W.contents output.new)) }
+{
+    match fault_line(alloc, fault) {
+        Ok(line) => write_whole(output, line.as_slice()),
+        Err(_) => write_whole(output, FAULT_LINE),
+    }
+}
+
+/// Returns the line of a fault, whose text is escaped.
+fn fault_line(alloc: Global, fault: &CopyFault) -> Result<Vec<u8>, AllocError>
+    ensures { IfOk result (λ line. IsFaultLine line.items) }
+{
+    let text = format!(in alloc; ": {fault}")?;
+    let mut line = Vec::from_slice(alloc, FAULT)?;
+    escape(text.as_bytes(), &mut line)?;
+    line.push(b'\n')?;
+    Ok(line)
+}
+
+/// Reads a binary COPY, and writes a line for each row, up to a fault.
+fn read_rows<R: Read, W: Write>(
     alloc: Global,
     columns: &[Column],
     input: &mut R,

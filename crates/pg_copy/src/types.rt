@@ -1,6 +1,6 @@
 //! The PostgreSQL types of columns.
 ghost use Rattle.std.specs.Prelude.{◌≡◌, Some, slice_get};
-ghost use Rattle.pg_copy.specs.TypeNames.{base_of, has_arrays, names_of};
+ghost use Rattle.pg_copy.specs.TypeNames.{base_of, has_arrays, has_name, names_of};
 
 /// The table of the types with a conversion, in alphabetical order. A row has the member of
 /// [`Base`], its names (faults and the help print the first one), its Rust type, and its Postgres
@@ -105,12 +105,12 @@ pub enum Base {
     Composite,
 }
 
-// The type of a name.
-macro_rules! found {
-    (($of:expr) $($base:ident [$($name:literal)+] $types:tt,)*) => {
+// Whether a type has a name.
+macro_rules! is_named {
+    (($of:expr, $name:expr) $($base:ident [$($own:literal)+] $types:tt,)*) => {
         match $of {
-            $($($name)|+ => Some(Base::$base),)*
-            _ => None,
+            $(Base::$base => matches!($name, $($own)|+),)*
+            Base::Composite => $name == "record",
         }
     };
 }
@@ -156,7 +156,14 @@ impl Base {
     pub fn parse(name: &str) -> Option<Base>
         ensures { result ≡ base_of name.now }
     {
-        base_types!(found(name))
+        Base::ALL.iter().copied().find(|base| base.is_named(name))
+    }
+
+    /// Whether the name is one of the type's.
+    fn is_named(self, name: &str) -> bool
+        ensures { result ≡ has_name self name.now }
+    {
+        base_types!(is_named(self, name))
     }
 
     /// Returns the first name of the type.

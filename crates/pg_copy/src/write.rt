@@ -1,13 +1,14 @@
 //! Writing: from lines of text to a binary COPY.
-ghost use Rattle.std.specs.Prelude.{◌≡◌, ◌∷◌, pos, ℕ, List, Some, true, IfErr, OnOk, OnErr, length};
+ghost use Rattle.std.specs.Prelude.{◌≡◌, ◌≢◌, ◌<◌, ◌∷◌, pos, ℕ, List, Some, true, IfErr, OnOk, OnErr, length};
 ghost use Rattle.std.specs.Int.{w16};
 ghost use Rattle.pg_base.specs.Cells.{be};
 ghost use Rattle.streams.specs.Answers.{LinesAre};
+ghost use Rattle.pg_tuples.specs.Tuples.{IsNoCopy};
 ghost use Rattle.pg_copy.specs.Outputs.{Extends, Gains, WritesWhole};
 ghost use Rattle.pg_copy.specs.TextLines.{LacksEscapes, fields_left, fields_of};
-ghost use Rattle.pg_copy.specs.WrittenRows.{CopyOf, CountFault, FieldFrame, FrameOf, LineFault, Stops, TupleOf};
 ghost use Rattle.pg_copy.specs.WrittenCells.{text_of};
-ghost use Rattle.pg_copy.specs.WrittenRows.{fault_of};
+ghost use Rattle.pg_copy.specs.WrittenRows.{BeginsCopy, CopyOf, CountFault, FieldFrame, FrameOf, LineFault, Stops};
+ghost use Rattle.pg_copy.specs.WrittenRows.{StopsWith, TupleOf, fault_of, is_last};
 
 use crate::columns::Column;
 use crate::copy_fault::{CopyFault, Row, value_fault};
@@ -29,10 +30,15 @@ const HEADER: &[u8; 19] = b"PGCOPY\n\xff\r\n\0\0\0\0\0\0\0\0\0";
 /// The trailer of a binary COPY: -1 instead of a number of columns.
 const TRAILER: &[u8; 2] = b"\xff\xff";
 
+/// What ends a binary COPY that a fault stopped: -32768 instead of a number of columns. Every server
+/// refuses it, and so loads none of the rows before it; without a trailer alone it would load them.
+const STOPPED: &[u8; 2] = b"\x80\0";
+
 /// Reads lines with these columns in the text format of COPY, and writes a binary COPY with a tuple
 /// for each. The last line counts without a line feed, if it is not empty.
 ///
-/// After a fault, the header and complete tuples are written, those of the lines before it; after a
+/// After a fault, the header, complete tuples, those of the lines before it, and -32768 instead of
+/// a number of columns are written, so that no server takes what is written for a COPY; after a
 /// failed write, a prefix of them. The trailer is written only at the end of the lines. Memory
 /// holds no more than the longest line, a block of input and its tuples.
 pub fn write<R: Read, W: Write>(
@@ -45,6 +51,40 @@ pub fn write<R: Read, W: Write>(
         × WritesWhole (CopyOf columns.now lines) (W.contents output.old) (W.contents output.new)) }
     ensures err { IfErr result (Stops columns.now (R.remaining input.old) (R.remaining input.new)
         (W.contents output.old) (W.contents output.new)) }
+    ensures no_copy { IfErr result (λ e. e ≢ CopyFault.TooManyColumns → e ≢ CopyFault.Write
+        → WritesWhole IsNoCopy (W.contents output.old) (W.contents output.new)) }
+{
+    let Err(fault) = write_tuples(alloc, columns, input, output) else {
+        return Ok(());
+    };
+    if is_last(&fault) {
+        return Err(fault);
+    }
+    if write_whole(output, STOPPED).is_err() {
+        return Err(CopyFault::Write);
+    }
+    Err(fault)
+}
+
+/// Whether nothing was written before the fault, or nothing can be written after it.
+fn is_last(fault: &CopyFault) -> bool
+    ensures { result ≡ is_last fault.now }
+{
+    matches!(fault, CopyFault::TooManyColumns | CopyFault::Write)
+}
+
+/// Writes the header, the tuple of each line, and the trailer, or, up to a fault, the header and
+/// complete tuples.
+fn write_tuples<R: Read, W: Write>(
+    alloc: Global,
+    columns: &[Column],
+    input: &mut R,
+    output: &mut W,
+) -> Result<(), CopyFault>
+    ensures ok { OnOk result ((lines : List (List ℕ)) × LinesAre (R.remaining input.old) lines
+        × WritesWhole (CopyOf columns.now lines) (W.contents output.old) (W.contents output.new)) }
+    ensures err { IfErr result (StopsWith (BeginsCopy columns.now) columns.now (R.remaining input.old)
+        (R.remaining input.new) (W.contents output.old) (W.contents output.new)) }
 {
     let Ok(count) = i16::try_from(columns.len()) else {
         return Err(CopyFault::TooManyColumns);
@@ -87,6 +127,7 @@ struct TupleWriter<'a> {
     line: u64,
     /// The text of an escaped field; the buffer is kept so that it is allocated once.
     text: Vec<u8>,
+    ghost fits: { length columns.now < 32768 },
     ghost counted: { count ≡ be w16 (pos (length columns.now)) },
 }
 

@@ -1,9 +1,11 @@
 -- Laws of frames in a row, and of tuples after one another.
-use Rattle.std.proofs.Common.{◌≡◌, ℕ, ◌+◌, List, [], ◌∷◌, ◌++◌, Some, refl, sym, ap, ◌∙◌}
-use Rattle.std.proofs.Common.{append_assoc, arith, length-append}
+use Rattle.std.proofs.Common.{◌≡◌, ℕ, ◌+◌, ◌<◌, pos, List, [], ◌∷◌, ◌++◌, Some, None, refl, sym, ap, ◌∙◌}
+use Rattle.std.proofs.Common.{append_assoc, arith, length, length-append, if◌then◌else◌}
+use Rattle.std.proofs.lemmas.Bool.{lt-ltb}
+use Rattle.std.specs.Int.{w16}
 use Rattle.pg_base.proofs.Concat.{concat-assoc, concat-nil, frames-append, nil-concat}
-use Rattle.pg_base.specs.Cells.{Cell, concat, frame, frames}
-use Rattle.pg_tuples.specs.Tuples.{BeginsCopy, FrameThen, FramesThen, tuple, tuples}
+use Rattle.pg_base.specs.Cells.{Cell, be, concat, frame, frames}
+use Rattle.pg_tuples.specs.Tuples.{BeginsCopy, FrameThen, FramesThen, column_count, tuple, tuples}
 
 pub next_frames : (cells : List Cell) (cell : Cell) (bytes more : List ℕ) → frames cells ≡ Some bytes
     → frame cell ≡ Some more → frames (cells ++ cell ∷ []) ≡ Some (bytes ++ more)
@@ -12,12 +14,12 @@ next_frames cells cell bytes more so_far next =
 
 -- a frame after so many is one more
 pub frames_next : (s mid rest : List ℕ) (n : ℕ) → FramesThen s n mid → FrameThen mid rest → FramesThen s (n + 1) rest
-frames_next s mid rest n (cells, bytes, count, are, is) (cell, more, one, then) = (
+frames_next s mid rest n (cells, bytes, count, are, is) (cell, more, one, follows) = (
   cells ++ cell ∷ [],
   bytes ++ more,
   (let sum = length-append cells (cell ∷ []) in omega (arith, count, sum)),
   next_frames cells cell bytes more are one,
-  is ∙ ap (λ l. bytes ++ l) then ∙ sym (append_assoc bytes more rest),
+  is ∙ ap (λ l. bytes ++ l) follows ∙ sym (append_assoc bytes more rest),
 )
 
 tuples-append : (rows more : List (List Cell)) → tuples (rows ++ more) ≡ concat (tuples rows) (tuples more)
@@ -29,6 +31,17 @@ tuples_next : (rows : List (List Cell)) (row : List Cell) (bytes more : List ℕ
     → tuple row ≡ Some more → tuples (rows ++ row ∷ []) ≡ Some (bytes ++ more)
 tuples_next rows row bytes more so_far one =
     tuples-append rows (row ∷ []) ∙ ap (concat (tuples rows)) (concat-nil (tuple row)) ∙ rw (so_far, one) refl
+
+-- a number of columns that fits has its bytes
+pub counted_below : (n : ℕ) → n < 32768 → column_count n ≡ Some (be w16 (pos n))
+counted_below n below = ap (λ b. if b then Some (be w16 (pos n)) else None) (lt-ltb n 32768 below)
+
+-- the tuple of cells whose number and frames are known
+pub tuple_counted : (cells : List Cell) (n : ℕ) (count row : List ℕ) → length cells ≡ n → column_count n ≡ Some count
+    → frames cells ≡ Some row → tuple cells ≡ Some (count ++ row)
+tuple_counted cells n count row many counted are =
+    ap (λ k. concat (column_count k) (frames cells)) many ∙ ap (λ c. concat c (frames cells)) counted
+    ∙ ap (concat (Some count)) are
 
 -- a tuple after those of rows
 pub copy_next : (rows : List (List Cell)) (row : List Cell) (s t : List ℕ) → BeginsCopy rows s → tuple row ≡ Some t

@@ -1,9 +1,7 @@
 -- What is at the front of bytes that are read as a binary COPY.
-use Rattle.std.specs.Prelude.{◌≡◌, ◌⊎◌, ◌<◌, ℕ, pos, List, [], ◌∷◌, ◌++◌, length, Option, Some, None}
-use Rattle.std.specs.Int.{w16}
-use Rattle.pg_base.specs.Cells.{be}
+use Rattle.std.specs.Prelude.{◌≡◌, ◌⊎◌, ◌<◌, ℕ, List, [], ◌∷◌, ◌++◌, length, Option, Some, None}
 use Rattle.pg_tuples.specs.Refusals.{HasNegativeLength}
-use Rattle.pg_tuples.specs.Tuples.{FrameThen, FramesThen, IsHeader, signature, trailer}
+use Rattle.pg_tuples.specs.Tuples.{CountThen, FrameThen, FramesThen, IsHeader, signature, trailer}
 use Rattle.pg_tuples.specs.declared.tuples.Front.{Front}
 use Rattle.pg_tuples.specs.declared.tuples.Front.TheVariants.{Tuple, Trailer, Part}
 
@@ -49,12 +47,12 @@ EndsInFrame s = NoFrame s × (HasNegativeLength s → ⊥)
 abbrev pub EndsInTuple : ℕ → List ℕ → Type 0
 EndsInTuple n s =
     (length s < 2)
-    ⊎ ((place : ℕ) × (fields rest : List ℕ) × (place < n) × (s ≡ be w16 (pos n) ++ fields)
+    ⊎ ((place : ℕ) × (fields rest : List ℕ) × (place < n) × CountThen s n fields
     × FramesThen fields place rest × EndsInFrame rest)
 
 -- a tuple of n columns, or the trailer, is at the front
 abbrev pub StandsAt : ℕ → List ℕ → Front → Type 0
 StandsAt n s (Tuple frames rest) =
-    FramesThen frames.now n [] × (s ≡ be w16 (pos n) ++ (frames.now ++ rest.now))
+    FramesThen frames.now n [] × CountThen s n (frames.now ++ rest.now)
 StandsAt n s (Trailer rest) = s ≡ trailer ++ rest.now
 StandsAt n s Part = EndsInTuple n s

@@ -2,7 +2,7 @@
 use Rattle.std.specs.Prelude.{◌≡◌, ◌≢◌, ◌+◌, ◌<◌, ℕ, suc, pos, negsuc, List, [], ◌∷◌, ◌++◌, FitsSigned, bit_and}
 use Rattle.std.specs.Int.{w16, w32, from_be_bytes}
 use Rattle.pg_base.specs.Cells.{IsBe, be}
-use Rattle.pg_tuples.specs.Tuples.{FramesThen, signature}
+use Rattle.pg_tuples.specs.Tuples.{CountThen, FramesThen, signature}
 use Rattle.pg_tuples.specs.declared.header.HeaderFault.{HeaderFault}
 use Rattle.pg_tuples.specs.declared.header.HeaderFault.TheVariants.{Signature, Oids, Flags, Extension}
 use Rattle.pg_tuples.specs.declared.tuples.TupleFault.{TupleFault}
@@ -49,5 +49,5 @@ RefusesTupleOf n s (Columns expected got) =
     (expected ≡ n) × (got ≢ pos n) × (got ≢ negsuc 0) × FitsSigned w16 got
     × (rest : List ℕ) × (s ≡ be w16 got ++ rest)
 RefusesTupleOf n s (Length column) =
-    (place : ℕ) × (fields rest : List ℕ) × (place < n) × (s ≡ be w16 (pos n) ++ fields)
+    (place : ℕ) × (fields rest : List ℕ) × (place < n) × CountThen s n fields
     × FramesThen fields place rest × (column ≡ place + 1) × HasNegativeLength rest

@@ -1,5 +1,5 @@
 -- The binary format of COPY (documentation of the command COPY, "Binary Format").
-use Rattle.std.specs.Prelude.{◌≡◌, ℕ, pos, List, [], ◌∷◌, ◌++◌, length, Option, Some}
+use Rattle.std.specs.Prelude.{◌≡◌, ℕ, pos, List, [], ◌∷◌, ◌++◌, length, Option, Some, None, nat_lt, if◌then◌else◌}
 use Rattle.std.specs.Int.{w16}
 use Rattle.pg_base.specs.Cells.{Cell, be, concat, frame, frames}
 
@@ -19,9 +19,13 @@ abbrev pub header : List ℕ
 header =
     80 ∷ 71 ∷ 67 ∷ 79 ∷ 80 ∷ 89 ∷ 10 ∷ 255 ∷ 13 ∷ 10 ∷ 0 ∷ 0 ∷ 0 ∷ 0 ∷ 0 ∷ 0 ∷ 0 ∷ 0 ∷ 0 ∷ []
 
--- the tuple of a row: the number of its columns in two bytes, and the frame of each cell
+-- a number of columns in two bytes; a row has at most 32,767
+abbrev pub column_count : ℕ → Option (List ℕ)
+column_count n = if nat_lt n 32768 then Some (be w16 (pos n)) else None
+
+-- the tuple of a row: the number of its columns, and the frame of each cell
 abbrev pub tuple : List Cell → Option (List ℕ)
-tuple row = concat (Some (be w16 (pos (length row)))) (frames row)
+tuple row = concat (column_count (length row)) (frames row)
 
 -- the tuples of rows, one after another
 abbrev pub tuples : List (List Cell) → Option (List ℕ)
@@ -40,6 +44,14 @@ BeginsCopy rows s =
 -- the COPY of these rows: a header, their tuples, and the trailer
 abbrev pub IsCopy : List (List Cell) → List ℕ → Type 0
 IsCopy rows s = (t : List ℕ) × BeginsCopy rows t × (s ≡ t ++ trailer)
+
+-- however these bytes go on, they are no COPY
+abbrev pub IsNoCopy : List ℕ → Type 0
+IsNoCopy s = (more : List ℕ) (rows : List (List Cell)) → IsCopy rows (s ++ more) → ⊥
+
+-- s is the number of n columns and then the fields
+abbrev pub CountThen : List ℕ → ℕ → List ℕ → Type 0
+CountThen s n fields = (count : List ℕ) × (column_count n ≡ Some count) × (s ≡ count ++ fields)
 
 -- s is the frame of a cell and then rest
 abbrev pub FrameThen : List ℕ → List ℕ → Type 0

@@ -39,6 +39,9 @@ const HEADER: &[u8] = b"PGCOPY\n\xff\r\n\0\0\0\0\0\0\0\0\0";
 /// The trailer.
 const TRAILER: &[u8] = b"\xff\xff";
 
+/// What ends a binary COPY after a fault.
+const STOPPED: &[u8] = b"\x80\0";
+
 /// A reader that gives the bytes `step` at a time, and is interrupted at every other call.
 fn make_pieces(bytes: &[u8], step: usize) -> Disturbed<Pieces<'_>> {
     Disturbed::new(Pieces::new(bytes, step))
@@ -83,6 +86,17 @@ impl Outcome {
         Ok(Outcome { written, fault })
     }
 
+    /// Tests that after a fault this end was written, and returns the outcome without it.
+    fn without_end(self, end: &[u8]) -> Result<Outcome, Fail> {
+        let Outcome { mut written, fault } = self;
+        if !fault.is_empty() {
+            let before = written.as_slice().strip_suffix(end).ok_or("no end")?;
+            let len = before.len();
+            written.truncate(len);
+        }
+        Ok(Outcome { written, fault })
+    }
+
     /// Tests that this was written, and that the fault has this text.
     fn is(&self, written: &[u8], fault: &str) -> Result<(), Fail> {
         same(self.fault.as_str(), fault)?;
@@ -90,22 +104,24 @@ impl Outcome {
     }
 }
 
-/// Returns the outcome of reading a binary COPY.
+/// Returns the outcome of reading a binary COPY, without the line of a fault.
 fn reading(alloc: Global, names: &[&str], stream: &[u8]) -> Result<Outcome, Fail> {
     let columns = columns(alloc, names)?;
     let mut input = make_pieces(stream, ROOM);
     let mut output = make_narrow(alloc, ROOM, ROOM);
     let ended = read(alloc, columns.as_slice(), &mut input, &mut output);
-    Outcome::new(alloc, ended, output)
+    let outcome = Outcome::new(alloc, ended, output)?;
+    let end = format!(in alloc; "\\.fault: {}\n", outcome.fault.as_str())?;
+    outcome.without_end(end.as_bytes())
 }
 
-/// Returns the outcome of writing a binary COPY of these lines.
+/// Returns the outcome of writing a binary COPY of these lines, without its end after a fault.
 fn writing(alloc: Global, names: &[&str], lines: &[u8]) -> Result<Outcome, Fail> {
     let columns = columns(alloc, names)?;
     let mut input = make_pieces(lines, ROOM);
     let mut output = make_narrow(alloc, ROOM, ROOM);
     let ended = write(alloc, columns.as_slice(), &mut input, &mut output);
-    Outcome::new(alloc, ended, output)
+    Outcome::new(alloc, ended, output)?.without_end(STOPPED)
 }
 
 /// Returns a binary COPY with one row of one column.

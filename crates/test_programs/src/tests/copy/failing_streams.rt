@@ -97,6 +97,61 @@ fn a_failed_write_of_rows_is_told(rt: HostRuntime) -> Result<(), Fail> {
     Ok(())
 }
 
+/// A row, then a refused one, in both formats, and what each program writes of them.
+const REFUSED_STREAM: &[u8] =
+    b"PGCOPY\n\xff\r\n\0\0\0\0\0\0\0\0\0\0\x02\0\0\0\x04\0\0\0\x01\0\0\0\x01a\0\x03";
+
+const REFUSED_LINES: &[u8] = b"1\ta\n2\n3\tc\n";
+
+const LINES_AND_FAULT: &[u8] = b"1\ta\n\\.fault: row 2: 3 columns in place of 2\n";
+
+const STOPPED_STREAM: &[u8] =
+    b"PGCOPY\n\xff\r\n\0\0\0\0\0\0\0\0\0\0\x02\0\0\0\x04\0\0\0\x01\0\0\0\x01a\x80\0";
+
+#[test]
+fn a_fault_ends_the_lines(rt: HostRuntime) -> Result<(), Fail> {
+    let columns = columns_of_rows(rt.alloc())?;
+    let mut input = make_pieces(REFUSED_STREAM, 9);
+    let mut output = make_narrow(rt.alloc(), 2, ROOM);
+    let ended = read(rt.alloc(), columns.as_slice(), &mut input, &mut output);
+    let outcome = Outcome::new(rt.alloc(), ended, output)?;
+    outcome.is(LINES_AND_FAULT, "row 2: 3 columns in place of 2")
+}
+
+#[test]
+fn a_fault_ends_the_rows(rt: HostRuntime) -> Result<(), Fail> {
+    let columns = columns_of_rows(rt.alloc())?;
+    let mut input = make_pieces(REFUSED_LINES, 9);
+    let mut output = make_narrow(rt.alloc(), 2, ROOM);
+    let ended = write(rt.alloc(), columns.as_slice(), &mut input, &mut output);
+    let outcome = Outcome::new(rt.alloc(), ended, output)?;
+    outcome.is(STOPPED_STREAM, "line 2: 1 columns in place of 2")
+}
+
+#[test]
+fn a_failed_write_of_a_fault_is_told(rt: HostRuntime) -> Result<(), Fail> {
+    let columns = columns_of_rows(rt.alloc())?;
+    for room in 0..LINES_AND_FAULT.len() {
+        let mut input = make_pieces(REFUSED_STREAM, 9);
+        let mut output = make_narrow(rt.alloc(), 2, room);
+        let ended = read(rt.alloc(), columns.as_slice(), &mut input, &mut output);
+        failed_after(rt.alloc(), ended, output, LINES_AND_FAULT.get(..room))?;
+    }
+    Ok(())
+}
+
+#[test]
+fn a_failed_write_of_the_end_is_told(rt: HostRuntime) -> Result<(), Fail> {
+    let columns = columns_of_rows(rt.alloc())?;
+    for room in 0..STOPPED_STREAM.len() {
+        let mut input = make_pieces(REFUSED_LINES, 9);
+        let mut output = make_narrow(rt.alloc(), 2, room);
+        let ended = write(rt.alloc(), columns.as_slice(), &mut input, &mut output);
+        failed_after(rt.alloc(), ended, output, STOPPED_STREAM.get(..room))?;
+    }
+    Ok(())
+}
+
 #[test]
 fn a_row_may_be_longer_than_a_block(rt: HostRuntime) -> Result<(), Fail> {
     let columns = columns(rt.alloc(), &["text"])?;

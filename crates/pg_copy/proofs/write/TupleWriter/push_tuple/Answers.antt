@@ -1,11 +1,13 @@
 -- What the proof of `TupleWriter::push_tuple` answers by hand.
-use Rattle.std.proofs.Common.{rules, ◌≡◌, ◌+◌, ◌≤◌, ℕ, false, is_some, List, Some, ◌++◌, length, refl}
+use Rattle.std.proofs.Common.{rules, ◌≡◌, ◌+◌, ◌≤◌, ℕ, false, is_some, List, None, Some, ◌++◌, length, refl}
 use Rattle.std.proofs.Common.{sym, subst, arith}
+use Rattle.std.proofs.lemmas.List.{take_all}
 use Rattle.pg_copy.specs.TextLines.{fields_of}
 use Rattle.pg_copy.specs.WrittenCells.{text_of}
 use Rattle.pg_copy.specs.WrittenRows.{CountFault}
 use Rattle.pg_copy.specs.declared.columns.Column.{Column}
-use Rattle.pg_copy.proofs.RowLaws.{SoFar, count_refused, has_more, plain_field, so_far_next, so_far_none}
+use Rattle.pg_copy.proofs.RowLaws.{SoFar, count_refused, has_more, plain_field, so_far_all, so_far_next}
+use Rattle.pg_copy.proofs.RowLaws.{so_far_none}
 use Rattle.pg_copy.proofs.TextLaws.{none_found}
 use Rattle.pg_copy.proofs.write.TupleWriter.push_tuple.Goals as goal
 
@@ -63,3 +65,16 @@ returns-in-Some-rest-clause-refused c =
     count_refused columns line c.count_fault-in-Some-rest.result
     (subst (λ (l : List Column). CountFault (length l) (length (fields_of line)) c.count_fault-in-Some-rest.result)
     c.loop-place.invariant.0 c.count_fault-in-Some-rest.ensures) (λ e. omega arith)
+
+pub returns-in-None-clause-ok : goal.returns-in-None-clause-ok
+returns-in-None-clause-ok c =
+    let columns : List Column = c.args.self.now.columns.now in
+    let line : List ℕ = c.args.line.now in
+    let start : List ℕ = c.args.pending.now.items ++ c.args.self.now.count in
+    let mid : List ℕ = c.loop-place.pending.items in
+    let place : ℕ = c.loop-place.place in
+    let s : SoFar columns line place None start mid
+    = subst (λ (rest : _). SoFar columns line place (text_of rest) start mid) {y = None} c.in-None.is
+    c.loop-place.invariant.1 in
+    so_far_all columns line place c.args.pending.now.items c.args.self.now.count mid s c.args.self.now.fits
+    c.args.self.now.counted (take_all place columns (omega (arith, c.loop-place-test.false)))

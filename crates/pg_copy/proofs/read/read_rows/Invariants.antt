@@ -1,10 +1,10 @@
--- The invariant of `read`: lines of whole rows were written, none is pending,
+-- The invariant of `read_rows`: lines of whole rows were written, none is pending,
 -- and nothing whole is held.
 use Rattle.std.proofs.Common.{◌≡◌, []}
 use Rattle.pg_copy.proofs.ReadingRuns.{UnderWay}
 use Rattle.pg_copy.specs.ReadingSteps.{Awaits}
 use Rattle.pg_copy.specs.declared.read.Place.TheVariants.{End}
-use Rattle.pg_copy.proofs.read.read.Given as goal
+use Rattle.pg_copy.proofs.read.read_rows.Given as goal
 
 abbrev pub invariant-reads : goal.invariant-reads
 invariant-reads g l =
