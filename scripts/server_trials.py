@@ -199,7 +199,7 @@ def beyond_copy(server, programs, name, value, fault, limit):
     counts = Counts(tried=1)
     stream = server.psql(f"COPY (SELECT NULL::int4, {value}, 'after') TO STDOUT (FORMAT binary)")
     status, lines, message = run(programs.copy_read, ["int4", name, "text"], stream)
-    if status == 1 and not lines and "row 1, column 2 (" in message and f"): {fault}" in message:
+    if status == 1 and lines.startswith(b"\\.fault: row 1, column 2 (") and f"): {fault}" in message:
         counts.refused[limit] = 1
     else:
         counts.differences.append(f"{name}: {value} is not refused by `{fault}`: {message or lines!r}")

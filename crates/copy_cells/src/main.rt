@@ -41,10 +41,9 @@ const NOTES: &str = "\
 Names are those that format_type prints, too: integer, character varying(20), timestamp(3) with time zone.
 [] after a type says arrays of it. A domain is named by its base type, an enumerated type enum, and a composite type
 by its fields: (name text, price bigint).
-Whole rows alone are written. After a fault an end follows them for which a server refuses them all: a line of \\.fault
-and the fault's text, or a number of columns that no row has. Standard error tells the fault, with its row or line and
-its column, and the status is 1. Where standard error is a terminal and standard output is none, the rows and the MB that were read are shown
-there.
+Whole rows alone are written, and after a fault an end by which a server that reads them refuses them all. Standard
+error tells the fault, with its row or line and its column, and the status is 1. Where standard error is a terminal and
+standard output is none, the rows and the MB that were read are shown there.
 ";
 
 /// The direction of the conversion.
