@@ -69,6 +69,11 @@ impl Direction {
             Direction::Write => write(alloc, columns, input, output),
         }
     }
+
+    /// Whether the last line of the output tells why the conversion stopped.
+    fn tells(self, outcome: &Result<(), CopyFault>) -> bool {
+        matches!(self, Direction::Read) && !matches!(outcome, Ok(()) | Err(CopyFault::Write))
+    }
 }
 
 fn main(rt: HostRuntime) -> Result<()> {
@@ -83,7 +88,7 @@ fn main(rt: HostRuntime) -> Result<()> {
     let mut input = progress.count(input, matches!(direction, Direction::Write));
     let mut output = progress.count(output, matches!(direction, Direction::Read));
     let outcome = direction.copy(rt.alloc(), columns, &mut input, &mut output);
-    progress.finish();
+    progress.finish(direction.tells(&outcome));
     Ok(outcome?)
 }
 

@@ -49,8 +49,13 @@ impl Progress {
         }
     }
 
-    /// Shows the final progress, and ends the line.
-    pub fn finish(&self) {
+    /// Shows the final progress, and ends the line. If the last line of text tells a fault, it is
+    /// no row.
+    pub fn finish(&self, is_told: bool) {
+        if is_told {
+            let rows = self.rows.get();
+            self.rows.set(rows.saturating_sub(1));
+        }
         if let Ok(now) = Instant::now(&self.rt) {
             self.report(now, "\n");
         }
