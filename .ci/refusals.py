@@ -1,4 +1,5 @@
 """Which must-fail edits were refused over what: the lines of `.ci/refused`, and what is kept of the runs on this machine."""
+import contextlib
 import hashlib
 import json
 import os
@@ -39,11 +40,18 @@ class Record:
         self.edits = {it.name: hashlib.sha256(repr(it).encode()).hexdigest() for it in read_edits(f"crates/{crate}")}
         # the checksum of the crate's line
         self.of = hashlib.sha256(repr((over, self.edits)).encode()).hexdigest()
-        self.said, self.seconds = {}, 0
-        if os.path.isfile(self.path) and not anew:
-            with open(self.path, encoding="utf-8") as it:
-                said, self.seconds = json.load(it)
-            self.said = {name: of for name, (text, of) in said.items() if text == self.edits.get(name)}
+        if anew:
+            with contextlib.suppress(FileNotFoundError):
+                os.remove(self.path)
+        self.said, self.seconds = self.kept()
+
+    def kept(self):
+        """Returns what is kept of the edits that stand there, and how many seconds they took."""
+        if not os.path.isfile(self.path):
+            return {}, 0
+        with open(self.path, encoding="utf-8") as it:
+            said, seconds = json.load(it)
+        return {name: of for name, (text, of) in said.items() if text == self.edits.get(name)}, seconds
 
     @property
     def missed(self):
@@ -58,9 +66,10 @@ class Record:
         return self.edits.keys() - self.said.keys()
 
     def add(self, said, seconds):
-        """Notes what was said of some edits, at once, so that a run that is ended was not for nothing."""
-        self.said.update(said)
-        self.seconds += seconds
+        """Notes what was said of some edits, at once, so that a run that is ended was not for nothing, beside what other runs
+        noted meanwhile."""
+        kept, before = self.kept()
+        self.said, self.seconds = {**kept, **self.said, **said}, before + seconds
         os.makedirs(EDITS, exist_ok=True)
         with open(f"{self.path}.new", "w", encoding="utf-8") as it:
             json.dump([{name: (self.edits[name], of) for name, of in self.said.items()}, round(self.seconds)], it)
