@@ -2,8 +2,8 @@
  *
  * The growth whose number REFUSED_GROWTH gives is refused, counted from 1 once the program's libraries are loaded, and each
  * growth by which more than MEMORY_LIMIT bytes would be in use. Standard error tells of each refusal, and at the end of the
- * program, where blocks are still in use, of that. The declarations stand here since the kit's clang has no headers of the
- * C library. */
+ * program, where blocks are still in use, of that, and where COUNT_GROWTHS is set, of the number of growths and of bytes that
+ * they asked for. The declarations stand here since the kit's clang has no headers of the C library. */
 
 typedef unsigned long size_t;
 
@@ -12,6 +12,7 @@ extern char *getenv(const char *name);
 extern int atoi(const char *text);
 extern size_t malloc_usable_size(void *block);
 extern long write(int file, const void *bytes, size_t length);
+extern int dprintf(int file, const char *format, ...);
 
 /* The library that is loaded after this one: the C library. */
 #define NEXT ((void *)-1L)
@@ -21,6 +22,9 @@ static int growths_left;
 
 /* How many bytes may be in use, or 0 where any number may. */
 static size_t limit;
+
+/* How many growths there were, and how many bytes they asked for. */
+static long growths, asked;
 
 /* How many blocks and bytes are in use of those that were taken since the program's libraries were loaded. */
 static long blocks, bytes;
@@ -41,19 +45,24 @@ static int number_of(const char *name) {
 __attribute__((constructor)) static void begin(void) {
     growths_left = number_of("REFUSED_GROWTH");
     limit = number_of("MEMORY_LIMIT");
-    blocks = bytes = 0;
+    blocks = bytes = growths = asked = 0;
 }
 
 __attribute__((destructor)) static void end(void) {
     if (blocks != 0)
         tell("blocks are in use at the end\n");
+    if (getenv("COUNT_GROWTHS"))
+        dprintf(2, "%ld growths, %ld bytes\n", growths, asked);
 }
 
 /* Whether a growth by that many bytes is refused. */
 static int is_refused(long more) {
     int is_numbered = growths_left > 0 && --growths_left == 0;
-    if (!is_numbered && (limit == 0 || bytes + more <= (long)limit))
+    if (!is_numbered && (limit == 0 || bytes + more <= (long)limit)) {
+        growths += more > 0;
+        asked += more > 0 ? more : 0;
         return 0;
+    }
     tell("refused\n");
     return 1;
 }

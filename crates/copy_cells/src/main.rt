@@ -5,6 +5,9 @@
 //! error says why. If standard error is a terminal, it shows the progress of the COPY.
 #![tactic(auto)]
 
+ghost use Rattle.std.specs.Prelude.{◌≢◌, IfErr, OnOk};
+ghost use Rattle.copy_cells.specs.Outputs.{Converts, Stops};
+
 mod progress;
 
 use anyhow::{Result, bail};
@@ -56,14 +59,20 @@ enum Direction {
 }
 
 impl Direction {
-    /// Converts the input.
+    /// Converts the input. After a fault no server loads the output; after a failed write it is a
+    /// prefix of what is written otherwise.
     fn copy<R: io::Read, W: io::Write>(
         self,
         alloc: Global,
         columns: &[Column],
         input: &mut R,
         output: &mut W,
-    ) -> Result<(), CopyFault> {
+    ) -> Result<(), CopyFault>
+        ensures ok { OnOk result (Converts self columns.now (R.remaining input.old) (W.contents output.old)
+            (W.contents output.new)) }
+        ensures err { IfErr result (λ e. e ≢ CopyFault.Write → Stops self columns.now e (R.remaining input.old)
+            (W.contents output.old) (W.contents output.new)) }
+    {
         match self {
             Direction::Read => read(alloc, columns, input, output),
             Direction::Write => write(alloc, columns, input, output),

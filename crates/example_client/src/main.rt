@@ -57,8 +57,8 @@ fn read_event(alloc: Global, body: &[u8], columns: &[Column]) -> Result<Event, P
 }
 
 /// Binds the parameters of `INSERT INTO event (note, parts, id, key) VALUES ($1, $2, $3, $4)`.
-fn bind_event(alloc: Global, event: &Event, out: &mut BytesMut) -> Result<(), PlacedFault> {
-    let mut bind = Bind::new(alloc, out)?;
+fn bind_event(event: &Event, out: &mut BytesMut) -> Result<(), PlacedFault> {
+    let mut bind = Bind::new(out)?;
     bind.push(&event.note.as_deref(), &Type::TEXT)?;
     bind.push(&event.parts.as_slice(), &Type::INT4_ARRAY)?;
     bind.push(&event.id, &Type::INT8)?;
@@ -96,11 +96,7 @@ fn main(rt: HostRuntime) -> Result<()> {
     trailing.push(0)?;
     println!(rt; "{}", describe(alloc, trailing.as_slice())?)?;
     let mut out = BytesMut::new(alloc);
-    bind_event(
-        alloc,
-        &read_event(alloc, &LATE, &event_columns())?,
-        &mut out,
-    )?;
+    bind_event(&read_event(alloc, &LATE, &event_columns())?, &mut out)?;
     println!(rt; "{:?}", out.as_slice())?;
     Ok(())
 }

@@ -2,6 +2,7 @@
 #![tactic(auto)]
 
 mod base;
+pub mod laws;
 mod name;
 
 pub use base::Base;

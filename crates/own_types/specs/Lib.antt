@@ -1,2 +1,3 @@
 -- Definitions of the examples.
+pub mod Equality
 pub mod Ratings

@@ -4,6 +4,7 @@
 pub mod composite;
 pub mod domain;
 pub mod enumerated;
+pub mod laws;
 pub mod nested_composite;
 pub mod newtype;
 pub mod null_value;

@@ -1,20 +1,44 @@
 -- Lemmas on what a text says of a network.
 use Rattle.std.proofs.Common.{◌≡◌, ℕ, ◌==◌, ◌<◌, ◌≤◌, List, ◌∷◌, drop, length, take, sym, subst, ◌∙◌, ap, arith}
-use Rattle.std.proofs.Common.{get_or, refl, [], IfSome, IsSome, Option, Some, None, Result, Ok, Err, false, true, inl}
-use Rattle.std.proofs.Common.{codes, inr}
+use Rattle.std.proofs.Common.{get_or, refl, [], IfSome, IsSome, Option, Some, None, Result, Ok, Err, Bool, false, true}
+use Rattle.std.proofs.Common.{inl, inr, IsTrue, leb, ◌↔◌}
 use Rattle.std.proofs.NetLemmas.Theorems.{IsIpText_unique}
-use Rattle.std.proofs.lemmas.Bool.{eq-eqb, le-leb}
+use Rattle.std.proofs.lemmas.Bool.{and_from, and_parts, eq-eqb, lt-leb, le-leb, leb-true}
 use Rattle.std.proofs.lemmas.List.{drop_more}
-use Rattle.std.specs.List.{after_first}
+use Rattle.std.proofs.lemmas.Str.Parse.{IsDigitsTest, numerals_by_value}
+use Rattle.std.specs.Char.{is_ascii_digit}
+use Rattle.std.specs.List.{after_first, list_all}
 use Rattle.std.specs.Net.Grammar.{IsIpText}
+use Rattle.std.specs.Str.Parse.{digits_value, without_leading_plus}
 use Rattle.std.specs.declared.net.ip_addr.IpAddr.{IpAddr}
 use Rattle.std.specs.declared.net.ip_addr.IpAddr.TheVariants.{V4, V6}
-use Rattle.pg_base.specs.Network.{NetmaskFits, Network, NetworkOrFault, NoHostBits, address_bits}
-use Rattle.pg_base.specs.Network.{first_fault_netmask, first_fault_network}
-use Rattle.pg_types.specs.Faults.{Answers, NeverMemory, Refusal, refusal_of, user}
+use Rattle.pg_base.specs.Network.{NetmaskFits, Network, NetworkOrFault, NoHostBits, address_bits, family_of}
+use Rattle.pg_base.specs.Network.{first_fault_netmask, first_fault_network, netmask_fits}
+use Rattle.pg_types.specs.Faults.{Answers, NeverMemory, Refusal, netmask, refusal_of}
 use Rattle.pg_types.specs.declared.fault.Fault.{Fault}
-use Rattle.pg_base.specs.NetworkTexts.{ParsesNetwork, SaysNetmask, SaysNetwork, SaysNoNetwork, slash_place}
+use Rattle.pg_base.specs.NetworkTexts.{ParsesNetwork, RefusesLength, RefusesNetwork, SaysNetmask, SaysNetwork, slash_place}
 use Rattle.pg_base.specs.NumberTexts.{SaysUnsigned}
+
+-- digits are what a number's text has
+digits_told : IsDigitsTest (λ ds. list_all is_ascii_digit ds ≡ true)
+digits_told = record {
+  empty = refl;
+  parts = λ c cs e.
+      let both = and_parts (is_ascii_digit c) (list_all is_ascii_digit cs) e in
+      let ends = and_parts (leb 48 c) (leb c 57) both.0 in ((leb-true 48 c ends.0, leb-true c 57 ends.1), both.1);
+  more = λ c cs k e. and_from _ _ (and_from _ _ (le-leb 48 c k.0) (le-leb c 57 k.1)) e;
+}
+
+pub number_told : (text digits : List ℕ) → without_leading_plus text ≡ digits → 0 < length digits → (told : Bool)
+    → told ≡ list_all is_ascii_digit digits → IsTrue told ↔ ((number : ℕ) × SaysUnsigned text number)
+number_told text digits e some told is =
+    let model = numerals_by_value (λ ds. list_all is_ascii_digit ds ≡ true) digits_told in (
+      λ all. (
+        digits_value 10 (without_leading_plus text),
+        ((rw e some, rw e (model.to digits (sym is ∙ all))), refl),
+      ),
+      λ said. is ∙ model.from digits (rw (sym e) said.1.0.1),
+    )
 
 -- the text and the same in its two parts
 pub in_parts : (text host rest : List ℕ) (n : Network) → take (slash_place text) text ≡ host
@@ -29,13 +53,47 @@ after_slash text len n e at said =
     drop_more text (slash_place text) 0 at ∙ ap (λ t. get_or text (slash_place text) 0 ∷ t) (sym e) in
     (in_parts text _ _ n refl rest said).1
 
--- the length of a netmask that fits is that of at most 128 bits
-of_address : (a : IpAddr) (len : ℕ) → len ≤ address_bits a → len < 256
-of_address (V4 a) len le = omega (arith, le)
-of_address (V6 a) len le = omega (arith, le)
+-- a netmask that fits is not longer than 128 bits
+of_address : (a : IpAddr) (len : ℕ) → len ≤ address_bits a → 255 < len → ⊥
+of_address (V4 a) len le long = omega (arith, le)
+of_address (V6 a) len le long = omega (arith, le)
 
-pub is_byte : (n : Network) → NetmaskFits n → n.masklen < 256
-is_byte n fits = of_address n.address n.masklen fits
+pub too_long : (n : Network) → 255 < n.masklen → NetmaskFits n → ⊥
+too_long n long fits = of_address n.address n.masklen fits long
+
+-- and one that is longer is refused for that first
+of_family : (a : IpAddr) (len : ℕ) → 255 < len → netmask_fits (family_of a) len ≡ false
+of_family (V4 a) len long = lt-leb len 32 (omega (arith, long))
+of_family (V6 a) len long = lt-leb len 128 (omega (arith, long))
+
+pub long_netmask : (n : Network) → 255 < n.masklen → first_fault_netmask n ≡ Some netmask
+long_netmask n long = rw (of_family n.address n.masklen long) refl
+
+pub long_network : (n : Network) → 255 < n.masklen → first_fault_network n ≡ Some netmask
+long_network n long = rw (of_family n.address n.masklen long) refl
+
+-- a text whose netmask is no number of a byte is refused, and says no shorter one
+pub refuses_network : (text host len : List ℕ) (address : IpAddr) (fault : Option Refusal)
+    → len ≡ after_first (λ byte. byte == 47) text → slash_place text < length text
+    → take (slash_place text) text ≡ host → IsIpText host address → RefusesLength len fault
+    → RefusesNetwork first_fault_netmask text fault
+refuses_network text host len address fault e at f is (inl none) =
+    inl (λ n said. none.0 n.masklen (after_slash text len n e at said), none.1)
+refuses_network text host len address fault e at f is (inr long) =
+    let n : Network = record { address = address; masklen = long.0 } in
+    let rest : drop (slash_place text) text ≡ get_or text (slash_place text) 0 ∷ len =
+    drop_more text (slash_place text) 0 at ∙ ap (λ t. get_or text (slash_place text) 0 ∷ t) (sym e) in
+    inr (
+      n,
+      (subst (λ t. IsIpText t address) (sym f) is, subst (λ t. SaysNetmask t n) (sym rest) long.1),
+      long.3 ∙ sym (long_netmask n long.2),
+    )
+
+pub refuses_long : (text len : List ℕ) (fault : Option Refusal) → len ≡ after_first (λ byte. byte == 47) text
+    → slash_place text < length text → RefusesLength len fault → (n : Network) → SaysNetwork text n → 255 < n.masklen
+refuses_long text len fault e at (inl none) n said = absurd (none.0 n.masklen (after_slash text len n e at said))
+refuses_long text len fault e at (inr long) n said =
+    let same : n.masklen ≡ long.0 = (after_slash text len n e at said).1 ∙ sym long.1.1 in omega (arith, same, long.2)
 
 -- a text says one network
 same_len : (rest : List ℕ) (n m : Network) → n.address ≡ m.address → SaysNetmask rest n → SaysNetmask rest m
@@ -79,8 +137,14 @@ parses kind first_fault passes text m (Err f) said h never = (
   inr (m, said, same_fault (refusal_of f) (first_fault m) h never),
 )
 
--- and a text that says none is refused with User
+-- and a text that says none, or one whose netmask is too long for its address, is refused
 pub parses_none : (kind : Network → Type 0) (first_fault : Network → Option Refusal)
-    → ((n : Network) → kind n → n.masklen < 256) → (text : List ℕ) (f : Fault) → SaysNoNetwork text
-    → refusal_of f ≡ Some (user (codes "no network address")) → ParsesNetwork kind first_fault text (Err f)
-parses_none kind first_fault small text f none is = (λ n says fits. none n says (small n fits), inl (none, is))
+    → ((n : Network) → 255 < n.masklen → (kind n → ⊥) × (first_fault n ≡ Some netmask)) → (text : List ℕ) (f : Fault)
+    → ((n : Network) → SaysNetwork text n → 255 < n.masklen)
+    → RefusesNetwork first_fault_netmask text (refusal_of f) → ParsesNetwork kind first_fault text (Err f)
+parses_none kind first_fault long text f is_long (inl none) =
+    (λ n says fits. (long n (is_long n says)).0 fits, inl none)
+parses_none kind first_fault long text f is_long (inr m) = (
+  λ n says fits. (long n (is_long n says)).0 fits,
+  inr (m.0, m.1, m.2 ∙ long_netmask m.0 (is_long m.0 m.1) ∙ sym (long m.0 (is_long m.0 m.1)).1),
+)

@@ -13,7 +13,7 @@ use Rattle.hex.specs.Hex.{decode_of, encode_lower}
 use Rattle.pg_base.specs.Network.{Network, address_bits}
 use Rattle.pg_base.specs.NumberTexts.{SaysUnsigned}
 use Rattle.pg_types.specs.declared.fault.Fault.{Fault}
-use Rattle.pg_types.specs.Faults.{Refusal, refusal_of, user}
+use Rattle.pg_types.specs.Faults.{Refusal, netmask, refusal_of, user}
 
 -- the first six words of an IPv6 address are 0, and the seventh is not
 abbrev pub is_ipv4_compatible : List ℕ → Bool
@@ -54,14 +54,24 @@ abbrev pub SaysNetwork : List ℕ → Network → Type 0
 SaysNetwork text n =
     IsIpText (take (slash_place text) text) n.address × SaysNetmask (drop (slash_place text) text) n
 
--- the text says no network, or one whose netmask has a length above 255
+-- the text says no network
 abbrev pub SaysNoNetwork : List ℕ → Type 0
-SaysNoNetwork text = (n : Network) → SaysNetwork text n → n.masklen < 256 → ⊥
+SaysNoNetwork text = (n : Network) → SaysNetwork text n → ⊥
+
+-- the fault of a text that says no network
+abbrev pub no_network : Refusal
+no_network = user (codes "no network address")
+
+-- the text says no number of at most 255: a greater one, which is refused with Netmask, or none, with User
+abbrev pub RefusesLength : List ℕ → Option Refusal → Type 0
+RefusesLength text fault =
+    (((len : ℕ) → SaysUnsigned text len → ⊥) × (fault ≡ Some no_network))
+    ⊎ ((len : ℕ) × SaysUnsigned text len × (255 < len) × (fault ≡ Some netmask))
 
 -- the fault of a refused text: that of the first check of the network that it says, and User if it says none
 abbrev pub RefusesNetwork : (Network → Option Refusal) → List ℕ → Option Refusal → Type 0
 RefusesNetwork first_fault text fault =
-    (SaysNoNetwork text × (fault ≡ Some (user (codes "no network address"))))
+    (SaysNoNetwork text × (fault ≡ Some no_network))
     ⊎ ((n : Network) × SaysNetwork text n × (fault ≡ first_fault n))
 
 -- a text is read as the network that it says, and refused where it says none of this kind

@@ -58,12 +58,13 @@ micros_per_day = pos 86_400_000_000
 abbrev pub micros_of_day : ℕ → ℕ → ℕ → ℕ → ℕ
 micros_of_day hour minute second fraction = ((hour * 60 + minute) * 60 + second) * 1_000_000 + fraction
 
+-- a day has this time; 24:00:00 is the next day's
+abbrev pub IsClock : ℕ → ℕ → ℕ → ℕ → Type 0
+IsClock hour minute second fraction = (hour < 24) × (minute < 60) × (second < 60) × (fraction < 1_000_000)
+
 -- the day and the time of day are this number of microseconds after 1970-01-01 00:00:00 (timestamp2tm)
 abbrev pub IsTimestamp : ℤ → ℕ → ℕ → ℕ → ℕ → ℕ → ℕ → ℤ → Type 0
 IsTimestamp year month day hour minute second fraction micros =
     IsDay year month day
-    × (hour < 24)
-    × (minute < 60)
-    × (second < 60)
-    × (fraction < 1_000_000)
+    × IsClock hour minute second fraction
     × (micros ≡ day_number year month day *ℤ micros_per_day +ℤ pos (micros_of_day hour minute second fraction))

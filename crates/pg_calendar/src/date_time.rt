@@ -1,6 +1,7 @@
 //! Times of day, and dates with a time of day.
-ghost use Rattle.std.specs.Prelude.{◌≡◌, ◌<◌, ◌/◌, ◌%◌, IfSome, pos, ◌+ℤ◌, ◌-ℤ◌, ◌*ℤ◌};
-ghost use Rattle.pg_calendar.specs.Calendar.{IsTimestamp, micros_of_day};
+ghost use Rattle.std.specs.Prelude.{◌≡◌, ◌<◌, ◌/◌, ◌%◌, ℤ, FitsSigned, MatchOption, pos, ◌+ℤ◌, ◌-ℤ◌, ◌*ℤ◌};
+ghost use Rattle.std.specs.Int.{w64};
+ghost use Rattle.pg_calendar.specs.Calendar.{IsClock, IsTimestamp, day_number, micros_of_day};
 
 use crate::civil::Civil;
 
@@ -32,8 +33,9 @@ impl Clock {
 
     /// Returns the microseconds from midnight, or `None` if there is no such time, as for 24:00:00.
     fn to_micros(self) -> Option<i64>
-        ensures { IfSome result (λ n. (self.hour < 24) × (self.minute < 60) × (self.second < 60)
-            × (self.micros < 1_000_000) × (n ≡ pos (micros_of_day self.hour self.minute self.second self.micros))) }
+        ensures { MatchOption result (¬ (IsClock self.hour self.minute self.second self.micros))
+            (λ n. IsClock self.hour self.minute self.second self.micros
+            × (n ≡ pos (micros_of_day self.hour self.minute self.second self.micros))) }
     {
         let Clock {
             hour,
@@ -58,9 +60,10 @@ pub struct DateTime {
 
 impl DateTime {
     /// Returns the timestamp that is `seconds` seconds and `micros` microseconds after 1970-01-01
-    /// 00:00:00.
+    /// 00:00:00. `micros` must be below 1,000,000.
     pub fn new(seconds: i64, micros: u32) -> DateTime
-        ensures { micros < 1_000_000 → IsTimestamp result.date.year result.date.month result.date.day result.clock.hour
+        requires { micros < 1_000_000 }
+        ensures { IsTimestamp result.date.year result.date.month result.date.day result.clock.hour
             result.clock.minute result.clock.second result.clock.micros (seconds *ℤ pos 1_000_000 +ℤ pos micros) }
     {
         let second_of_day = seconds.rem_euclid(DAY) as u32;
@@ -71,11 +74,16 @@ impl DateTime {
     }
 
     /// Returns the microseconds to this timestamp from midnight of day `day`, which is counted in
-    /// days from 1970-01-01. Returns `None` if the date or the time does not exist, or if the
-    /// number does not fit in an `i64`.
+    /// days from 1970-01-01. Returns `None` if the date or the time does not exist, or if that
+    /// number or the date's number of days from 1970-01-01 does not fit in an `i64`.
     pub fn micros_from(self, day: i64) -> Option<i64>
-        ensures { IfSome result (λ micros. IsTimestamp self.date.year self.date.month self.date.day self.clock.hour
-            self.clock.minute self.clock.second self.clock.micros (micros +ℤ day *ℤ pos 86_400_000_000)) }
+        ensures { MatchOption result
+            ((micros : ℤ) → FitsSigned w64 micros
+            → FitsSigned w64 (day_number self.date.year self.date.month self.date.day)
+            → ¬ (IsTimestamp self.date.year self.date.month self.date.day self.clock.hour self.clock.minute
+            self.clock.second self.clock.micros (micros +ℤ day *ℤ pos 86_400_000_000)))
+            (λ micros. IsTimestamp self.date.year self.date.month self.date.day self.clock.hour self.clock.minute
+            self.clock.second self.clock.micros (micros +ℤ day *ℤ pos 86_400_000_000)) }
     {
         micros_since(day, self.date.to_day()?, self.clock.to_micros()?)
     }
@@ -84,7 +92,8 @@ impl DateTime {
 /// Returns the microseconds from midnight of day `start` to `micros` after midnight of day `day`;
 /// `None` if they do not fit in an `i64`.
 fn micros_since(start: i64, day: i64, micros: i64) -> Option<i64>
-    ensures { IfSome result (λ n. n ≡ (day -ℤ start) *ℤ pos 86_400_000_000 +ℤ micros) }
+    ensures { MatchOption result (¬ (FitsSigned w64 ((day -ℤ start) *ℤ pos 86_400_000_000 +ℤ micros)))
+        (λ n. n ≡ (day -ℤ start) *ℤ pos 86_400_000_000 +ℤ micros) }
 {
     // Midnight of `day` may not fit in 64 bits although the timestamp does.
     let days = i128::from(day) - i128::from(start);

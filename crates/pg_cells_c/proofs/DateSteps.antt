@@ -14,7 +14,7 @@ pub no_time : (v : TimestampParts) → ((z : ℤ) → IsOfDay z → IsTime v.tim
     → IsTimestampOf v z → ⊥
 no_time v none z finite is =
     let n = micros_of_day v.time.hour v.time.minute v.time.second v.time.microsecond in
-    none (pos n) (omega (arith, signed_arith), omega (arith, signed_arith)) (is.2, is.3, is.4, refl)
+    none (pos n) (omega (arith, signed_arith), omega (arith, signed_arith)) (is.1.1, is.1.2, is.1.3, refl)
 
 -- what is no finite number has no date
 pub no_date : (v : DateParts) (day : ℤ) → day ≡ day_number v.year v.month v.day
@@ -28,4 +28,4 @@ pub no_finite : (v : TimestampParts) (day time : ℤ) → day ≡ day_number v.d
     → ((z : ℤ) → IsFinite w64 z → z ≡ ((day -ℤ base_day) *ℤ micros_per_day +ℤ time) → ⊥) → (z : ℤ) → IsFinite w64 z
     → IsTimestampOf v z → ⊥
 no_finite v day time days micros none z finite is =
-    let same = is.5 in none z finite (omega (arith, signed_arith, days, micros, same))
+    let same = is.2 in none z finite (omega (arith, signed_arith, days, micros, same))

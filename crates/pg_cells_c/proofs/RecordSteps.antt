@@ -9,7 +9,7 @@ use Rattle.pg_base.specs.Cells.{IsBeUnsigned, Spells, cell_of}
 use Rattle.pg_base.specs.Counts.{after_number, cell_checks, has_number}
 use Rattle.pg_base.specs.Formats.{Checks, first_fault_of}
 use Rattle.pg_types.specs.Faults.{Refusal, size}
-use Rattle.pg_cells_c.proofs.WalkSteps.{element_cell_is, element_within, rest_is}
+use Rattle.pg_cells_c.proofs.WalkSteps.{element_cell_is, is_element, rest_is}
 use Rattle.pg_cells_c.specs.Records.{SpellsFieldAt, field_checks}
 use Rattle.pg_cells_c.specs.Walks.{StartsItem, element_of}
 
@@ -55,6 +55,6 @@ field_is b t rest u after off oid value e is f spells =
           spells = is;
           rest_spells = subst (Spells u) (sym value_is) spells;
         },
-        element_within b u after (length b - length rest) value at_rest spells,
+        is_element b u after (length b - length rest) value at_rest spells,
       ),
     )

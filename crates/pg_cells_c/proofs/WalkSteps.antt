@@ -16,7 +16,8 @@ use Rattle.pg_base.specs.Hstore.{SpellsText, value_checks}
 use Rattle.pg_types.specs.Faults.{utf8}
 use Rattle.pg_base.proofs.CellLaws.{cell_then}
 use Rattle.pg_base.proofs.TextLemmas.{text_refused}
-use Rattle.pg_cells_c.specs.Walks.{IsWithin, SpellsElement, SpellsEntryAt, StartsItem, element_cell, element_of}
+use Rattle.pg_cells_c.specs.Walks.{IsElement, IsWithin, SpellsElement, SpellsEntryAt, StartsItem, element_cell}
+use Rattle.pg_cells_c.specs.Walks.{element_of}
 
 -- how long what stands before the rest is
 before_rest : (b t after : List ℕ) (off : ℕ) → drop off b ≡ t ++ after → length t + length after ≡ length b - off
@@ -80,6 +81,16 @@ element_within b t after off None e spells = omega arith
 element_within b t after off (Some x) e spells =
     let fits = cell_fits b t after off (Some x) e spells in omega (arith, fits)
 
+flag_is : (next : ℕ) (o : Option (Bor (List ℕ))) → (element_of next o).is_null ≤ 1
+flag_is next None = omega arith
+flag_is next (Some x) = omega arith
+
+-- so it is one of its elements
+pub is_element : (b t after : List ℕ) (off : ℕ) (o : Option (Bor (List ℕ))) → drop off b ≡ t ++ after
+    → Spells t (cell_of o) → IsElement b (element_of (length b - length after) o)
+is_element b t after off o e spells =
+    (element_within b t after off o e spells, flag_is (length b - length after) o)
+
 -- what was split off is an element, by its place
 pub element_is : (b t after : List ℕ) (off : ℕ) (o : Option (Bor (List ℕ))) → drop off b ≡ t ++ after
     → Spells t (cell_of o)
@@ -89,7 +100,7 @@ element_is b t after off o e spells = (
   e ∙ ap (λ r. t ++ r) (sym (rest_is b t after off e)),
   (
     subst (Spells t) (sym (element_cell_is b t after off o e spells)) spells,
-    element_within b t after off o e spells,
+    is_element b t after off o e spells,
   ),
 )
 
@@ -120,7 +131,7 @@ entry_is b t rest u after off key value e key_spells f value_spells =
           rest_spells = subst (SpellsText u) (sym value_is) value_spells;
         },
         element_within b t rest off (Some key) e key_spells.0,
-        element_within b u after (length b - length rest) value at_rest value_spells.0,
+        is_element b u after (length b - length rest) value at_rest value_spells.0,
       ),
     )
 

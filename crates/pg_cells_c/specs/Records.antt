@@ -5,7 +5,7 @@ use Rattle.pg_base.specs.Cells.{Cell, FrontAndRest, IsBe, IsBeUnsigned, Spells, 
 use Rattle.pg_base.specs.Counts.{ToRead, after_number, cell_checks, has_number, not_negative}
 use Rattle.pg_base.specs.Formats.{Checks}
 use Rattle.pg_types.specs.Faults.{count, size}
-use Rattle.pg_cells_c.specs.Walks.{IsWithin, element_cell}
+use Rattle.pg_cells_c.specs.Walks.{IsElement, element_cell}
 use Rattle.pg_cells_c.specs.declared.records.Field.{Field}
 
 -- s is a field of a record (record_send): the OID of its type in four bytes, and the frame of its cell
@@ -16,9 +16,9 @@ SpellsField s oid c = FrontAndRest (λ o. IsBeUnsigned w32 o oid) (λ v. Spells 
 abbrev pub field_checks : List ℕ → Checks
 field_checks s = (has_number s, size) ∷ cell_checks (after_number s)
 
--- s is a field, whose value is within the cell
+-- s is a field, whose value is an element of the cell
 abbrev pub SpellsFieldAt : List ℕ → List ℕ → Field → Type 0
-SpellsFieldAt b s f = SpellsField s f.oid (element_cell b f.value) × IsWithin b f.value.bytes
+SpellsFieldAt b s f = SpellsField s f.oid (element_cell b f.value) × IsElement b f.value
 
 -- b is the number of columns of a row in two bytes (documentation, "Message Formats", DataRow), and then what is to be
 -- read

@@ -26,9 +26,13 @@ element_cell b e = if e.is_null == 0 then Some (bytes_at b e.bytes) else None
 abbrev pub IsWithin : List ℕ → Span → Type 0
 IsWithin b span = span.offset + span.len ≤ length b
 
--- s is an element, which is within the cell
+-- the element is within the cell, and 1 or 0 says whether it is NULL
+abbrev pub IsElement : List ℕ → Element → Type 0
+IsElement b e = IsWithin b e.bytes × (e.is_null ≤ 1)
+
+-- s is an element of the cell
 abbrev pub SpellsElement : List ℕ → List ℕ → Element → Type 0
-SpellsElement b s e = Spells s (element_cell b e) × IsWithin b e.bytes
+SpellsElement b s e = Spells s (element_cell b e) × IsElement b e
 
 -- the element whose bytes end right before an offset, or NULL
 abbrev pub element_of : ℕ → Option (Bor (List ℕ)) → Element
@@ -40,11 +44,10 @@ element_of next (Some x) =
 abbrev pub StartsItem : {A : Type 0} → (List ℕ → A → Type 0) → List ℕ → List ℕ → A × ℕ → Type 0
 StartsItem spells b s p = (t : List ℕ) × (s ≡ t ++ drop p.1 b) × spells t p.0
 
--- s is an entry, whose key and value are within the cell
+-- s is an entry, whose key is within the cell, and whose value is an element of it
 abbrev pub SpellsEntryAt : List ℕ → List ℕ → Entry → Type 0
 SpellsEntryAt b s e =
-    SpellsEntry s (bytes_at b e.key, element_cell b e.value) × IsWithin b e.key
-    × IsWithin b e.value.bytes
+    SpellsEntry s (bytes_at b e.key, element_cell b e.value) × IsWithin b e.key × IsElement b e.value
 
 -- the result if there are no more items
 abbrev pub no_item : ℕ

@@ -23,7 +23,7 @@ pub struct Walk {
     pub offset: usize,
 }
 
-/// An element: a part of the cell, or NULL if `is_null` is not 0.
+/// An element: a part of the cell, or NULL. `is_null` is 1 if it is NULL, and otherwise 0.
 #[derive(Clone, Copy)]
 #[repr(C)]
 pub struct Element {

@@ -3,5 +3,7 @@ mod BindLaws
 pub mod CatalogGrowth
 pub mod CellsTaken
 mod CopyLaws
-pub mod RowCounts
+pub mod FirstRows
+pub mod RefusedReasons
+pub mod RefusedRows
 mod RowLaws

@@ -1,8 +1,11 @@
 -- Binding parameters one by one.
 use Rattle.std.specs.Prelude.{◌≡◌, ◌==◌, ◌+◌, ◌++◌, ℕ, List, [], ◌∷◌, length, Some, Result, Ok, Err, codes}
 use Rattle.std.specs.Prelude.{IfSome, if◌then◌else◌, ⊤}
-use Rattle.std.specs.Borrow.{MutBor}
+use Rattle.std.specs.Borrow.{Fml, MutBor, RestsIfErr}
 use Rattle.std.specs.Int.{to_be_bytes, w16}
+use Rattle.std.specs.contracts.alloc.Global as global
+use Rattle.std.specs.contracts.impls.GlobalAllocator.TheImpl.{ghosts}
+use Rattle.bytes.specs.contracts.unique.BytesMut as buffer
 use Rattle.bytes.specs.Filled.{Filled}
 use Rattle.pg_base.specs.Appending.{Wire}
 use Rattle.pg_base.specs.Cells.{Cell, frames}
@@ -23,6 +26,11 @@ out_of bind = bind.out
 -- the number of parameters that were pushed
 abbrev pub count_of : Bind → ℕ
 count_of bind = bind.count
+
+-- if a list of parameters is refused, its buffer keeps its bytes
+abbrev pub keeps_if_refused : MutBor Filled → Result Bind PlacedFault → Fml
+keeps_if_refused out r = RestsIfErr (buffer.the_row global.the_row ghosts) out (λ bind. (out_of bind).ghost_name) r
+    (λ last. last.items ≡ out.now.items)
 
 -- the greatest number of parameters: it is an unsigned number of two bytes
 abbrev pub max_params : ℕ

@@ -1,5 +1,6 @@
 //! The parameters of a Bind message.
 ghost use Rattle.std.specs.Prelude.{◌≡◌, ◌≤◌, ◌+◌, ◌++◌, List, [], ℕ, IfErr, IfOk, IsTrue, OnErr, OnOk, length};
+ghost use Rattle.std.specs.Borrow.{sem};
 ghost use Rattle.pg_base.specs.Appending.{KeepsCapacity};
 ghost use Rattle.pg_base.specs.Cells.{Cell};
 ghost use Rattle.pg_types.specs.Content.{content};
@@ -11,7 +12,6 @@ ghost use Rattle.postgres_types.specs.Writing.{checked};
 
 use crate::placed_fault::{Place, PlacedFault};
 use postgres_types::{BytesMut, Fault, Format, ToSql, Type, frame_value};
-use std::alloc::Global;
 
 /// The greatest number of parameters of a Bind message: it is an unsigned number of 2 bytes.
 pub const MAX_PARAMS: u16 = 65_535;
@@ -32,7 +32,6 @@ const HEAD: [u8; 6] = [0, 1, 0, 1, 0, 0];
 #[derive(Debug, Drop)]
 pub struct Bind<'b> {
     out: &'b mut BytesMut,
-    alloc: Global,
     /// The offset of the number of parameters.
     at: usize,
     /// The number of parameters that were pushed.
@@ -41,25 +40,19 @@ pub struct Bind<'b> {
 }
 
 impl<'b> Bind<'b> {
-    ghost use Rattle.pg_client.specs.Binding.{Binds, BindsMore, HoldsBind, PushesFrame, count_of, out_of, param_wire};
+    ghost use Rattle.pg_client.specs.Binding.{Binds, BindsMore, HoldsBind, PushesFrame, count_of, keeps_if_refused, out_of};
+    ghost use Rattle.pg_client.specs.Binding.{param_wire};
 
     /// Starts an empty list of parameters at the end of the buffer. `Memory`, at [`Place::Bind`],
     /// leaves its bytes as they were.
-    pub fn new(alloc: Global, out: &'b mut BytesMut) -> Result<Bind<'b>, PlacedFault>
+    pub fn new(out: &'b mut BytesMut) -> Result<Bind<'b>, PlacedFault>
+        ensures* kept { sem 𝓛 (keeps_if_refused out.entry result) }
         ensures binds { IfOk result (Binds out.old.items []) }
         ensures same_reference { IfOk result (λ bind. (out_of bind).ghost_name ≡ out.entry.ghost_name) }
         ensures err { IfErr result (λ fault. fault ≡ record { place = Place.Bind; fault = Fault.Memory }) }
     {
-        let at = out.len() + ALL_BINARY.len();
-        match out.extend_from_slice(&HEAD) {
-            Ok(()) => Ok(Bind {
-                out,
-                alloc,
-                at,
-                count: 0,
-            }),
-            Err(_) => Err(PlacedFault::new(Place::Bind, Fault::Memory)),
-        }
+        let at = push_head(out)?;
+        Ok(Bind { out, at, count: 0 })
     }
 
     /// Appends the frame of the value, owned or borrowed, as [`frame_value`] does.
@@ -108,7 +101,8 @@ impl<'b> Bind<'b> {
         if let Format::Text = value.encode_format(ty) {
             return Err(Fault::user("parameter in text format"));
         }
-        frame_value(self.alloc, value, ty, self.out)?;
+        let alloc = *self.out.allocator();
+        frame_value(alloc, value, ty, self.out)?;
         self.count += 1;
         Ok(())
     }
@@ -123,6 +117,21 @@ impl<'b> Bind<'b> {
     {
         let Bind { out, at, count, .. } = self;
         end(at, count, out)
+    }
+}
+
+/// Appends the format code and the bytes of the number of parameters, and returns the offset of
+/// these.
+fn push_head(out: &mut BytesMut) -> Result<usize, PlacedFault>
+    ensures ok { IfOk result (λ at. (at ≡ length out.old.items + 4)
+        × (out.new.items ≡ out.old.items ++ HEAD)) }
+    ensures err { IfErr result (λ fault. (out.new.items ≡ out.old.items)
+        × (fault ≡ record { place = Place.Bind; fault = Fault.Memory })) }
+{
+    let at = out.len() + ALL_BINARY.len();
+    match out.extend_from_slice(&HEAD) {
+        Ok(()) => Ok(at),
+        Err(_) => Err(PlacedFault::new(Place::Bind, Fault::Memory)),
     }
 }
 

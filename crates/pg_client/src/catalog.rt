@@ -1,5 +1,7 @@
 //! The types of a database, from the rows of its system catalogs.
-ghost use Rattle.std.specs.Prelude.{◌≡◌, ℕ, List, [], None, Some, IfErr, IfNone, IfOk, IfSome, OnErr, OnOk, slice_get};
+ghost use Rattle.std.specs.Prelude.{◌≡◌, ◌<◌, ◌≤◌, ◌++◌, ◌∷◌, ℕ, List, [], length, map, None, Some, IfErr, IfNone};
+ghost use Rattle.std.specs.Prelude.{IfOk, IfSome, IsSome, OnErr, OnOk, slice_get};
+ghost use Rattle.std.specs.List.{AllZip};
 ghost use Rattle.std.specs.Cow.{cow_value};
 ghost use Rattle.pg_client.specs.TypeTables.{HasOwnOids};
 ghost use Rattle.pg_types.specs.Content.{content, oid_of};
@@ -9,10 +11,15 @@ use std::alloc::Global;
 use std::borrow::Cow;
 use std::collections::BTreeMap;
 
+mod firsts;
 mod kinds;
+mod left;
 mod order;
 mod refused;
 
+use firsts::{first_places, is_first};
+use left::{Left, all_places, places_of};
+use order::Order;
 pub use refused::{RefusedType, TypeFault};
 
 /// The query whose rows are all types of a database, each with the columns of a [`TypeRow`] in
@@ -74,8 +81,12 @@ pub struct Catalog {
 }
 
 impl Catalog {
-    ghost use Rattle.pg_client.specs.CatalogTypes.{AddsOrHas, IsTypeOf, IsUnknown, IsWhyNotAdded, refused_of, table_of};
-    ghost use Rattle.pg_client.specs.WholeCatalogs.{AreDescribed, AreOfRows, AreTold, AreToldAt, IsTold, Keeps};
+    ghost use Rattle.pg_client.specs.CatalogTypes.{AddsOrHas, IsTypeOf, IsUnknown, IsWhyNotAdded, NotBuiltIn};
+    ghost use Rattle.pg_client.specs.CatalogTypes.{refused_of, table_of};
+    ghost use Rattle.pg_client.specs.RowPlaces.{HasFirsts, IsFirst};
+    ghost use Rattle.pg_client.specs.WholeCatalogs.{AreDescribed, AreMadeOrLeft, AreRefused, AreStuck, AreTold, Ascend};
+    ghost use Rattle.pg_client.specs.WholeCatalogs.{Grows, HasType, IsMadeAt, IsMadeOrLeft, IsRefusal, IsStuck};
+    ghost use Rattle.pg_client.specs.WholeCatalogs.{IsWhyNotMade, places_left};
     ghost use Rattle.pg_client.specs.declared.catalog.TypeRow.{TypeRow as Row};
 
     /// Creates a catalog of the built-in types only.
@@ -89,23 +100,26 @@ impl Catalog {
         }
     }
 
-    /// Creates a catalog from these rows, which may come in any order. A row that makes no type is
-    /// listed in [`refused`](Catalog::refused), and the others are made. The only error is
-    /// `Memory`.
+    /// Creates a catalog from these rows, which may come in any order. The only error is `Memory`.
     ///
-    /// Each type is the one that one of the rows describes, and the OID of each row has a type or
-    /// is listed as refused, with the name of its row. If several rows have the same OID, the first
-    /// one is used.
+    /// Of the rows of one OID only the first one is used, also where it makes no type; a row with
+    /// the OID of a built-in type leaves that as it is. Each row that makes no type is listed in
+    /// [`refused`](Catalog::refused), in the order of the rows: with
+    /// [`Duplicate`](TypeFault::Duplicate) if an earlier row has its OID, with
+    /// [`Recursive`](TypeFault::Recursive) if it contains itself, or a row that does, and otherwise
+    /// with the fault with which [`add`](Catalog::add) refuses it beside the types that were made.
     pub fn new(alloc: Global, rows: &[TypeRow<'_>]) -> Result<Catalog, Fault>
         ensures described { IfOk result (λ catalog. AreDescribed (table_of catalog) rows.now) }
         ensures told { IfOk result (λ catalog. AreTold (table_of catalog) (refused_of catalog) rows.now) }
-        ensures refused { IfOk result (λ catalog. AreOfRows (refused_of catalog) rows.now) }
+        ensures refused { IfOk result (λ catalog. AreRefused (table_of catalog) (refused_of catalog) rows.now) }
         ensures memory { IfErr result (λ fault. fault ≡ Fault.Memory) }
     {
         let mut catalog = Catalog::built_in(alloc);
-        let order = order::parts_first(alloc, rows)?;
-        catalog.add_each(alloc, rows, order.places.as_slice())?;
-        catalog.refuse_each(alloc, rows, order.recursive.as_slice())?;
+        let firsts = first_places(alloc, rows)?;
+        let order = order::parts_first(alloc, rows, &firsts)?;
+        catalog.add_each(alloc, rows, &firsts, order.places.as_slice())?;
+        let left = catalog.add_rest(alloc, rows, &firsts)?;
+        catalog.refuse_each(alloc, rows, &firsts, &order, left.as_slice())?;
         Ok(catalog)
     }
 
@@ -141,6 +155,7 @@ impl Catalog {
         ensures ok { OnOk result (AddsOrHas (table_of self.old) row.now (table_of self.new)) }
         ensures kept { OnErr result ((table_of self.new).entries ≡ (table_of self.old).entries) }
         ensures why { IfErr result (IsWhyNotAdded (table_of self.old) row.now) }
+        ensures own { OnErr result (NotBuiltIn row.now.oid) }
         ensures refused { refused_of self.new ≡ refused_of self.old }
     {
         if Type::from_oid(row.oid).is_some() {
@@ -157,99 +172,154 @@ impl Catalog {
         Ok(())
     }
 
-    /// Adds the type of a row, or adds the row to the refused ones.
-    fn add_or_refuse(&mut self, alloc: Global, row: &TypeRow<'_>) -> Result<(), Fault>
-        ensures told { OnOk result (IsTold (table_of self.new) (refused_of self.new) row.now.oid) }
-        ensures keeps { OnOk result ((rows : List Row) (place : ℕ) → slice_get rows place ≡ Some row.now
-            → Keeps rows (table_of self.old) (refused_of self.old) (table_of self.new)
-            (refused_of self.new)) }
-        ensures memory { IfErr result (λ fault. fault ≡ Fault.Memory) }
-    {
-        match self.add(alloc, row) {
-            Ok(()) => Ok(()),
-            Err(TypeFault::Memory) => Err(Fault::Memory),
-            Err(fault) => {
-                self.refuse(alloc, row, fault)?;
-                Ok(())
-            }
-        }
-    }
-
-    /// Adds the types of the rows at these indices in order, and those that make no type to the
-    /// refused ones.
+    /// Adds the types of those rows at these indices that can be added. Returns the others, with
+    /// their faults against the catalog at their turn.
     fn add_each(
         &mut self,
         alloc: Global,
         rows: &[TypeRow<'_>],
+        firsts: &BTreeMap<Oid, usize>,
         places: &[usize],
-    ) -> Result<(), Fault>
-        ensures told { OnOk result (AreToldAt (table_of self.new) (refused_of self.new) rows.now places.now) }
-        ensures keeps { OnOk result (Keeps rows.now (table_of self.old) (refused_of self.old) (table_of self.new)
-            (refused_of self.new)) }
+    ) -> Result<Vec<Left>, Fault>
+        requires { HasFirsts rows.now firsts.now }
+        ensures grows { OnOk result (Grows rows.now (table_of self.old) (table_of self.new)) }
+        ensures all { IfOk result (λ left. AreMadeOrLeft (table_of self.new) rows.now places.now left.items) }
+        ensures order { IfOk result (λ left. Ascend places.now → Ascend (places_left left.items)) }
+        ensures fewer { IfOk result (λ left. length left.items ≤ length places.now) }
+        ensures stuck { IfOk result (λ left. length left.items ≡ length places.now
+            → AreStuck (table_of self.new) rows.now left.items) }
+        ensures refused { refused_of self.new ≡ refused_of self.old }
         ensures memory { IfErr result (λ fault. fault ≡ Fault.Memory) }
     {
+        let mut left = Vec::new(alloc);
         for place in places {
-            self.add_at(alloc, rows, *place)?;
+            if let Some(fault) = self.add_at(alloc, rows, firsts, *place)? {
+                left.push(Left {
+                    place: *place,
+                    fault,
+                })?;
+            }
         }
-        Ok(())
+        Ok(left)
     }
 
-    /// Adds the type of the row at this index, or adds the row to the refused ones.
-    fn add_at(&mut self, alloc: Global, rows: &[TypeRow<'_>], place: usize) -> Result<(), Fault>
-        ensures told { OnOk result ((row : Row) → slice_get rows.now place ≡ Some row
-            → IsTold (table_of self.new) (refused_of self.new) row.oid) }
-        ensures keeps { OnOk result (Keeps rows.now (table_of self.old) (refused_of self.old) (table_of self.new)
-            (refused_of self.new)) }
+    /// Adds the types of all rows that can be added. Returns the others in order, with their faults
+    /// against the catalog as it is then. It goes over the rows that are left until none of them
+    /// can be added: once or twice, if those that the order has were added before.
+    fn add_rest(
+        &mut self,
+        alloc: Global,
+        rows: &[TypeRow<'_>],
+        firsts: &BTreeMap<Oid, usize>,
+    ) -> Result<Vec<Left>, Fault>
+        requires { HasFirsts rows.now firsts.now }
+        ensures grows { OnOk result (Grows rows.now (table_of self.old) (table_of self.new)) }
+        ensures all { IfOk result (λ left. (place : ℕ) → place < length rows.now
+            → IsMadeOrLeft (table_of self.new) rows.now left.items place) }
+        ensures order { IfOk result (λ left. Ascend (places_left left.items)) }
+        ensures stuck { IfOk result (λ left. AreStuck (table_of self.new) rows.now left.items) }
+        ensures refused { refused_of self.new ≡ refused_of self.old }
+        ensures memory { IfErr result (λ fault. fault ≡ Fault.Memory) }
+    {
+        let mut waiting = all_places(alloc, rows.len())?;
+        loop {
+            let left = self.add_each(alloc, rows, firsts, waiting.as_slice())?;
+            if left.len() >= waiting.len() {
+                return Ok(left);
+            }
+            waiting = places_of(alloc, left.as_slice())?;
+        }
+    }
+
+    /// Adds the type of the row at this index, unless it is made. Returns why it is not.
+    fn add_at(
+        &mut self,
+        alloc: Global,
+        rows: &[TypeRow<'_>],
+        firsts: &BTreeMap<Oid, usize>,
+        place: usize,
+    ) -> Result<Option<TypeFault>, Fault>
+        requires { HasFirsts rows.now firsts.now }
+        ensures grows { OnOk result (Grows rows.now (table_of self.old) (table_of self.new)) }
+        ensures made { IfOk result (λ fault. IfNone fault (IsMadeAt (table_of self.new) rows.now place)) }
+        ensures why { IfOk result (λ fault. IfSome fault (λ why. IsStuck (table_of self.new) rows.now place why)) }
+        ensures kept { IfOk result (λ fault. IsSome fault
+            → (table_of self.new).entries ≡ (table_of self.old).entries) }
+        ensures refused { refused_of self.new ≡ refused_of self.old }
         ensures memory { IfErr result (λ fault. fault ≡ Fault.Memory) }
     {
         let Some(row) = row_at(rows, place) else {
-            return Ok(());
+            return Ok(None);
         };
-        self.add_or_refuse(alloc, row)?;
-        Ok(())
+        if !is_first(rows, firsts, place, row) {
+            return Ok(Some(TypeFault::Duplicate));
+        }
+        self.add_first(alloc, row)
     }
 
-    /// Adds the rows at these indices, which contain themselves, to the refused ones.
+    /// Adds the type of a row, unless its OID has a type. Returns why it is not added.
+    fn add_first(&mut self, alloc: Global, row: &TypeRow<'_>) -> Result<Option<TypeFault>, Fault>
+        ensures grows { OnOk result ((rows : List Row) (place : ℕ) → slice_get rows place ≡ Some row.now
+            → IsFirst rows place row.now.oid → Grows rows (table_of self.old) (table_of self.new)) }
+        ensures made { IfOk result (λ fault. IfNone fault (HasType (table_of self.new) row.now.oid)) }
+        ensures why { IfOk result (λ fault. IfSome fault (IsWhyNotMade (table_of self.new) row.now)) }
+        ensures kept { IfOk result (λ fault. IsSome fault
+            → (table_of self.new).entries ≡ (table_of self.old).entries) }
+        ensures refused { refused_of self.new ≡ refused_of self.old }
+        ensures memory { IfErr result (λ fault. fault ≡ Fault.Memory) }
+    {
+        let Err(fault) = self.add(alloc, row) else {
+            return Ok(None);
+        };
+        match fault {
+            TypeFault::Memory => Err(Fault::Memory),
+            TypeFault::Duplicate => Ok(None),
+            _ => Ok(Some(fault)),
+        }
+    }
+
+    /// Adds these rows to the refused ones.
     fn refuse_each(
         &mut self,
         alloc: Global,
         rows: &[TypeRow<'_>],
-        places: &[usize],
+        firsts: &BTreeMap<Oid, usize>,
+        order: &Order,
+        left: &[Left],
     ) -> Result<(), Fault>
-        ensures told { OnOk result (AreToldAt (table_of self.new) (refused_of self.new) rows.now places.now) }
-        ensures keeps { OnOk result (Keeps rows.now (table_of self.old) (refused_of self.old) (table_of self.new)
-            (refused_of self.new)) }
+        requires firsts { HasFirsts rows.now firsts.now }
+        requires stuck { AreStuck (table_of self.old) rows.now left.now }
+        requires none { refused_of self.old ≡ [] }
+        ensures types { table_of self.new ≡ table_of self.old }
+        ensures refused { OnOk result
+            (AllZip (λ row. IsRefusal (table_of self.new) rows.now row.place) left.now (refused_of self.new)) }
         ensures memory { IfErr result (λ fault. fault ≡ Fault.Memory) }
     {
-        for place in places {
-            self.refuse_at(alloc, rows, *place)?;
+        for row in left {
+            let fault = row.reason(order, firsts);
+            self.refuse(alloc, rows, row.place, fault)?;
         }
         Ok(())
     }
 
-    /// Adds the row at this index, which contains itself, to the refused ones.
-    fn refuse_at(&mut self, alloc: Global, rows: &[TypeRow<'_>], place: usize) -> Result<(), Fault>
-        ensures told { OnOk result ((row : Row) → slice_get rows.now place ≡ Some row
-            → IsTold (table_of self.new) (refused_of self.new) row.oid) }
-        ensures keeps { OnOk result (Keeps rows.now (table_of self.old) (refused_of self.old) (table_of self.new)
-            (refused_of self.new)) }
+    /// Adds the row at this index to the refused ones.
+    fn refuse(
+        &mut self,
+        alloc: Global,
+        rows: &[TypeRow<'_>],
+        place: usize,
+        fault: TypeFault,
+    ) -> Result<(), Fault>
+        requires { IsStuck (table_of self.old) rows.now place fault }
+        ensures types { table_of self.new ≡ table_of self.old }
+        ensures refused { OnOk result ((own : RefusedType)
+            × (refused_of self.new ≡ refused_of self.old ++ own ∷ [])
+            × IsRefusal (table_of self.new) rows.now place own) }
         ensures memory { IfErr result (λ fault. fault ≡ Fault.Memory) }
     {
         let Some(row) = row_at(rows, place) else {
             return Ok(());
         };
-        self.refuse(alloc, row, TypeFault::Recursive)?;
-        Ok(())
-    }
-
-    /// Adds the row to the refused ones.
-    fn refuse(&mut self, alloc: Global, row: &TypeRow<'_>, fault: TypeFault) -> Result<(), Fault>
-        ensures told { OnOk result (IsTold (table_of self.new) (refused_of self.new) row.now.oid) }
-        ensures keeps { OnOk result ((rows : List Row) (place : ℕ) → slice_get rows place ≡ Some row.now
-            → Keeps rows (table_of self.old) (refused_of self.old) (table_of self.new)
-            (refused_of self.new)) }
-        ensures memory { IfErr result (λ fault. fault ≡ Fault.Memory) }
-    {
         self.refused.push(RefusedType {
             oid: row.oid,
             name: String::from_str(alloc, row.name)?,

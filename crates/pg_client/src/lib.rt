@@ -11,6 +11,7 @@ mod bind;
 pub mod catalog;
 mod column;
 mod copy_rows;
+pub mod laws;
 mod placed_fault;
 mod row;
 

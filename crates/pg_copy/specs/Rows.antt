@@ -28,6 +28,6 @@ abbrev pub OfInput : Option (List ℕ) → (List ℕ → Type 0) → Type 0
 OfInput None Holds = (s : List ℕ) × Holds s
 OfInput (Some s) Holds = Holds s
 
--- the line that ends the lines after a fault: \. and a text, by which it is no row and no server takes it for the end
+-- the line after a fault: \.fault and a text
 abbrev pub IsFaultLine : List ℕ → Type 0
 IsFaultLine line = (text : List ℕ) × IsOneLine text × (line ≡ codes "\\.fault" ++ (text ++ 10 ∷ []))

@@ -9,6 +9,7 @@ pub mod arguments;
 pub mod columns;
 pub mod copy_fault;
 mod escapes;
+pub mod laws;
 mod parse;
 pub mod read;
 mod show;

@@ -49,7 +49,7 @@ struct Reading<'a> {
 /// What begins the line of a fault.
 const FAULT: &[u8; 7] = b"\\.fault";
 
-/// The line of a fault whose text cannot be written for want of memory.
+/// The line of a fault, without its text: what is written where the text runs out of memory.
 const FAULT_LINE: &[u8; 8] = b"\\.fault\n";
 
 /// Reads a binary COPY with these columns, and writes a line for each row in the text format of

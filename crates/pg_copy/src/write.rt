@@ -30,8 +30,9 @@ const HEADER: &[u8; 19] = b"PGCOPY\n\xff\r\n\0\0\0\0\0\0\0\0\0";
 /// The trailer of a binary COPY: -1 instead of a number of columns.
 const TRAILER: &[u8; 2] = b"\xff\xff";
 
-/// What ends a binary COPY that a fault stopped: -32768 instead of a number of columns. Every server
-/// refuses it, and so loads none of the rows before it; without a trailer alone it would load them.
+/// What ends a binary COPY that a fault stopped: -32768 instead of a number of columns. A server
+/// refuses it, and loads none of the rows before it. If only the trailer were missing, it would load
+/// them.
 const STOPPED: &[u8; 2] = b"\x80\0";
 
 /// Reads lines with these columns in the text format of COPY, and writes a binary COPY with a tuple

@@ -1,18 +1,18 @@
 -- FLOAT4 and FLOAT8 (float4send, float8send): the bits of IEEE 754's binary32 and binary64, big-endian.
-use Rattle.std.specs.Prelude.{ℕ, Bool, Option, Some, None, codes, from_bits, is_nan, if◌then◌else◌}
+use Rattle.std.specs.Prelude.{ℕ, Bool, Option, Some, None, from_bits, is_nan, if◌then◌else◌}
 use Rattle.std.specs.Float.{Float, Format}
 use Rattle.std.specs.Ordering.{nan_last_cmp}
 use Rattle.std.specs.declared.cmp.Ordering.{Ordering}
 use Rattle.pg_types.specs.Content.{Content}
-use Rattle.pg_numbers.specs.CatalogTypes.{is_catalog_type}
+use Rattle.pg_numbers.specs.CatalogTypes.{has_oid}
 
--- the type is float4 of pg_catalog
+-- the type is FLOAT4
 abbrev pub is_float4 : Content → Bool
-is_float4 = is_catalog_type (codes "float4") 700
+is_float4 = has_oid 700
 
--- the type is float8 of pg_catalog
+-- the type is FLOAT8
 abbrev pub is_float8 : Content → Bool
-is_float8 = is_catalog_type (codes "float8") 701
+is_float8 = has_oid 701
 
 -- the number of these bits, if it is not NaN
 abbrev pub number_of : Format → ℕ → Option Float

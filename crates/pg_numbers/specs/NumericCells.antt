@@ -10,7 +10,7 @@ use Rattle.pg_base.specs.Counts.{length_check}
 use Rattle.pg_base.specs.Formats.{Checks, first_fault_of, ReadsPlain}
 use Rattle.pg_types.specs.Faults.{Refusal, Outcome, size, transmit, user}
 use Rattle.pg_types.specs.Content.{Content}
-use Rattle.pg_numbers.specs.CatalogTypes.{is_catalog_type}
+use Rattle.pg_numbers.specs.CatalogTypes.{has_oid}
 use Rattle.pg_numbers.specs.Numeric.{invalid_digit, invalid_scale, units_of}
 use Rattle.pg_numbers.specs.Numeric.{Parts, parts, canonical, is_number, are_digits, max_scale}
 use Rattle.pg_numbers.specs.declared.numeric.Numeric.{Numeric}
@@ -150,9 +150,9 @@ is_numeric (Finite p) = is_number p
 abbrev pub wire_numeric : Numeric → Wire
 wire_numeric v = if is_numeric v then Ok (Some (numeric_bytes v)) else Err transmit
 
--- the type numeric
+-- the type is NUMERIC
 abbrev pub accepted_numeric : Content → Bool
-accepted_numeric = is_catalog_type (codes "numeric") 1700
+accepted_numeric = has_oid 1700
 
 -- the number of a value has the scale and the value of the parts
 abbrev pub CountsAsStated : Parts → Numeric → Type 0

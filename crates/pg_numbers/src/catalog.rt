@@ -2,19 +2,16 @@
 ghost use Rattle.std.specs.Prelude.{◌≡◌, IfErr, IfOk};
 ghost use Rattle.pg_types.specs.Content.{content, kind_content};
 ghost use Rattle.pg_types.specs.declared.fault.Fault.TheVariants.{Memory};
-ghost use Rattle.pg_numbers.specs.CatalogTypes.{catalog_type, is_catalog_type};
+ghost use Rattle.pg_numbers.specs.CatalogTypes.{catalog_type, has_oid};
 
-use postgres_types::{Fault, Kind, KindRef, Oid, Type};
+use postgres_types::{Fault, Kind, Oid, Type};
 use std::alloc::Global;
 
-/// Whether the type is the simple type of this name and OID in the schema `pg_catalog`.
-pub(crate) fn is_catalog_type(name: &str, oid: Oid, ty: &Type) -> bool
-    ensures { result ≡ is_catalog_type name.now oid (content ty.now) }
+/// Whether the type has this OID. One below 16,384 is the server's own, so that the OID decides.
+pub(crate) fn has_oid(oid: Oid, ty: &Type) -> bool
+    ensures { result ≡ has_oid oid (content ty.now) }
 {
     ty.oid() == oid
-        && ty.name() == name
-        && ty.schema() == "pg_catalog"
-        && matches!(ty.kind(), KindRef::Simple)
 }
 
 /// Creates the type of this name, OID and kind in the schema `pg_catalog`.

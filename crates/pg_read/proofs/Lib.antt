@@ -2,6 +2,7 @@
 mod ArrayCellSteps
 mod ElementSteps
 mod FirstFrames
+mod FirstValues
 mod FixedSizeSteps
 mod LastEntries
 mod ListSteps

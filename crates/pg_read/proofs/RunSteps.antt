@@ -8,14 +8,7 @@ use Rattle.pg_types.specs.Faults.{Refusal, Outcome, refusal_of, size}
 use Rattle.pg_types.specs.declared.fault.Fault.{Fault}
 use Rattle.pg_read.proofs.ArrayCellSteps.{remaining_cells, spelled_more, value_next}
 use Rattle.pg_read.specs.FrameReading.{after_truncated}
-use Rattle.pg_read.specs.ArrayReading.{ReadsAll}
-use Rattle.pg_read.specs.RunReading.{ReadsRun, RunStops}
-
--- from the start to now these cells were read as these values
-pub record HaveBeenRead {A : Type 0} (reads : Cell → Outcome A → Type 0) (start : List ℕ) (cs : List Cell)
-    (vs : List A) (now : List ℕ) : Type 0 where
-  pub spelled : SpellsAll start cs now
-  pub values : ReadsAll reads cs (Ok vs)
+use Rattle.pg_read.specs.RunReading.{HaveBeenRead, ReadsRun, RunStops}
 
 module _ {A : Type 0} (reads : Cell → Outcome A → Type 0) (start : List ℕ) (cs : List Cell) (vs : List A) (now : List ℕ)
     (so_far : HaveBeenRead reads start cs vs now) (front : List ℕ) (c : Cell) (rest : List ℕ) (is : now ≡ front ++ rest)

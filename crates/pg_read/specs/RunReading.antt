@@ -1,11 +1,17 @@
 -- Reading consecutive framed cells from the front of a slice: the result, and where the slice begins then.
-use Rattle.std.specs.Prelude.{◌≡◌, ◌⊎◌, ◌<◌, ℕ, List, [], ◌∷◌, ◌++◌, length, Option, Some, None, Result, Ok, Err}
+use Rattle.std.specs.Prelude.{◌≡◌, ◌⊎◌, ◌<◌, ◌-◌, ◌/◌, min, ℕ, List, [], ◌∷◌, ◌++◌, length, Option, Some, None, Result, Ok, Err}
 use Rattle.pg_base.specs.Cells.{Cell, SpellsAll, frames}
 use Rattle.pg_types.specs.Faults.{Refusal, Outcome, refusal_of, size}
 use Rattle.pg_base.specs.Sameness.{SameList}
 use Rattle.pg_types.specs.declared.fault.Fault.{Fault}
 use Rattle.pg_read.specs.FrameReading.{BeginsWithCells, after_truncated}
 use Rattle.pg_read.specs.ArrayReading.{ReadsAll}
+
+-- from the start to now these cells were read as these values
+pub record HaveBeenRead {A : Type 0} (reads : Cell → Outcome A → Type 0) (start : List ℕ) (cs : List Cell)
+    (vs : List A) (now : List ℕ) : Type 0 where
+  pub spelled : SpellsAll start cs now
+  pub values : ReadsAll reads cs (Ok vs)
 
 -- the slice begins after the first cells, which are ds
 abbrev pub StandsAfter : List ℕ → List Cell → List Cell → List ℕ → Type 0
@@ -74,6 +80,11 @@ abbrev pub ReadsRun : {A X : Type 0} → (X → List A) → (Cell → Outcome A 
     → List ℕ → Type 0
 ReadsRun items reads old n result new =
     BeginsWithCells (λ cs rest. RunEnds items reads old n cs rest result new) old n
+
+-- the room of a list of n values after the first was read, from the slice before it and after it: for as many as there
+-- are bytes, if the frame of each has the length of the first
+abbrev pub first_room : ℕ → List ℕ → List ℕ → ℕ
+first_room n old new = min n (length old / (length old - length new))
 
 -- the result is these values, with s left, unless memory ran out
 abbrev pub AnswersValues : {A X : Type 0} → (X → List A) → (A → A → Type 0) → List A → List ℕ → Result X Fault → List ℕ

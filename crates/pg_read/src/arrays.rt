@@ -13,7 +13,6 @@ ghost use Rattle.pg_read.specs.Reading.{NullAlone};
 pub(crate) mod fixed_size;
 
 use crate::from_sql::FromSql;
-use crate::laws::never_answers_memory_at_null;
 use crate::private::read_values;
 use pg_base::acceptance::element_type;
 use pg_base::fault::Fault;
@@ -120,10 +119,4 @@ fn read_list<'a, T: FromSql<'a>>(
     } else {
         Err(Fault::Size)
     }
-}
-
-/// NULL is read without memory.
-pub(crate) fn read_without_memory() {
-    never_answers_memory_at_null::<Vec<i32>>();
-    never_answers_memory_at_null::<BoxedSlice<i32>>();
 }

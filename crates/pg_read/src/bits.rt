@@ -7,7 +7,6 @@ ghost use Rattle.pg_read.specs.Reading.{NullAlone};
 ghost use Rattle.pg_read.specs.Laws.Reading.{plain_single};
 
 use crate::from_sql::FromSql;
-use crate::laws::never_answers_memory_at_null;
 use pg_base::acceptance::is_bits;
 use pg_base::bits::BitVec;
 use pg_base::fault::Fault;
@@ -43,9 +42,4 @@ impl<'a> FromSql<'a> for BitVec {
     fn accepts(ty: &PgType) -> bool {
         is_bits(ty)
     }
-}
-
-/// NULL is read without memory.
-pub(crate) fn read_without_memory() {
-    never_answers_memory_at_null::<BitVec>();
 }

@@ -5,7 +5,6 @@ ghost use Rattle.pg_read.specs.Reading.{NullAlone};
 ghost use Rattle.pg_read.specs.Laws.Reading.{box_single};
 
 use crate::from_sql::FromSql;
-use crate::laws::never_answers_memory_at_null;
 use pg_base::fault::Fault;
 use pg_base::types::PgType;
 use std::alloc::Global;
@@ -37,10 +36,4 @@ impl<'a, T: FromSql<'a>> FromSql<'a> for Box<T> {
     fn accepts(ty: &PgType) -> bool {
         T::accepts(ty)
     }
-}
-
-/// NULL is read without memory.
-pub(crate) fn read_without_memory() {
-    never_answers_memory_at_null::<Box<i32>>();
-    never_answers_memory_at_null::<Box<Option<i32>>>();
 }

@@ -9,7 +9,6 @@ ghost use Rattle.pg_read.specs.Reading.{EveryCell, NullAlone};
 ghost use Rattle.pg_read.specs.Laws.Reading.{plain_single};
 
 use crate::from_sql::FromSql;
-use crate::laws::{never_answers_memory, never_answers_memory_at_null};
 use pg_base::fault::Fault;
 use pg_base::protocol::bytea_from_sql;
 use pg_base::types::PgType;
@@ -71,10 +70,4 @@ impl<'a> FromSql<'a> for Vec<u8> {
     fn accepts(ty: &PgType) -> bool {
         ty.is(&PgType::BYTEA)
     }
-}
-
-/// Borrowed bytes are read without memory, and NULL as owned ones.
-pub(crate) fn read_without_memory() {
-    never_answers_memory::<&[u8]>();
-    never_answers_memory_at_null::<Vec<u8>>();
 }

@@ -19,7 +19,6 @@ ghost use Rattle.pg_read.specs.Reading.{EveryCell};
 ghost use Rattle.pg_read.specs.Laws.Reading.{plain_single};
 
 use crate::from_sql::FromSql;
-use crate::laws::never_answers_memory;
 use jiff::civil::{Date, DateTime, Time};
 use jiff::{SignedDuration, Timestamp};
 use pg_base::epoch::{POSTGRES_EPOCH_DAY, POSTGRES_EPOCH_NANOS};
@@ -205,12 +204,4 @@ impl<'a> FromSql<'a> for Timestamp {
     fn accepts(ty: &PgType) -> bool {
         ty.is(&PgType::TIMESTAMPTZ)
     }
-}
-
-/// The types of `jiff` are read without memory.
-pub(crate) fn read_without_memory() {
-    never_answers_memory::<Date>();
-    never_answers_memory::<Time>();
-    never_answers_memory::<DateTime>();
-    never_answers_memory::<Timestamp>();
 }

@@ -9,7 +9,6 @@ ghost use Rattle.pg_read.specs.Reading.{NullAlone};
 ghost use Rattle.pg_read.specs.Laws.Reading.{plain_single};
 
 use crate::from_sql::FromSql;
-use crate::laws::never_answers_memory_at_null;
 use pg_base::acceptance::is_hstore;
 use pg_base::fault::Fault;
 use pg_base::protocol::hstore_from_sql;
@@ -75,9 +74,4 @@ fn owned_copy(alloc: Global, text: Option<&str>) -> Result<Option<String>, Fault
         Some(text) => Ok(Some(String::from_str(alloc, text)?)),
         None => Ok(None),
     }
-}
-
-/// NULL is read without memory.
-pub(crate) fn read_without_memory() {
-    never_answers_memory_at_null::<HashMap<String, Option<String>>>();
 }

@@ -10,7 +10,6 @@ ghost use Rattle.pg_read.specs.Reading.{EveryCell};
 ghost use Rattle.pg_read.specs.Laws.Reading.{plain_single};
 
 use crate::from_sql::FromSql;
-use crate::laws::never_answers_memory;
 use pg_base::fault::Fault;
 use pg_base::interval::Interval;
 use pg_base::protocol::interval_from_sql;
@@ -50,9 +49,4 @@ impl<'a> FromSql<'a> for Interval {
     fn accepts(ty: &PgType) -> bool {
         ty.is(&PgType::INTERVAL)
     }
-}
-
-/// An interval is read without memory.
-pub(crate) fn read_without_memory() {
-    never_answers_memory::<Interval>();
 }

@@ -11,7 +11,6 @@ ghost use Rattle.pg_read.specs.Reading.{NullAlone};
 ghost use Rattle.pg_read.specs.Laws.Reading.{plain_single};
 
 use crate::from_sql::FromSql;
-use crate::laws::never_answers_memory_at_null;
 use pg_base::acceptance::{is_json, is_jsonb};
 use pg_base::fault::Fault;
 use pg_base::json::{JSONB_VERSION, has_other_number};
@@ -82,9 +81,4 @@ fn document(alloc: Global, text: &[u8]) -> Result<Value, Fault>
         return Err(Fault::JsonNumber);
     }
     Ok(value)
-}
-
-/// NULL is read without memory.
-pub(crate) fn read_without_memory() {
-    never_answers_memory_at_null::<Value>();
 }

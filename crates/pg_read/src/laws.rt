@@ -13,48 +13,79 @@ ghost use Rattle.pg_base.specs.declared.unix_time.UnixTime.{UnixTime as PlainUni
 ghost use Rattle.pg_types.specs.Content.{content};
 ghost use Rattle.pg_types.specs.Faults.{Outcome};
 
-use crate::arrays::{self, fixed_size};
 use crate::from_sql::{FromSql, from_sql_nullable};
-use crate::special::{date, timestamp};
-use crate::{
-    bits, boxes, bytea, civil, hstore, interval, json, lsn, network, numbers, options, texts,
-    unix_time, uuids,
-};
-use jiff::civil as jiff_civil;
+use jiff::civil;
+use pg_base::bits::BitVec;
+use pg_base::interval::Interval;
+use pg_base::lsn::PgLsn;
+use pg_base::network::{IpCidr, IpInet, MacAddress};
+use pg_base::special::{Date, Timestamp};
 use pg_base::types::PgType;
 use pg_base::unix_time::UnixTime;
+use serde_json::Value;
 use std::alloc::Global;
+use std::borrow::CowStr;
+use std::boxed::{BoxedSlice, BoxedStr};
+use std::collections::HashMap;
+use std::net::IpAddr;
+use uuid::Uuid;
 
 /// Reading a `T` never returns `Memory`.
-pub(crate) fn never_answers_memory<'a, T: FromSql<'a>>()
+fn never_answers_memory<'a, T: FromSql<'a>>()
     requires { (cell : Cell) → T.memory_free cell }
 {}
 
 /// Reading NULL as a `T` never returns `Memory`.
-pub(crate) fn never_answers_memory_at_null<'a, T: FromSql<'a>>()
+fn never_answers_memory_at_null<'a, T: FromSql<'a>>()
     requires { T.memory_free None }
 {}
 
-/// The types that are read without memory, and those whose NULL is, each in its topic.
+/// The types that are read without memory. An array, an option, a `Date` and a `Timestamp` are where
+/// what they contain is.
 pub fn types_read_without_memory() {
-    arrays::read_without_memory();
-    bits::read_without_memory();
-    boxes::read_without_memory();
-    bytea::read_without_memory();
-    civil::read_without_memory();
-    fixed_size::read_without_memory();
-    hstore::read_without_memory();
-    interval::read_without_memory();
-    json::read_without_memory();
-    lsn::read_without_memory();
-    network::read_without_memory();
-    numbers::read_without_memory();
-    options::read_without_memory();
-    date::read_without_memory();
-    texts::read_without_memory();
-    timestamp::read_without_memory();
-    unix_time::read_without_memory();
-    uuids::read_without_memory();
+    never_answers_memory::<bool>();
+    never_answers_memory::<i8>();
+    never_answers_memory::<i16>();
+    never_answers_memory::<i32>();
+    never_answers_memory::<i64>();
+    never_answers_memory::<u32>();
+    never_answers_memory::<&str>();
+    never_answers_memory::<CowStr>();
+    never_answers_memory::<&[u8]>();
+    never_answers_memory::<IpAddr>();
+    never_answers_memory::<IpInet>();
+    never_answers_memory::<IpCidr>();
+    never_answers_memory::<MacAddress>();
+    never_answers_memory::<Uuid>();
+    never_answers_memory::<PgLsn>();
+    never_answers_memory::<civil::Date>();
+    never_answers_memory::<civil::Time>();
+    never_answers_memory::<civil::DateTime>();
+    never_answers_memory::<jiff::Timestamp>();
+    never_answers_memory::<UnixTime>();
+    never_answers_memory::<Interval>();
+    never_answers_memory::<Date<civil::Date>>();
+    never_answers_memory::<Timestamp<UnixTime>>();
+    never_answers_memory::<Option<i32>>();
+    never_answers_memory::<[i32; 2]>();
+}
+
+/// The types of which only NULL is read without memory.
+pub fn types_whose_null_is_read_without_memory() {
+    never_answers_memory_at_null::<String>();
+    never_answers_memory_at_null::<BoxedStr>();
+    never_answers_memory_at_null::<Vec<u8>>();
+    never_answers_memory_at_null::<BitVec>();
+    never_answers_memory_at_null::<Value>();
+    never_answers_memory_at_null::<HashMap<String, Option<String>>>();
+    never_answers_memory_at_null::<Box<i32>>();
+    never_answers_memory_at_null::<Box<Option<i32>>>();
+    never_answers_memory_at_null::<Date<String>>();
+    never_answers_memory_at_null::<Timestamp<String>>();
+    never_answers_memory_at_null::<Option<String>>();
+    never_answers_memory_at_null::<[String; 2]>();
+    never_answers_memory_at_null::<Vec<i32>>();
+    never_answers_memory_at_null::<BoxedSlice<i32>>();
 }
 
 /// A cell that is read without allocating has an outcome: a value, or a fault. By the law `single`
@@ -72,7 +103,7 @@ pub fn date_format(alloc: Global, raw: &[u8])
     ensures { first_fault_count w32 first_day last_day raw.now ≡ None →
         (v : JiffDate) × FormCount w32 first_day last_day IsDayOf raw.now v }
 {
-    cell_has_outcome::<jiff_civil::Date>(alloc, &PgType::DATE, Some(raw));
+    cell_has_outcome::<civil::Date>(alloc, &PgType::DATE, Some(raw));
 }
 
 /// TIME: bytes that pass every check spell a time.
@@ -80,7 +111,7 @@ pub fn time_format(alloc: Global, raw: &[u8])
     ensures { first_fault_count w64 (pos 0) last_micros raw.now ≡ None →
         (v : JiffTime) × FormCount w64 (pos 0) last_micros IsAfterMidnight raw.now v }
 {
-    cell_has_outcome::<jiff_civil::Time>(alloc, &PgType::TIME, Some(raw));
+    cell_has_outcome::<civil::Time>(alloc, &PgType::TIME, Some(raw));
 }
 
 /// TIMESTAMP: bytes that pass every check spell a civil datetime.
@@ -88,7 +119,7 @@ pub fn datetime_format(alloc: Global, raw: &[u8])
     ensures { first_fault_count w64 first_civil last_civil raw.now ≡ None →
         (v : DateTime) × FormCount w64 first_civil last_civil (IsAfterBase civil_nanos) raw.now v }
 {
-    cell_has_outcome::<jiff_civil::DateTime>(alloc, &PgType::TIMESTAMP, Some(raw));
+    cell_has_outcome::<civil::DateTime>(alloc, &PgType::TIMESTAMP, Some(raw));
 }
 
 /// TIMESTAMPTZ: bytes that pass every check spell an instant.

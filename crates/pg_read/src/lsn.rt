@@ -10,7 +10,6 @@ ghost use Rattle.pg_read.specs.Reading.{EveryCell};
 ghost use Rattle.pg_read.specs.Laws.Reading.{plain_single};
 
 use crate::from_sql::FromSql;
-use crate::laws::never_answers_memory;
 use pg_base::fault::Fault;
 use pg_base::lsn::PgLsn;
 use pg_base::protocol::lsn_from_sql;
@@ -43,9 +42,4 @@ impl<'a> FromSql<'a> for PgLsn {
     fn accepts(ty: &PgType) -> bool {
         ty.is(&PgType::PG_LSN)
     }
-}
-
-/// A log sequence number is read without memory.
-pub(crate) fn read_without_memory() {
-    never_answers_memory::<PgLsn>();
 }

@@ -13,7 +13,6 @@ ghost use Rattle.pg_read.specs.Reading.{EveryCell};
 ghost use Rattle.pg_read.specs.Laws.Reading.{plain_single};
 
 use crate::from_sql::FromSql;
-use crate::laws::never_answers_memory;
 use pg_base::fault::Fault;
 use pg_base::network::{IpCidr, IpInet, MacAddress};
 use pg_base::protocol::{inet_from_sql, macaddr_from_sql};
@@ -140,12 +139,4 @@ impl<'a> FromSql<'a> for MacAddress {
     fn accepts(ty: &PgType) -> bool {
         ty.is(&PgType::MACADDR)
     }
-}
-
-/// Addresses, networks and MAC addresses are read without memory.
-pub(crate) fn read_without_memory() {
-    never_answers_memory::<IpAddr>();
-    never_answers_memory::<IpInet>();
-    never_answers_memory::<IpCidr>();
-    never_answers_memory::<MacAddress>();
 }

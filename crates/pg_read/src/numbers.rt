@@ -12,7 +12,6 @@ ghost use Rattle.pg_read.specs.Reading.{EveryCell};
 ghost use Rattle.pg_read.specs.Laws.Reading.{plain_single};
 
 use crate::from_sql::FromSql;
-use crate::laws::never_answers_memory;
 use pg_base::fault::Fault;
 use pg_base::protocol::{
     bool_from_sql, char_from_sql, int2_from_sql, int4_from_sql, int8_from_sql, oid_from_sql,
@@ -186,14 +185,4 @@ impl<'a> FromSql<'a> for u32 {
     fn accepts(ty: &PgType) -> bool {
         ty.is(&PgType::OID)
     }
-}
-
-/// Integers and booleans are read without memory.
-pub(crate) fn read_without_memory() {
-    never_answers_memory::<bool>();
-    never_answers_memory::<i8>();
-    never_answers_memory::<i16>();
-    never_answers_memory::<i32>();
-    never_answers_memory::<i64>();
-    never_answers_memory::<u32>();
 }

@@ -7,7 +7,6 @@ ghost use Rattle.pg_read.specs.OptionReading.{ReadsOption};
 ghost use Rattle.pg_read.specs.Laws.Reading.{option_single};
 
 use crate::from_sql::FromSql;
-use crate::laws::{never_answers_memory, never_answers_memory_at_null};
 use pg_base::fault::Fault;
 use pg_base::types::PgType;
 use std::alloc::Global;
@@ -38,10 +37,4 @@ impl<'a, T: FromSql<'a>> FromSql<'a> for Option<T> {
     fn accepts(ty: &PgType) -> bool {
         T::accepts(ty)
     }
-}
-
-/// An option is read without memory where its value is, and NULL always.
-pub(crate) fn read_without_memory() {
-    never_answers_memory::<Option<i32>>();
-    never_answers_memory_at_null::<Option<String>>();
 }

@@ -1,10 +1,10 @@
 //! The calls from which conversions of rows and records are built: they read framed cells from the
 //! front of a slice.
-ghost use Rattle.std.specs.Prelude.{◌≡◌, ◌<◌, ℕ, [], IsTrue, slice_index};
-ghost use Rattle.pg_base.specs.Cells.{FramesSingle, FramePrefixesSingle};
+ghost use Rattle.std.specs.Prelude.{◌≡◌, ◌<◌, ◌∷◌, ℕ, [], IfOk, IsTrue, OnErr, slice_index, vec_capacity};
+ghost use Rattle.pg_base.specs.Cells.{Cell, FramesSingle, FramePrefixesSingle};
 ghost use Rattle.pg_types.specs.Content.{content};
 ghost use Rattle.pg_read.specs.FrameReading.{TakesNumber, TakesCell, ReadsFrame};
-ghost use Rattle.pg_read.specs.RunReading.{ReadsRun, ReadsFrames};
+ghost use Rattle.pg_read.specs.RunReading.{HaveBeenRead, ReadsFrames, ReadsRun, first_room};
 
 use crate::from_sql::FromSql;
 pub use bytes::BytesMut;
@@ -66,20 +66,30 @@ pub fn read_value<'a, T: FromSql<'a>>(
     }
 }
 
-/// How many values a list has room for at first at most, whatever is stated.
-const FIRST_ROOM: usize = 16;
-
-/// An empty list, for so many values as are stated. It has room for the first of them, at most 16,
-/// since to grow from one room to the next takes longer than to read the values does; where there
-/// is no memory for that, it has no room.
-#[inline(always)]
-fn with_first_room<T>(alloc: Global, stated: usize) -> Vec<T>
-    ensures { result.items ≡ [] }
+/// Reads the first of `n` consecutive framed cells, as [`read_value`] does, to a list that has room
+/// for at most `n` values, and for no more than there would be if each further frame had the length
+/// of the first. So a count without the bytes for it takes no memory, and a list of values of one
+/// length is allocated once.
+fn read_first<'a, T: FromSql<'a>>(
+    alloc: Global,
+    type_: &PgType,
+    n: usize,
+    buf: &mut &'a [u8],
+) -> Result<Vec<T>, Fault>
+    requires accepted { IsTrue (T.accepted (content type_.now)) }
+    requires some { 0 < n }
+    ensures read { IfOk result (λ v. (c : Cell)
+        × HaveBeenRead (T.reads (content type_.now)) buf.old.now (c ∷ []) v.items buf.new.now) }
+    ensures stops { OnErr result (ReadsRun (λ v. v.items) (T.reads (content type_.now)) buf.old.now n result
+        buf.new.now) }
+    ensures room { IfOk result (λ v. vec_capacity v ≡ first_room n buf.old.now buf.new.now) }
 {
-    match Vec::with_capacity(alloc, stated.min(FIRST_ROOM)) {
-        Ok(values) => values,
-        Err(_) => Vec::new(alloc),
-    }
+    holds_bytes(*buf);
+    let whole = buf.len();
+    let first = read_value(alloc, type_, buf)?;
+    let mut values = Vec::with_capacity(alloc, n.min(whole / (whole - buf.len())))?;
+    values.push_reserved(first);
+    Ok(values)
 }
 
 /// Each item of a slice of bytes is below 256; proofs know this only of the arguments of a
@@ -89,7 +99,8 @@ fn holds_bytes(bytes: &[u8])
 {}
 
 /// Reads `n` consecutive framed cells from the front of the slice, as `n` calls of [`read_value`]
-/// do. The type must be accepted. The list grows as values are read, whatever `n` is.
+/// do. The type must be accepted. Memory is taken after the first value was read, for as many as the
+/// bytes can hold, whatever `n` is.
 ///
 /// The first cell that is refused gives the fault, and the slice begins after that cell. If a cell
 /// is truncated before `n` are read, and none before it is refused, it returns `Size`, and the
@@ -114,8 +125,11 @@ pub fn read_values<'a, T: FromSql<'a>>(
     ensures frame_prefixes_single { FramePrefixesSingle }
 {
     holds_bytes(*buf);
-    let mut values = with_first_room(alloc, n);
-    for _ in 0..n {
+    if n == 0 {
+        return Ok(Vec::new(alloc));
+    }
+    let mut values = read_first(alloc, type_, n, buf)?;
+    for _ in 1..n {
         let Ok(cell) = read_cell(buf) else {
             return Err(Fault::Size);
         };

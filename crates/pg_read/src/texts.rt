@@ -11,7 +11,6 @@ ghost use Rattle.pg_read.specs.Reading.{EveryCell, NullAlone};
 ghost use Rattle.pg_read.specs.Laws.Reading.{plain_single};
 
 use crate::from_sql::FromSql;
-use crate::laws::{never_answers_memory, never_answers_memory_at_null};
 use pg_base::acceptance::{has_version, is_text};
 use pg_base::fault::Fault;
 use pg_base::protocol::{ltree_from_sql, text_from_sql};
@@ -169,12 +168,4 @@ impl<'a> FromSql<'a> for BoxedStr {
     fn accepts(ty: &PgType) -> bool {
         is_text(ty)
     }
-}
-
-/// Borrowed texts are read without memory, and NULL as an owned one.
-pub(crate) fn read_without_memory() {
-    never_answers_memory::<&str>();
-    never_answers_memory::<CowStr>();
-    never_answers_memory_at_null::<String>();
-    never_answers_memory_at_null::<BoxedStr>();
 }

@@ -8,7 +8,6 @@ ghost use Rattle.pg_read.specs.Reading.{EveryCell};
 ghost use Rattle.pg_read.specs.Laws.Reading.{plain_single};
 
 use crate::from_sql::FromSql;
-use crate::laws::never_answers_memory;
 use pg_base::acceptance::is_timestamp;
 use pg_base::fault::Fault;
 use pg_base::protocol::timestamp_from_sql;
@@ -45,9 +44,4 @@ impl<'a> FromSql<'a> for UnixTime {
     fn accepts(ty: &PgType) -> bool {
         is_timestamp(ty)
     }
-}
-
-/// A `UnixTime` is read without memory.
-pub(crate) fn read_without_memory() {
-    never_answers_memory::<UnixTime>();
 }

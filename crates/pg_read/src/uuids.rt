@@ -10,7 +10,6 @@ ghost use Rattle.pg_read.specs.Reading.{EveryCell};
 ghost use Rattle.pg_read.specs.Laws.Reading.{plain_single};
 
 use crate::from_sql::FromSql;
-use crate::laws::never_answers_memory;
 use pg_base::fault::Fault;
 use pg_base::protocol::uuid_from_sql;
 use pg_base::types::PgType;
@@ -44,9 +43,4 @@ impl<'a> FromSql<'a> for Uuid {
     fn accepts(ty: &PgType) -> bool {
         ty.is(&PgType::UUID)
     }
-}
-
-/// A UUID is read without memory.
-pub(crate) fn read_without_memory() {
-    never_answers_memory::<Uuid>();
 }

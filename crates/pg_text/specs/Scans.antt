@@ -1,5 +1,5 @@
 -- What is at the front of a text, and the rest of the text.
-use Rattle.std.specs.Prelude.{◌≡◌, ◌⊎◌, ℕ, ◌-◌, ◌*◌, ◌^◌, ◌≤◌, List, [], ◌∷◌, ◌++◌, length}
+use Rattle.std.specs.Prelude.{◌≡◌, ◌⊎◌, ◌<◌, ℕ, ◌-◌, ◌*◌, ◌^◌, ◌≤◌, List, [], ◌∷◌, ◌++◌, length}
 use Rattle.std.specs.Prelude.{ℤ, pos, ◌-ℤ◌, ◌*ℤ◌, codes}
 use Rattle.std.specs.Str.Parse.{IsNumeral, digits_value}
 use Rattle.jiff.specs.Types.{Date, DateTime, Time, Timestamp}
@@ -46,7 +46,7 @@ abbrev pub SaysTime : List ℕ → Time → Type 0
 SaysTime text t =
     (micros : ℕ) × TakesClock text t.hour t.minute t.second micros [] × (t.subsec_nanosecond ≡ micros * 1000)
 
--- a year in its era, of four digits or more, a month, of two or fewer, and a day
+-- a year in its era, from 1 on, of four digits or more, a month, of two or fewer, and a day
 abbrev pub TakesDay : List ℕ → ℤ → ℕ → ℕ → List ℕ → Type 0
 TakesDay text year month day rest =
     (n year_len month_len : ℕ)
@@ -56,6 +56,7 @@ TakesDay text year month day rest =
     × TakesDigits a month month_len (45 ∷ b)
     × (month_len ≤ 2)
     × TakesNumber b day rest
+    × (0 < n)
     × (year ≡ pos n)
 
 -- a day in its era, a space and a time of day

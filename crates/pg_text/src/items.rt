@@ -9,7 +9,7 @@ use postgres_types::Fault;
 use std::alloc::AllocError;
 
 /// The kinds of texts that have items.
-#[derive(Debug, Clone, Copy, PartialEq, Eq)]
+#[derive(Debug, Clone, Copy)]
 pub enum Items {
     /// An array (`array_in`): an item is quoted as a whole, or contains no white space, brace or
     /// quote, and an item that is the word NULL is NULL.
@@ -20,7 +20,7 @@ pub enum Items {
 }
 
 /// The state in which a byte of an item is read.
-#[derive(Debug, Clone, Copy, PartialEq, Eq)]
+#[derive(Debug, Clone, Copy)]
 enum Place {
     /// Before its first byte.
     Start,
@@ -43,7 +43,7 @@ impl Place {
 }
 
 /// What a byte means.
-#[derive(Debug, Clone, Copy, PartialEq, Eq)]
+#[derive(Debug, Clone, Copy)]
 enum Step {
     /// The byte belongs to the item, and this state follows.
     Take(Place),
@@ -78,7 +78,8 @@ impl Items {
             (Place::Quoted, b'\\') => Step::Pass(Place::QuotedEscaped),
             (Place::Quoted, _) => Step::Take(Place::Quoted),
             (_, b',') => Step::End,
-            (Place::Plain, b'"') | (Place::Closed, _) if self == Items::OfArray => Step::Refuse,
+            (Place::Plain, b'"') | (Place::Closed, _) if matches!(self, Items::OfArray) =>
+                Step::Refuse,
             (Place::Closed, b'"') => Step::Take(Place::Quoted),
             (_, b'"') => Step::Pass(Place::Quoted),
             (_, b'\\') => Step::Pass(Place::PlainEscaped),
@@ -135,7 +136,7 @@ impl Items {
 }
 
 /// An item that was taken from a text.
-#[derive(Debug, Clone, Copy, PartialEq, Eq)]
+#[derive(Debug, Clone, Copy)]
 pub struct Item {
     /// Whether it is NULL.
     pub is_null: bool,

@@ -5,7 +5,7 @@ ghost use Rattle.pg_text.specs.Quotes.{escape_of, escaped, is_escaped, is_null_w
 use std::alloc::AllocError;
 
 /// How a quote or a backslash is escaped within quotes.
-#[derive(Debug, Clone, Copy, PartialEq, Eq)]
+#[derive(Debug, Clone, Copy)]
 pub enum Escape {
     /// A backslash precedes it, as in arrays and hstore.
     Backslash,

@@ -6,6 +6,7 @@
 #![tactic(auto)]
 
 mod header;
+pub mod laws;
 mod tuples;
 
 pub use header::{HeaderFault, take_header};

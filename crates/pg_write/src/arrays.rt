@@ -10,7 +10,6 @@ ghost use Rattle.pg_write.specs.ParamWriting.{AppendsElement, AppendsFrames};
 ghost use Rattle.pg_base.specs.Appending.{KeepsCapacity};
 ghost use Rattle.pg_write.specs.Writing.{Writes};
 
-use crate::laws::refuses_without_memory;
 use crate::params::frame_from;
 use crate::to_sql::{ToSql, check_type};
 use bytes::{BufMut, BytesMut};
@@ -288,13 +287,4 @@ fn lower_bound(ty: &PgType) -> i32
     } else {
         1
     }
-}
-
-/// Lists are refused without memory.
-pub(crate) fn refused_without_memory() {
-    refuses_without_memory::<Vec<i32>>();
-    refuses_without_memory::<&[i32]>();
-    refuses_without_memory::<[i32; 2]>();
-    refuses_without_memory::<BoxedSlice<i32>>();
-    refuses_without_memory::<Vec<Vec<Option<i16>>>>();
 }

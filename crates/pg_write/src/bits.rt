@@ -2,7 +2,6 @@
 ghost use Rattle.std.specs.Prelude.{true, codes};
 ghost use Rattle.pg_base.specs.Bits.{accepted_bits, wire_bits};
 
-use crate::laws::keeps_room_rule;
 use crate::to_sql::{ToSql, check_type};
 use bytes::BytesMut;
 use pg_base::acceptance::is_bits;
@@ -51,9 +50,4 @@ impl ToSql for BitVec {
     fn encode_format(&self, _ty: &PgType) -> Format {
         Format::Binary
     }
-}
-
-/// Bits keep the room rule.
-pub(crate) fn keep_room_rule() {
-    keeps_room_rule::<BitVec>();
 }

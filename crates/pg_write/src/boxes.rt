@@ -1,7 +1,6 @@
 //! Writing a box.
 ghost use Rattle.std.specs.Prelude.{true, codes};
 
-use crate::laws::keeps_room_rule;
 use crate::to_sql::{ToSql, check_type};
 use bytes::BytesMut;
 use pg_base::fault::Fault;
@@ -44,9 +43,4 @@ impl<T: ToSql> ToSql for Box<T> {
     fn encode_format(&self, _ty: &PgType) -> Format {
         Format::Binary
     }
-}
-
-/// A box keeps the room rule where its value does.
-pub(crate) fn keep_room_rule() {
-    keeps_room_rule::<Box<i32>>();
 }

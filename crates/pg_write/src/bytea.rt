@@ -5,7 +5,6 @@ ghost use Rattle.pg_types.specs.declared.types.built_in.BuiltIn.TheVariants.{Byt
 ghost use Rattle.pg_base.specs.Bytea.{wire_bytes};
 ghost use Rattle.pg_types.specs.Content.{content, is_row};
 
-use crate::laws::keeps_room_rule;
 use crate::to_sql::{ToSql, check_type};
 use bytes::BytesMut;
 use pg_base::fault::Fault;
@@ -165,12 +164,4 @@ impl<'b> ToSql for CowSlice<'b, u8> {
     fn encode_format(&self, _ty: &PgType) -> Format {
         Format::Binary
     }
-}
-
-/// Bytes keep the room rule.
-pub(crate) fn keep_room_rule() {
-    keeps_room_rule::<&[u8]>();
-    keeps_room_rule::<Vec<u8>>();
-    keeps_room_rule::<[u8; 4]>();
-    keeps_room_rule::<CowSlice<u8>>();
 }

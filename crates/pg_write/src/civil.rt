@@ -9,7 +9,6 @@ ghost use Rattle.pg_types.specs.declared.types.built_in.BuiltIn.TheVariants.{Tim
 ghost use Rattle.pg_types.specs.declared.types.built_in.BuiltIn.TheVariants.{Timestamp as TimestampRow};
 ghost use Rattle.pg_types.specs.declared.types.built_in.BuiltIn.TheVariants.{Timestamptz};
 
-use crate::laws::keeps_room_rule;
 use crate::to_sql::{ToSql, check_type};
 use bytes::BytesMut;
 use jiff::Timestamp;
@@ -213,12 +212,4 @@ impl ToSql for Timestamp {
     fn encode_format(&self, _ty: &PgType) -> Format {
         Format::Binary
     }
-}
-
-/// The types of `jiff` keep the room rule.
-pub(crate) fn keep_room_rule() {
-    keeps_room_rule::<Date>();
-    keeps_room_rule::<Time>();
-    keeps_room_rule::<DateTime>();
-    keeps_room_rule::<Timestamp>();
 }

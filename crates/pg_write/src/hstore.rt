@@ -1,10 +1,9 @@
 //! Writing maps of texts.
-ghost use Rattle.std.specs.Prelude.{◌≡◌, map, true, codes, IfOk, IfErr};
+ghost use Rattle.std.specs.Prelude.{◌≡◌, [], map, true, codes, IfErr, OnOk};
 ghost use Rattle.pg_types.specs.declared.fault.Fault.TheVariants.{Memory};
 ghost use Rattle.pg_base.specs.Hstore.{in_key_order, borrowed_entry, owned_entry, wire_hstore};
 ghost use Rattle.pg_base.specs.Texts.{is_named};
 
-use crate::laws::refuses_without_memory;
 use crate::to_sql::{ToSql, check_type};
 use bytes::BytesMut;
 use pg_base::acceptance::is_hstore;
@@ -12,14 +11,18 @@ use pg_base::fault::Fault;
 use pg_base::format::{Format, IsNull};
 use pg_base::protocol::hstore_to_sql;
 use pg_base::types::PgType;
+use smallvec::SmallVec;
 use std::alloc::Global;
 use std::collections::HashMap;
 use std::hash::BuildHasher;
 
+/// The entries of a map, borrowed. Few of them are on the stack.
+type Entries<'a> = SmallVec<(&'a str, Option<&'a str>), 16>;
+
 /// Writes every type named hstore (`hstore_send`): the number of entries in 4 bytes, big-endian,
 /// and for each entry the frames of its key and its value, in the order of the keys' bytes. It is
 /// refused with `Transmit` if the number of entries, or the length of a key or a value, exceeds
-/// 2,147,483,647. The entries are sorted in a list that is allocated.
+/// 2,147,483,647. The entries are sorted in a list, which is allocated if there are more than 16.
 impl<S: BuildHasher + Drop> ToSql for HashMap<String, Option<String>, S> {
     ghost accepted = { is_named (codes "hstore") };
 
@@ -30,7 +33,8 @@ impl<S: BuildHasher + Drop> ToSql for HashMap<String, Option<String>, S> {
     ghost refuses_memory_free = { true };
 
     fn to_sql(&self, alloc: Global, _ty: &PgType, out: &mut BytesMut) -> Result<IsNull, Fault> {
-        let entries = sorted_entries(alloc, self)?;
+        let mut entries = SmallVec::new(alloc);
+        sort_entries(self, &mut entries)?;
         hstore_to_sql(alloc, entries.as_slice(), out)?;
         Ok(IsNull::No)
     }
@@ -54,24 +58,21 @@ impl<S: BuildHasher + Drop> ToSql for HashMap<String, Option<String>, S> {
     }
 }
 
-/// Returns the entries of the map, borrowed, in the order of their keys' bytes.
-fn sorted_entries<'a, S: BuildHasher + Drop>(
-    alloc: Global,
+/// Appends the entries of the map, borrowed, in the order of their keys' bytes.
+fn sort_entries<'a, S: BuildHasher + Drop>(
     store: &'a HashMap<String, Option<String>, S>,
-) -> Result<Vec<(&'a str, Option<&'a str>)>, Fault>
-    ensures sorted { IfOk result (λ v. map borrowed_entry v.items ≡ in_key_order (map owned_entry store.now.entries)) }
+    entries: &mut Entries<'a>,
+) -> Result<(), Fault>
+    requires { entries.old.items ≡ [] }
+    ensures sorted { OnOk result
+        (map borrowed_entry entries.new.items ≡ in_key_order (map owned_entry store.now.entries)) }
     ensures refused { IfErr result (λ fault. fault ≡ Memory) }
 {
-    let mut entries = Vec::with_capacity(alloc, store.len())?;
+    entries.reserve(store.len())?;
     for (key, value) in store.iter() {
         let value = value.as_ref().map(|text| text.as_str());
         entries.push((key.as_str(), value))?;
     }
-    entries.sort_unstable_by_key(|entry| entry.0);
-    Ok(entries)
-}
-
-/// A map is refused without memory, although its writing takes some.
-pub(crate) fn refused_without_memory() {
-    refuses_without_memory::<HashMap<String, Option<String>>>();
+    entries.as_mut_slice().sort_unstable_by_key(|entry| entry.0);
+    Ok(())
 }

@@ -4,7 +4,6 @@ ghost use Rattle.pg_types.specs.declared.types.built_in.BuiltIn.TheVariants.{Int
 ghost use Rattle.pg_types.specs.Content.{is_row};
 ghost use Rattle.pg_base.specs.Interval.{wire_interval};
 
-use crate::laws::keeps_room_rule;
 use crate::to_sql::{ToSql, check_type};
 use bytes::BytesMut;
 use pg_base::fault::Fault;
@@ -50,9 +49,4 @@ impl ToSql for Interval {
     fn encode_format(&self, _ty: &PgType) -> Format {
         Format::Binary
     }
-}
-
-/// An interval keeps the room rule.
-pub(crate) fn keep_room_rule() {
-    keeps_room_rule::<Interval>();
 }

@@ -5,7 +5,6 @@ ghost use Rattle.pg_types.specs.declared.types.built_in.BuiltIn.TheVariants.{Jso
 ghost use Rattle.pg_types.specs.Content.{is_row};
 ghost use Rattle.pg_base.specs.Json.{accepted_json, wire_json};
 
-use crate::laws::refuses_without_memory;
 use crate::to_sql::{ToSql, check_type};
 use bytes::BytesMut;
 use pg_base::acceptance::{is_json, is_jsonb};
@@ -61,9 +60,4 @@ impl ToSql for Value {
     fn encode_format(&self, _ty: &PgType) -> Format {
         Format::Binary
     }
-}
-
-/// A document is refused without memory, although its writing takes some.
-pub(crate) fn refused_without_memory() {
-    refuses_without_memory::<Value>();
 }

@@ -1,47 +1,77 @@
 //! What the library's own types promise beyond the contract of the trait.
 ghost use Rattle.std.specs.Prelude.{IsTrue};
 
-use crate::special::{date, timestamp};
 use crate::to_sql::ToSql;
-use crate::{
-    arrays, bits, boxes, bytea, civil, hstore, interval, json, lsn, network, numbers, options,
-    references, texts, unix_time, uuids,
-};
+use jiff::civil;
+use pg_base::bits::BitVec;
+use pg_base::interval::Interval;
+use pg_base::lsn::PgLsn;
+use pg_base::network::{IpCidr, IpInet, MacAddress};
+use pg_base::special::{Date, Timestamp};
+use pg_base::unix_time::UnixTime;
+use serde_json::Value;
+use std::borrow::{CowSlice, CowStr};
+use std::boxed::{BoxedSlice, BoxedStr};
+use std::collections::HashMap;
+use std::net::IpAddr;
+use uuid::Uuid;
 
 /// Writing a `T` returns `Memory` only if the buffer has less spare room than the cell has bytes,
 /// and checked writing refuses a built-in type without allocating.
-pub(crate) fn keeps_room_rule<T: ToSql>()
+fn keeps_room_rule<T: ToSql>()
     requires room { (value : T) → T.by_room value }
     requires refusal { IsTrue T.refuses_memory_free }
 {}
 
 /// Checked writing of a `T` refuses a built-in type without allocating, even if writing allocates.
-pub(crate) fn refuses_without_memory<T: ToSql>()
+fn refuses_without_memory<T: ToSql>()
     requires { IsTrue T.refuses_memory_free }
 {}
 
-/// The types that keep the room rule, each in its topic.
+/// The types that keep the room rule. An option, a box, a reference, a `Date` and a `Timestamp` do
+/// where what they contain does.
 pub fn types_that_keep_the_room_rule() {
-    bits::keep_room_rule();
-    boxes::keep_room_rule();
-    bytea::keep_room_rule();
-    civil::keep_room_rule();
-    date::keep_room_rule();
-    interval::keep_room_rule();
-    lsn::keep_room_rule();
-    network::keep_room_rule();
-    numbers::keep_room_rule();
-    options::keep_room_rule();
-    references::keep_room_rule();
-    texts::keep_room_rule();
-    timestamp::keep_room_rule();
-    unix_time::keep_room_rule();
-    uuids::keep_room_rule();
+    keeps_room_rule::<bool>();
+    keeps_room_rule::<i8>();
+    keeps_room_rule::<i16>();
+    keeps_room_rule::<i32>();
+    keeps_room_rule::<i64>();
+    keeps_room_rule::<u32>();
+    keeps_room_rule::<&str>();
+    keeps_room_rule::<String>();
+    keeps_room_rule::<BoxedStr>();
+    keeps_room_rule::<CowStr>();
+    keeps_room_rule::<&[u8]>();
+    keeps_room_rule::<Vec<u8>>();
+    keeps_room_rule::<[u8; 4]>();
+    keeps_room_rule::<CowSlice<u8>>();
+    keeps_room_rule::<BitVec>();
+    keeps_room_rule::<IpAddr>();
+    keeps_room_rule::<IpInet>();
+    keeps_room_rule::<IpCidr>();
+    keeps_room_rule::<MacAddress>();
+    keeps_room_rule::<Uuid>();
+    keeps_room_rule::<PgLsn>();
+    keeps_room_rule::<civil::Date>();
+    keeps_room_rule::<civil::Time>();
+    keeps_room_rule::<civil::DateTime>();
+    keeps_room_rule::<jiff::Timestamp>();
+    keeps_room_rule::<UnixTime>();
+    keeps_room_rule::<Interval>();
+    keeps_room_rule::<Date<civil::Date>>();
+    keeps_room_rule::<Timestamp<UnixTime>>();
+    keeps_room_rule::<Option<i32>>();
+    keeps_room_rule::<Box<i32>>();
+    keeps_room_rule::<&i32>();
 }
 
 /// The types that do not keep the room rule, and that checked writing refuses without allocating.
 pub fn types_refused_without_memory() {
-    arrays::refused_without_memory();
-    hstore::refused_without_memory();
-    json::refused_without_memory();
+    refuses_without_memory::<Vec<i32>>();
+    refuses_without_memory::<&[i32]>();
+    refuses_without_memory::<[i32; 2]>();
+    refuses_without_memory::<BoxedSlice<i32>>();
+    refuses_without_memory::<Vec<Vec<Option<i16>>>>();
+    refuses_without_memory::<HashMap<String, Option<String>>>();
+    refuses_without_memory::<Value>();
 }

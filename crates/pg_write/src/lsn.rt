@@ -5,7 +5,6 @@ ghost use Rattle.pg_types.specs.declared.types.built_in.BuiltIn.TheVariants.{PgL
 ghost use Rattle.pg_types.specs.Content.{is_row};
 ghost use Rattle.pg_base.specs.Numbers.{wire_unsigned};
 
-use crate::laws::keeps_room_rule;
 use crate::to_sql::{ToSql, check_type};
 use bytes::BytesMut;
 use pg_base::fault::Fault;
@@ -50,9 +49,4 @@ impl ToSql for PgLsn {
     fn encode_format(&self, _ty: &PgType) -> Format {
         Format::Binary
     }
-}
-
-/// A log sequence number keeps the room rule.
-pub(crate) fn keep_room_rule() {
-    keeps_room_rule::<PgLsn>();
 }

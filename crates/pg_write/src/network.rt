@@ -5,7 +5,6 @@ ghost use Rattle.pg_types.specs.Content.{is_row};
 ghost use Rattle.pg_base.specs.FixedBytes.{wire_fixed_bytes};
 ghost use Rattle.pg_base.specs.Network.{wire_address, wire_cidr, wire_inet};
 
-use crate::laws::keeps_room_rule;
 use crate::to_sql::{ToSql, check_type};
 use bytes::BytesMut;
 use pg_base::fault::Fault;
@@ -165,12 +164,4 @@ impl ToSql for MacAddress {
     fn encode_format(&self, _ty: &PgType) -> Format {
         Format::Binary
     }
-}
-
-/// Addresses, networks and MAC addresses keep the room rule.
-pub(crate) fn keep_room_rule() {
-    keeps_room_rule::<IpAddr>();
-    keeps_room_rule::<IpInet>();
-    keeps_room_rule::<IpCidr>();
-    keeps_room_rule::<MacAddress>();
 }

@@ -5,7 +5,6 @@ ghost use Rattle.pg_types.specs.declared.types.built_in.BuiltIn.TheVariants.{Boo
 ghost use Rattle.pg_types.specs.Content.{is_row};
 ghost use Rattle.pg_base.specs.Numbers.{wire_bool, wire_signed, wire_unsigned};
 
-use crate::laws::keeps_room_rule;
 use crate::to_sql::{ToSql, check_type};
 use bytes::BytesMut;
 use pg_base::fault::Fault;
@@ -236,14 +235,4 @@ impl ToSql for u32 {
     fn encode_format(&self, _ty: &PgType) -> Format {
         Format::Binary
     }
-}
-
-/// Integers and booleans keep the room rule.
-pub(crate) fn keep_room_rule() {
-    keeps_room_rule::<bool>();
-    keeps_room_rule::<i8>();
-    keeps_room_rule::<i16>();
-    keeps_room_rule::<i32>();
-    keeps_room_rule::<i64>();
-    keeps_room_rule::<u32>();
 }

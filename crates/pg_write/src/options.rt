@@ -3,7 +3,6 @@ ghost use Rattle.std.specs.Prelude.{true, codes};
 ghost use Rattle.pg_base.specs.Options.{NoneOr};
 ghost use Rattle.pg_write.specs.OptionWriting.{wire_option, format_option};
 
-use crate::laws::keeps_room_rule;
 use crate::to_sql::{ToSql, check_type};
 use bytes::BytesMut;
 use pg_base::fault::Fault;
@@ -53,9 +52,4 @@ impl<T: ToSql> ToSql for Option<T> {
             None => Format::Binary,
         }
     }
-}
-
-/// An option keeps the room rule where its value does.
-pub(crate) fn keep_room_rule() {
-    keeps_room_rule::<Option<i32>>();
 }

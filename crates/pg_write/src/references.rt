@@ -1,7 +1,6 @@
 //! Writing through a reference.
 ghost use Rattle.std.specs.Prelude.{true, codes};
 
-use crate::laws::keeps_room_rule;
 use crate::to_sql::{ToSql, check_type};
 use bytes::BytesMut;
 use pg_base::fault::Fault;
@@ -45,9 +44,4 @@ impl<'b, T: ToSql> ToSql for &'b T {
     fn encode_format(&self, ty: &PgType) -> Format {
         (**self).encode_format(ty)
     }
-}
-
-/// A reference keeps the room rule where its value does.
-pub(crate) fn keep_room_rule() {
-    keeps_room_rule::<&i32>();
 }

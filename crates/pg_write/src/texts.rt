@@ -7,7 +7,6 @@ ghost use Rattle.pg_types.specs.Content.{content};
 ghost use Rattle.pg_base.specs.Cells.{versioned_cell};
 ghost use Rattle.pg_base.specs.Texts.{accepted_text, has_version, wire_text};
 
-use crate::laws::keeps_room_rule;
 use crate::to_sql::{ToSql, check_type};
 use bytes::BytesMut;
 use pg_base::acceptance::{has_version, is_text};
@@ -201,12 +200,4 @@ impl<'b> ToSql for CowStr<'b> {
     fn encode_format(&self, _ty: &PgType) -> Format {
         Format::Binary
     }
-}
-
-/// Texts keep the room rule.
-pub(crate) fn keep_room_rule() {
-    keeps_room_rule::<&str>();
-    keeps_room_rule::<String>();
-    keeps_room_rule::<BoxedStr>();
-    keeps_room_rule::<CowStr>();
 }

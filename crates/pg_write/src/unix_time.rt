@@ -2,7 +2,6 @@
 ghost use Rattle.std.specs.Prelude.{true, codes};
 ghost use Rattle.pg_base.specs.Timestamps.{accepts_timestamps, nanos_of, wire_timestamp};
 
-use crate::laws::keeps_room_rule;
 use crate::to_sql::{ToSql, check_type};
 use bytes::BytesMut;
 use pg_base::acceptance::is_timestamp;
@@ -53,9 +52,4 @@ impl ToSql for UnixTime {
     fn encode_format(&self, _ty: &PgType) -> Format {
         Format::Binary
     }
-}
-
-/// A `UnixTime` keeps the room rule.
-pub(crate) fn keep_room_rule() {
-    keeps_room_rule::<UnixTime>();
 }

@@ -4,7 +4,6 @@ ghost use Rattle.pg_types.specs.declared.types.built_in.BuiltIn.TheVariants.{Uui
 ghost use Rattle.pg_types.specs.Content.{is_row};
 ghost use Rattle.pg_base.specs.FixedBytes.{wire_fixed_bytes};
 
-use crate::laws::keeps_room_rule;
 use crate::to_sql::{ToSql, check_type};
 use bytes::BytesMut;
 use pg_base::fault::Fault;
@@ -49,9 +48,4 @@ impl ToSql for Uuid {
     fn encode_format(&self, _ty: &PgType) -> Format {
         Format::Binary
     }
-}
-
-/// A UUID keeps the room rule.
-pub(crate) fn keep_room_rule() {
-    keeps_room_rule::<Uuid>();
 }

@@ -7,6 +7,9 @@
 //! could not be read, the output could not be written, or memory ran out. Nothing else is printed.
 #![tactic(auto)]
 
+ghost use Rattle.std.specs.Prelude.{◌≡◌, MatchResult};
+ghost use Rattle.std.specs.Process.{exit_status};
+
 mod answer;
 mod norm;
 mod request;
@@ -23,14 +26,19 @@ fn main(rt: HostRuntime) -> ExitCode {
     let Ok(mut arguments) = env::args(&rt) else {
         return ExitCode::FAILURE;
     };
-    let is_done = match arguments.nth(1) {
-        Some(argument) if argument.as_str() == "--names" => print_names(&mut rt.stdout()).is_ok(),
-        _ => run(rt.alloc(), &mut rt.stdin(), &mut rt.stdout()).is_ok(),
-    };
-    if is_done {
-        ExitCode::SUCCESS
-    } else {
-        ExitCode::FAILURE
+    match arguments.nth(1) {
+        Some(argument) if argument.as_str() == "--names" => status(print_names(&mut rt.stdout())),
+        _ => status(run(rt.alloc(), &mut rt.stdin(), &mut rt.stdout())),
+    }
+}
+
+/// Returns the exit status: 0 if all was printed, and 1 after an error.
+fn status<E: Drop>(outcome: Result<(), E>) -> ExitCode
+    ensures { MatchResult outcome (λ _. exit_status result ≡ 0) (λ _. exit_status result ≡ 1) }
+{
+    match outcome {
+        Ok(()) => ExitCode::SUCCESS,
+        Err(_) => ExitCode::FAILURE,
     }
 }
 

@@ -1,10 +1,10 @@
 //! Reading a cell and writing it again.
-ghost use Rattle.std.specs.Prelude.{◌≡◌, Ok, Err, IsTrue, false, codes};
+ghost use Rattle.std.specs.Prelude.{◌≡◌, ◌≤◌, Ok, Err, IsTrue, false, codes};
 ghost use Rattle.postgres_types.specs.ReadingBack.{WritesCell};
 ghost use Rattle.postgres_types.specs.Rewriting.{IsCellOf, IsRewrittenAsItself, Rewrites};
 ghost use Rattle.pg_types.specs.Content.{content, IsBuiltIn};
 ghost use Rattle.pg_types.specs.Faults.{NeverMemory, wrong_type};
-ghost use Rattle.pg_write.specs.Writing.{Writes};
+ghost use Rattle.pg_write.specs.Writing.{Writes, appended_len};
 ghost use Rattle.pg_base.specs.Appending.{KeepsCapacity};
 ghost use Rattle.pg_base.specs.Cells.{cell_of};
 
@@ -21,7 +21,9 @@ use std::alloc::Global;
 ///
 /// It fails with `WrongType` and the name `rewrite` if `T` does not accept the type, and then with
 /// the fault of reading or of writing. An error leaves the buffer's bytes as they were. The cell
-/// that it appends is read as the same value, and rewriting it gives the same cell.
+/// that it appends is read as the same value, and rewriting it gives the same cell. If the cell is
+/// read without memory, writing the value needs only the room of its cell (`by_room`), and the buffer
+/// has that room, the call never fails with `Memory`.
 pub fn rewrite<'a, T: Paired<'a>>(
     alloc: Global,
     ty: &PgType,
@@ -42,6 +44,9 @@ pub fn rewrite<'a, T: Paired<'a>>(
     ensures again { IsTrue (T.FromSql.accepted (content ty.now))
         → WritesCell (IsRewrittenAsItself (T.reads (content ty.now))
         (T.wire (content ty.now))) out.old.items out.new.items result }
+    ensures room { IsTrue (T.FromSql.accepted (content ty.now)) → T.memory_free (cell_of raw.entry)
+        → ((v : T) → T.reads (content ty.now) (cell_of raw.entry) (Ok v)
+        → T.by_room v × (appended_len (T.wire (content ty.now) v) ≤ out.old.spare)) → NeverMemory result }
     ensures capacity { KeepsCapacity out.old out.new }
 {
     if !<T as FromSql<'a>>::accepts(ty) {

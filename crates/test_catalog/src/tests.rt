@@ -1,5 +1,6 @@
 //! The tests.
 
 mod kinds;
+mod query;
 mod refused;
 mod rows;

@@ -1,12 +1,17 @@
 //! The texts of IP addresses with their netmasks, and of MAC addresses.
-ghost use Rattle.std.specs.Prelude.{◌≡◌, ◌<◌, ◌∷◌, [], ℕ, List, MatchOption, Some, false, true};
+ghost use Rattle.std.specs.Prelude.{◌≡◌, ◌↔◌, ◌<◌, ◌∷◌, [], ℕ, List, MatchOption, Some, false, true};
+ghost use Rattle.std.specs.Prelude.{IfErr, IfOk, IsTrue};
+ghost use Rattle.std.specs.Char.{is_ascii_digit};
 ghost use Rattle.std.specs.Fmt.{WritesOnOk};
+ghost use Rattle.std.specs.List.{list_all};
 ghost use Rattle.std.specs.Net.Addr.{ipv4_octets, ipv6_segments, low_octets};
 ghost use Rattle.std.specs.Net.Grammar.{IsIpText};
-ghost use Rattle.pg_base.specs.Network.{NetmaskFits, NoHostBits, with_netmask};
+ghost use Rattle.std.specs.Str.Parse.{without_leading_plus};
+ghost use Rattle.pg_base.specs.Network.{NetmaskFits, Network, NoHostBits, with_netmask};
 ghost use Rattle.pg_base.specs.Network.{first_fault_netmask, first_fault_network};
-ghost use Rattle.pg_base.specs.NetworkTexts.{IsPair, ParsesMacaddr, ParsesNetwork, SaysMacaddr, SaysNetwork};
-ghost use Rattle.pg_base.specs.NetworkTexts.{SaysNoNetwork};
+ghost use Rattle.pg_base.specs.NetworkTexts.{IsPair, ParsesMacaddr, ParsesNetwork, RefusesLength, RefusesNetwork};
+ghost use Rattle.pg_base.specs.NetworkTexts.{SaysMacaddr, SaysNetwork, no_network};
+ghost use Rattle.pg_types.specs.Faults.{refusal_of};
 ghost use Rattle.pg_base.specs.NetworkTexts.{address_text, cidr_text, inet_text, is_ipv4_compatible};
 ghost use Rattle.pg_base.specs.NetworkTexts.{has_colons, macaddr_text, pair_text};
 ghost use Rattle.pg_base.specs.NumberTexts.{SaysUnsigned};
@@ -92,7 +97,7 @@ impl FromStr for IpInet {
     ghost from_str_gives = { ParsesNetwork NetmaskFits first_fault_netmask };
 
     fn from_str(text: &str) -> Result<IpInet, Fault> {
-        let (address, len) = address_and_netmask(text).ok_or(Fault::user("no network address"))?;
+        let (address, len) = address_and_netmask(text)?;
         IpInet::new(address, len)
     }
 }
@@ -105,23 +110,33 @@ impl FromStr for IpCidr {
     ghost from_str_gives = { ParsesNetwork (λ n. NetmaskFits n × NoHostBits n) first_fault_network };
 
     fn from_str(text: &str) -> Result<IpCidr, Fault> {
-        let (address, len) = address_and_netmask(text).ok_or(Fault::user("no network address"))?;
+        let (address, len) = address_and_netmask(text)?;
         IpCidr::new(address, len)
     }
 }
 
 /// Returns the address and the length of the netmask, which covers all bits of the address if the
-/// text has no `/`.
-fn address_and_netmask(text: &str) -> Option<(IpAddr, u8)>
-    ensures { MatchOption result (SaysNoNetwork text.now) (λ r. SaysNetwork text.now (with_netmask r.0 r.1)) }
+/// text has no `/`. A length that does not fit in a byte is refused with `Netmask`, and any other
+/// wrong text with `User`.
+fn address_and_netmask(text: &str) -> Result<(IpAddr, u8), Fault>
+    ensures says { IfOk result (λ r. SaysNetwork text.now (with_netmask r.0 r.1)) }
+    ensures refused { IfErr result (λ f. RefusesNetwork first_fault_netmask text.now (refusal_of f)) }
+    ensures long { IfErr result (λ _. (n : Network) → SaysNetwork text.now n → 255 < n.masklen) }
 {
     let Some((host, len)) = text.split_once('/') else {
-        let address = parse_address(text)?;
-        return Some((address, address_bits(address)));
+        let address = parse_address(text).ok_or(no_network())?;
+        return Ok((address, address_bits(address)));
     };
-    let address = parse_address(host)?;
+    let address = parse_address(host).ok_or(no_network())?;
     let bits = parse_netmask(len)?;
-    Some((address, bits))
+    Ok((address, bits))
+}
+
+/// Returns the fault of a text that is no network address.
+fn no_network() -> Fault
+    ensures { refusal_of result ≡ Some no_network }
+{
+    Fault::user("no network address")
 }
 
 /// Parses an address.
@@ -131,11 +146,43 @@ fn parse_address(text: &str) -> Option<IpAddr>
     text.parse().ok()
 }
 
-/// Parses the length of a netmask.
-fn parse_netmask(text: &str) -> Option<u8>
-    ensures { MatchOption result ((len : ℕ) → SaysUnsigned text.now len → len < 256 → ⊥) (SaysUnsigned text.now) }
+/// Parses the length of a netmask. One above 255 is refused with `Netmask`, and a text that is no
+/// number with `User`.
+fn parse_netmask(text: &str) -> Result<u8, Fault>
+    ensures says { IfOk result (SaysUnsigned text.now) }
+    ensures refused { IfErr result (λ f. RefusesLength text.now (refusal_of f)) }
 {
-    text.parse().ok()
+    match text.parse() {
+        Ok(len) => Ok(len),
+        Err(_) if is_number(text) => Err(Fault::Netmask),
+        Err(_) => Err(no_network()),
+    }
+}
+
+/// Whether the text is a number in decimal digits.
+fn is_number(text: &str) -> bool
+    ensures { IsTrue result ↔ ((number : ℕ) × SaysUnsigned text.now number) }
+{
+    let digits = without_plus(text.as_bytes());
+    !digits.is_empty() && are_digits(digits)
+}
+
+/// Returns the text without a plus sign at its front.
+fn without_plus(text: &[u8]) -> &[u8]
+    ensures { result.now ≡ without_leading_plus text.now }
+{
+    if !text.is_empty() && text[0] == b'+' {
+        &text[1..]
+    } else {
+        text
+    }
+}
+
+/// Whether each byte is a decimal digit.
+fn are_digits(text: &[u8]) -> bool
+    ensures { result ≡ list_all is_ascii_digit text.now }
+{
+    text.iter().all(|byte| byte.is_ascii_digit())
 }
 
 /// Writes the bytes as two lower-case hexadecimal digits each, with `:` between them

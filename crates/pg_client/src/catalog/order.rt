@@ -1,6 +1,5 @@
-//! The order in which types are made: each one after its parts.
-ghost use Rattle.std.specs.Prelude.{◌≡◌, false, length, IfOk, OnOk};
-ghost use Rattle.pg_client.specs.RowPlaces.{HasPlaces, IsOrderOf};
+//! The order in which types are made, each one after its parts, which saves time: the same types are
+//! made in any order. It also has the rows that contain themselves.
 
 use super::TypeRow;
 use super::kinds::parts;
@@ -11,19 +10,31 @@ use std::collections::BTreeMap;
 /// The order of rows, as indices.
 #[derive(Drop)]
 pub(super) struct Order {
-    /// The rows that can be made, each after its parts.
+    /// The rows that do not contain themselves, each after its parts.
     pub(super) places: Vec<usize>,
-    /// The rows that contain themselves, or a row that does.
-    pub(super) recursive: Vec<usize>,
+    /// For each row, how many of its parts are rows that contain themselves, or a row that does.
+    counts: Vec<usize>,
 }
 
-/// Returns the order of the rows.
-pub(super) fn parts_first(alloc: Global, rows: &[TypeRow<'_>]) -> Result<Order, AllocError>
-    ensures { IfOk result (IsOrderOf (length rows.now)) }
-{
+impl Order {
+    /// Whether the row at this index contains itself, or a row that does.
+    pub(super) fn waits(&self, place: usize) -> bool {
+        match self.counts.get(place) {
+            Some(count) => *count > 0,
+            None => false,
+        }
+    }
+}
+
+/// Returns the order of the rows, by the index of the first row of each OID.
+pub(super) fn parts_first(
+    alloc: Global,
+    rows: &[TypeRow<'_>],
+    firsts: &BTreeMap<Oid, usize>,
+) -> Result<Order, AllocError> {
     let mut users = no_users(alloc, rows.len())?;
-    let mut counts = count_parts(alloc, rows, &mut users)?;
-    let mut places = places_of(alloc, counts.as_slice(), false)?;
+    let mut counts = count_parts(alloc, rows, firsts, &mut users)?;
+    let mut places = ready(alloc, counts.as_slice())?;
     for next in 0..rows.len() {
         let Some(place) = places.get(next) else {
             break;
@@ -33,8 +44,7 @@ pub(super) fn parts_first(alloc: Global, rows: &[TypeRow<'_>]) -> Result<Order, 
         };
         release(users.as_slice(), counts.as_mut_slice(), &mut places)?;
     }
-    let recursive = places_of(alloc, counts.as_slice(), true)?;
-    Ok(Order { places, recursive })
+    Ok(Order { places, counts })
 }
 
 /// Returns an empty list for each of `rows` rows, for the indices of the rows of which it is a
@@ -52,26 +62,15 @@ fn no_users(alloc: Global, rows: usize) -> Result<Vec<Vec<usize>>, AllocError> {
 fn count_parts(
     alloc: Global,
     rows: &[TypeRow<'_>],
+    firsts: &BTreeMap<Oid, usize>,
     users: &mut Vec<Vec<usize>>,
-) -> Result<Vec<usize>, AllocError>
-    ensures { IfOk result (λ counts. length counts.items ≡ length rows.now) }
-{
-    let places = places_by_oid(alloc, rows)?;
+) -> Result<Vec<usize>, AllocError> {
     let mut counts = Vec::new(alloc);
     for row in rows {
-        let count = add_user(counts.len(), parts(row), &places, users)?;
+        let count = add_user(counts.len(), parts(row), firsts, users)?;
         counts.push(count)?;
     }
     Ok(counts)
-}
-
-/// Returns the index of the row of each OID, the first one if there are more.
-fn places_by_oid(alloc: Global, rows: &[TypeRow<'_>]) -> Result<BTreeMap<Oid, usize>, AllocError> {
-    let mut places = BTreeMap::new(alloc);
-    for (place, row) in rows.iter().enumerate() {
-        places.entry(row.oid)?.or_insert(place);
-    }
-    Ok(places)
 }
 
 /// Adds the row at index `place` to the users of those of its parts that are rows. Returns how many
@@ -79,12 +78,12 @@ fn places_by_oid(alloc: Global, rows: &[TypeRow<'_>]) -> Result<BTreeMap<Oid, us
 fn add_user(
     place: usize,
     parts: &[Oid],
-    places: &BTreeMap<Oid, usize>,
+    firsts: &BTreeMap<Oid, usize>,
     users: &mut Vec<Vec<usize>>,
 ) -> Result<usize, AllocError> {
     let mut count = 0;
     for oid in parts {
-        if let Some(part) = places.get(oid) {
+        if let Some(part) = firsts.get(oid) {
             if let Some(users) = users.get_mut(*part) {
                 users.push(place)?;
                 count += 1;
@@ -94,14 +93,11 @@ fn add_user(
     Ok(count)
 }
 
-/// Returns the indices of the rows that wait for parts, according to `counts`, if `wait` is true,
-/// and of the others otherwise.
-fn places_of(alloc: Global, counts: &[usize], wait: bool) -> Result<Vec<usize>, AllocError>
-    ensures { IfOk result (λ places. HasPlaces wait counts.now places.items) }
-{
+/// Returns the indices of the rows that wait for no part.
+fn ready(alloc: Global, counts: &[usize]) -> Result<Vec<usize>, AllocError> {
     let mut places = Vec::new(alloc);
     for (place, count) in counts.iter().enumerate() {
-        if (*count > 0) == wait {
+        if *count == 0 {
             places.push(place)?;
         }
     }
@@ -109,11 +105,11 @@ fn places_of(alloc: Global, counts: &[usize], wait: bool) -> Result<Vec<usize>, 
 }
 
 /// Records that a part of these rows is made: those that wait for no other part are ready.
-fn release(users: &[usize], counts: &mut [usize], ready: &mut Vec<usize>) -> Result<(), AllocError>
-    ensures length { length counts.new ≡ length counts.old }
-    ensures ready { OnOk result (HasPlaces false counts.old ready.old.items
-        → HasPlaces false counts.new ready.new.items) }
-{
+fn release(
+    users: &[usize],
+    counts: &mut [usize],
+    ready: &mut Vec<usize>,
+) -> Result<(), AllocError> {
     for user in users {
         release_one(*user, counts, ready)?;
     }
@@ -121,11 +117,11 @@ fn release(users: &[usize], counts: &mut [usize], ready: &mut Vec<usize>) -> Res
 }
 
 /// Records that a part of this row is made: it is ready if it waits for no other part.
-fn release_one(user: usize, counts: &mut [usize], ready: &mut Vec<usize>) -> Result<(), AllocError>
-    ensures length { length counts.new ≡ length counts.old }
-    ensures ready { OnOk result (HasPlaces false counts.old ready.old.items
-        → HasPlaces false counts.new ready.new.items) }
-{
+fn release_one(
+    user: usize,
+    counts: &mut [usize],
+    ready: &mut Vec<usize>,
+) -> Result<(), AllocError> {
     let Some(count) = counts.get(user) else {
         return Ok(());
     };

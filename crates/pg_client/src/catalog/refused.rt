@@ -24,7 +24,7 @@ pub enum TypeFault {
     /// Its fields have more names than types, or fewer.
     #[error("fields with other numbers of names and types")]
     Fields,
-    /// Another row has the same OID.
+    /// An earlier row has the same OID, or a type that was added.
     #[error("another row has its OID")]
     Duplicate,
 }

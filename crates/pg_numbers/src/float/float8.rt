@@ -8,7 +8,7 @@ ghost use Rattle.pg_numbers.specs.Floats.{is_float8, number_of};
 ghost use Rattle.postgres_types.specs.Conversion.{BackKept, EveryCell, codes, equal_equivalence, plain_single, refl};
 ghost use Rattle.postgres_types.specs.Laws.NumberBack.{unsigned_lawful};
 
-use crate::catalog::is_catalog_type;
+use crate::catalog::has_oid;
 use postgres_types::private::BytesMut;
 use postgres_types::protocol::{lsn_from_sql, lsn_to_sql};
 use postgres_types::{Fault, Format, FromSql, IsNull, Paired, ToSql, Type, check_type};
@@ -82,7 +82,7 @@ impl From<Float8> for f64 {
 /// Reads FLOAT8: 8 bytes, the bits of the number, big-endian (`float8recv`). Any other length is
 /// refused with `Size`, and NULL with `WasNull`.
 ///
-/// It accepts the simple type `float8` in the schema `pg_catalog`, with the OID 701.
+/// It accepts the type with the OID 701.
 impl<'a> FromSql<'a> for Float8 {
     ghost same = { λ v w. v ≡ w };
 
@@ -105,7 +105,7 @@ impl<'a> FromSql<'a> for Float8 {
     }
 
     fn accepts(ty: &Type) -> bool {
-        is_catalog_type("float8", 701, ty)
+        has_oid(701, ty)
     }
 }
 
@@ -127,7 +127,7 @@ impl ToSql for Float8 {
     }
 
     fn accepts(ty: &Type) -> bool {
-        is_catalog_type("float8", 701, ty)
+        has_oid(701, ty)
     }
 
     fn to_sql_checked(

@@ -7,16 +7,16 @@ ghost use Rattle.pg_numbers.specs.NumericCells.{ReadsNumeric, accepted_numeric, 
 
 use super::Numeric;
 use super::cell::{numeric_from_sql, numeric_to_sql};
-use crate::catalog::is_catalog_type;
+use crate::catalog::has_oid;
 use postgres_types::private::BytesMut;
 use postgres_types::{Fault, Format, FromSql, IsNull, Paired, ToSql, Type, check_type};
 use std::alloc::Global;
 
-/// Whether the type is the simple type `numeric` in the schema `pg_catalog`, with the OID 1700.
+/// Whether the type is NUMERIC.
 fn is_numeric(ty: &Type) -> bool
     ensures { result ≡ accepted_numeric (content ty.now) }
 {
-    is_catalog_type("numeric", 1700, ty)
+    has_oid(1700, ty)
 }
 
 /// Reads NUMERIC: the number of digits, the weight of the first, the sign, the scale and the

@@ -12,7 +12,6 @@ ghost use Rattle.pg_read.specs.ElementReading.{Finishes, GivesElement, Stops};
 
 use super::accepts_list;
 use crate::from_sql::{FromSql, from_sql_nullable};
-use crate::laws::{never_answers_memory, never_answers_memory_at_null};
 use array_slots::{ElementSource, Finish, try_from_source};
 use pg_base::acceptance::element_type;
 use pg_base::fault::Fault;
@@ -146,10 +145,4 @@ impl<'a, 'p, T: FromSql<'a>> Finish for ElementReader<'a, 'p, T> {
             Some(Err(fault)) => Err(fault),
         }
     }
-}
-
-/// An array is read without memory where its elements are, and NULL always.
-pub(crate) fn read_without_memory() {
-    never_answers_memory::<[i32; 2]>();
-    never_answers_memory_at_null::<[String; 2]>();
 }

@@ -6,7 +6,6 @@ ghost use Rattle.pg_base.proofs.SpecialLaws.{special_equivalence, inside_accepte
 ghost use Rattle.pg_read.specs.Laws.Reading.{special_single};
 
 use crate::from_sql::FromSql;
-use crate::laws::{never_answers_memory, never_answers_memory_at_null};
 use jiff::civil;
 use pg_base::acceptance::is_date;
 use pg_base::fault::Fault;
@@ -51,10 +50,4 @@ impl<'a, T: FromSql<'a>> FromSql<'a> for Date<T> {
     fn accepts(ty: &PgType) -> bool {
         is_date(ty) && T::accepts(ty)
     }
-}
-
-/// A `Date` is read without memory where its date is, and NULL always.
-pub(crate) fn read_without_memory() {
-    never_answers_memory::<Date<civil::Date>>();
-    never_answers_memory_at_null::<Date<String>>();
 }

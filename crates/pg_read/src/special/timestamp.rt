@@ -6,7 +6,6 @@ ghost use Rattle.pg_base.proofs.SpecialLaws.{special_equivalence, inside_accepte
 ghost use Rattle.pg_read.specs.Laws.Reading.{special_single};
 
 use crate::from_sql::FromSql;
-use crate::laws::{never_answers_memory, never_answers_memory_at_null};
 use pg_base::acceptance::is_timestamp;
 use pg_base::fault::Fault;
 use pg_base::protocol::timestamp_from_sql;
@@ -52,10 +51,4 @@ impl<'a, T: FromSql<'a>> FromSql<'a> for Timestamp<T> {
     fn accepts(ty: &PgType) -> bool {
         is_timestamp(ty) && T::accepts(ty)
     }
-}
-
-/// A `Timestamp` is read without memory where its timestamp is, and NULL always.
-pub(crate) fn read_without_memory() {
-    never_answers_memory::<Timestamp<UnixTime>>();
-    never_answers_memory_at_null::<Timestamp<String>>();
 }

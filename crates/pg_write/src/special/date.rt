@@ -3,7 +3,6 @@ ghost use Rattle.std.specs.Prelude.{true, codes};
 ghost use Rattle.std.specs.Int.{w32};
 ghost use Rattle.pg_base.specs.Special.{InfinityOr, accepted_date, date_view, wire_special};
 
-use crate::laws::keeps_room_rule;
 use crate::to_sql::{ToSql, check_type};
 use bytes::BytesMut;
 use jiff::civil;
@@ -55,9 +54,4 @@ impl<T: ToSql> ToSql for Date<T> {
     fn encode_format(&self, _ty: &PgType) -> Format {
         Format::Binary
     }
-}
-
-/// A `Date` keeps the room rule where its date does.
-pub(crate) fn keep_room_rule() {
-    keeps_room_rule::<Date<civil::Date>>();
 }

@@ -3,7 +3,6 @@ ghost use Rattle.std.specs.Prelude.{true, codes};
 ghost use Rattle.std.specs.Int.{w64};
 ghost use Rattle.pg_base.specs.Special.{InfinityOr, accepted_timestamp, timestamp_view, wire_special};
 
-use crate::laws::keeps_room_rule;
 use crate::to_sql::{ToSql, check_type};
 use bytes::BytesMut;
 use pg_base::acceptance::is_timestamp;
@@ -56,9 +55,4 @@ impl<T: ToSql> ToSql for Timestamp<T> {
     fn encode_format(&self, _ty: &PgType) -> Format {
         Format::Binary
     }
-}
-
-/// A `Timestamp` keeps the room rule where its timestamp does.
-pub(crate) fn keep_room_rule() {
-    keeps_room_rule::<Timestamp<UnixTime>>();
 }

@@ -63,12 +63,58 @@ fn unknown_parts_are_named(rt: HostRuntime) -> Result<(), Fail> {
     rows.push(row(alloc, 105, "point", b'b', 0, 0))?;
     let expected = [
         (101, TypeFault::Unknown(999)),
+        (102, TypeFault::Unknown(101)),
         (103, TypeFault::Unknown(998)),
         (104, TypeFault::Unknown(0)),
-        (102, TypeFault::Unknown(101)),
     ];
     let catalog = refuses(alloc, rows.as_slice(), &expected)?;
     holds(catalog.get(105).is_some(), "no other type")
+}
+
+#[test]
+fn the_first_row_of_an_oid_is_used(rt: HostRuntime) -> Result<(), Fail> {
+    let alloc = rt.alloc();
+    let mut rows = Vec::new(alloc);
+    rows.push(composite(alloc, 101, "first", &[("a", 102)])?)?;
+    rows.push(row(alloc, 101, "second", b'b', 0, 0))?;
+    rows.push(row(alloc, 102, "part", b'b', 0, 0))?;
+    rows.push(row(alloc, 23, "int4", b'b', 0, 0))?;
+    rows.push(row(alloc, 101, "third", b'd', 0, 103))?;
+    rows.push(row(alloc, 23, "int4", b'b', 0, 0))?;
+    let later = [101, 101, 23].map(|oid| (oid, TypeFault::Duplicate));
+    let catalog = refuses(alloc, rows.as_slice(), &later)?;
+    let Some(first) = catalog.get(101) else {
+        return Err(Fail::from("no first"));
+    };
+    same(first.name() == "first", true)?;
+    let mut texts = catalog.refused().iter();
+    match texts.next() {
+        Some(second) => displays(
+            alloc,
+            second,
+            "type \"second\" (OID 101): another row has its OID",
+        ),
+        None => Err(Fail::from("none refused")),
+    }
+}
+
+#[test]
+fn a_refused_first_row_keeps_its_oid(rt: HostRuntime) -> Result<(), Fail> {
+    let alloc = rt.alloc();
+    let mut rows = Vec::new(alloc);
+    rows.push(row(alloc, 101, "first", b'a', 999, 0))?;
+    rows.push(row(alloc, 101, "second", b'b', 0, 0))?;
+    rows.push(row(alloc, 102, "of_both", b'd', 0, 101))?;
+    let expected = [
+        (101, TypeFault::Unknown(999)),
+        (101, TypeFault::Duplicate),
+        (102, TypeFault::Unknown(101)),
+    ];
+    let catalog = refuses(alloc, rows.as_slice(), &expected)?;
+    holds(
+        catalog.get(101).is_none() && catalog.get(102).is_none(),
+        "a type of a refused row",
+    )
 }
 
 #[test]

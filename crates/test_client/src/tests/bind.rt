@@ -13,7 +13,7 @@ const BEFORE: [u8; 2] = [0, 0];
 #[test]
 fn no_parameters_are_bound(rt: HostRuntime) -> Result<(), Fail> {
     let mut out = BytesMut::copy_from_slice(rt.alloc(), &BEFORE)?;
-    Bind::new(rt.alloc(), &mut out)?.finish()?;
+    Bind::new(&mut out)?.finish()?;
     same(out.as_slice(), &[0, 0, 0, 1, 0, 1, 0, 0, 0, 1, 0, 1])
 }
 
@@ -21,7 +21,7 @@ fn no_parameters_are_bound(rt: HostRuntime) -> Result<(), Fail> {
 fn owned_and_borrowed_values_are_bound(rt: HostRuntime) -> Result<(), Fail> {
     let alloc = rt.alloc();
     let mut out = BytesMut::copy_from_slice(alloc, &BEFORE)?;
-    let mut bind = Bind::new(alloc, &mut out)?;
+    let mut bind = Bind::new(&mut out)?;
     bind.push(&7i32, &Type::INT4)?;
     bind.push(&"ja", &Type::TEXT)?;
     bind.push(&None::<String>, &Type::TEXT)?;
@@ -39,7 +39,7 @@ fn owned_and_borrowed_values_are_bound(rt: HostRuntime) -> Result<(), Fail> {
 fn a_refused_parameter_leaves_those_before(rt: HostRuntime) -> Result<(), Fail> {
     let alloc = rt.alloc();
     let mut out = BytesMut::new(alloc);
-    let mut bind = Bind::new(alloc, &mut out)?;
+    let mut bind = Bind::new(&mut out)?;
     bind.push(&true, &Type::BOOL)?;
     let text =
         "parameter 2: cannot convert between the Rust type `bool` and the Postgres type `text`";
@@ -54,7 +54,7 @@ fn a_refused_parameter_leaves_those_before(rt: HostRuntime) -> Result<(), Fail> 
 fn a_parameter_in_text_format_is_refused(rt: HostRuntime) -> Result<(), Fail> {
     let alloc = rt.alloc();
     let mut out = BytesMut::new(alloc);
-    let mut bind = Bind::new(alloc, &mut out)?;
+    let mut bind = Bind::new(&mut out)?;
     let text = "parameter 1: parameter in text format";
     refused(alloc, bind.push(&Word("ja"), &Type::TEXT), text)?;
     bind.finish()?;
@@ -65,7 +65,7 @@ fn a_parameter_in_text_format_is_refused(rt: HostRuntime) -> Result<(), Fail> {
 fn one_parameter_too_many_is_refused(rt: HostRuntime) -> Result<(), Fail> {
     let alloc = rt.alloc();
     let mut out = BytesMut::new(alloc);
-    let mut bind = Bind::new(alloc, &mut out)?;
+    let mut bind = Bind::new(&mut out)?;
     for _ in 0..MAX_PARAMS {
         bind.push(&None::<i32>, &Type::INT4)?;
     }
@@ -80,8 +80,8 @@ fn one_parameter_too_many_is_refused(rt: HostRuntime) -> Result<(), Fail> {
 }
 
 /// Binds one int4.
-fn bind_number(alloc: Global, number: i32, out: &mut BytesMut) -> Result<(), PlacedFault> {
-    let mut bind = Bind::new(alloc, out)?;
+fn bind_number(number: i32, out: &mut BytesMut) -> Result<(), PlacedFault> {
+    let mut bind = Bind::new(out)?;
     bind.push(&number, &Type::INT4)?;
     bind.finish()
 }
@@ -89,12 +89,12 @@ fn bind_number(alloc: Global, number: i32, out: &mut BytesMut) -> Result<(), Pla
 /// Binds one int4 into a buffer with `room` spare bytes while every allocation fails: returns the
 /// result, and what was appended.
 fn bind_into(alloc: Global, room: usize) -> Result<(Result<(), PlacedFault>, Vec<u8>), Fail> {
-    bind_number(alloc, 7, &mut BytesMut::new(alloc))?;
+    bind_number(7, &mut BytesMut::new(alloc))?;
     let mut out = BytesMut::with_capacity(alloc, 64)?;
     let before = out.capacity().saturating_sub(room);
     out.resize(before, 0)?;
     let blocks = hoard(alloc)?;
-    let bound = bind_number(alloc, 7, &mut out);
+    let bound = bind_number(7, &mut out);
     drop(blocks);
     let appended = out.as_slice().get(before..).ok_or("fewer bytes")?;
     Ok((bound, appended.to_vec(alloc)?))

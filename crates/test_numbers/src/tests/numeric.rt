@@ -4,14 +4,14 @@ mod integers;
 
 use pg_numbers::types::{numeric_array_type, numeric_type};
 use pg_numbers::{Decimal, Numeric};
-use postgres_types::{Fault, Kind, Type};
+use postgres_types::{Fault, Type};
 use std::alloc::Global;
 use std::cmp::Ordering;
 use std::test::Fail;
 use test_support::code::{SIZE, TRANSMIT, USER, WAS_NULL};
 use test_support::{
     accepts, displays, fault_code, read, reads, refuses, refuses_fronts, refuses_type, rewrites,
-    same, simple_type, user_type, writes, writes_null,
+    same, simple_type, writes, writes_null,
 };
 
 /// A number: whether it is negative, its weight, its scale and its digits.
@@ -213,18 +213,12 @@ fn a_refusal_has_its_text(rt: HostRuntime) -> Result<(), Fail> {
 }
 
 #[test]
-fn the_type_numeric_alone_is_accepted(rt: HostRuntime) -> Result<(), Fail> {
+fn the_oid_is_accepted(rt: HostRuntime) -> Result<(), Fail> {
     let alloc = rt.alloc();
-    let domain = Kind::Domain(numeric_type(alloc)?);
     accepts::<Numeric>(&[
         (numeric_type(alloc)?, true),
-        (simple_type(alloc, "numeric", 1700, "public")?, false),
-        (simple_type(alloc, "Numeric", 1700, "pg_catalog")?, false),
-        (simple_type(alloc, "numeric", 1231, "pg_catalog")?, false),
-        (
-            user_type(alloc, "numeric", 1700, domain, "pg_catalog")?,
-            false,
-        ),
+        (simple_type(alloc, "decimal", 1700, "")?, true),
+        (simple_type(alloc, "numeric", 16_384, "pg_catalog")?, false),
         (numeric_array_type(alloc)?, false),
         (Type::INT8, false),
     ])?;

@@ -218,3 +218,16 @@ fn bits_have_debug_texts(rt: HostRuntime) -> Result<(), Fail> {
     let bits = varbit_from_sql(&[0, 0, 0, 3, 0xa0])?;
     debugs(alloc, &bits, "Varbit { len: 3, bytes: [160] }")
 }
+
+#[test]
+fn long_bit_strings_are_copied(rt: HostRuntime) -> Result<(), Fail> {
+    let alloc = rt.alloc();
+    for len in [9, 125_000] {
+        let mut bytes = Vec::new(alloc);
+        bytes.resize(len, 0xa5)?;
+        let bits = BitVec::from_bytes(alloc, bytes.as_slice())?;
+        let copy = bits.clone()?;
+        holds(copy == bits, "another copy")?;
+    }
+    Ok(())
+}

@@ -47,7 +47,7 @@ const OTHER_INETS: [(&str, &str); 4] = [
 ];
 
 /// Texts that are no address with a netmask, and their faults.
-const NO_INETS: [(&str, u32); 10] = [
+const NO_INETS: [(&str, u32); 12] = [
     ("", USER),
     ("/8", USER),
     ("10.1.2.3/", USER),
@@ -55,7 +55,9 @@ const NO_INETS: [(&str, u32); 10] = [
     ("10.1.2.3/8/8", USER),
     ("10.1.2/8", USER),
     ("10.1.2.256", USER),
-    ("10.1.2.3/256", USER),
+    ("10.1.2.3/256", NETMASK),
+    ("10.1.2.3/+0000000000000000000000256", NETMASK),
+    ("10.1.2.3/256x", USER),
     ("10.1.2.3/33", NETMASK),
     ("::1/129", NETMASK),
 ];

@@ -10,8 +10,12 @@ use test_support::{hoard, holds, same};
 /// The number of cells at the front of the slice.
 const COUNT: usize = 100;
 
-/// The frame of the INT4 7.
-const SEVEN: [u8; 8] = [0, 0, 0, 4, 0, 0, 0, 7];
+/// The frame of the TEXT `a`. Only the first cell is longer, so that the list has room for few more at
+/// first, and grows.
+const SHORT: [u8; 5] = [0, 0, 0, 1, b'a'];
+
+/// The length prefix of the first cell, and its length.
+const LONG: ([u8; 4], usize) = ([0, 0, 1, 0x91], 401);
 
 /// Reads the values, and after each run in which an allocation failed frees some of the memory,
 /// until all values are read. Records the number of cells before the position of the slice after a
@@ -24,15 +28,15 @@ fn read_while_refused(
 ) -> Result<(), Fail> {
     for _ in 0..100_000 {
         let mut buf = frames;
-        match read_values::<i32>(alloc, &Type::INT4, COUNT, &mut buf) {
+        match read_values::<&str>(alloc, &Type::TEXT, COUNT, &mut buf) {
             Ok(values) => {
                 same(values.len(), COUNT)?;
                 return same(buf, &[]);
             }
             Err(fault) => same(fault.code(), MEMORY)?,
         }
-        same(buf.len() % SEVEN.len(), 0)?;
-        let place = COUNT.saturating_sub(buf.len() / SEVEN.len());
+        same(buf.len() % SHORT.len(), 0)?;
+        let place = COUNT.saturating_sub(buf.len() / SHORT.len());
         if places.last() != Some(&place) {
             places.push(place)?;
         }
@@ -41,7 +45,7 @@ fn read_while_refused(
     Err(Fail::from("memory is always refused"))
 }
 
-/// Returns blocks of the sizes to which a list of INT4 grows, from 16 bytes on, the smallest last.
+/// Returns blocks of the sizes to which a list of texts grows, from 16 bytes on, the smallest last.
 fn growing_blocks(alloc: Global) -> Result<Vec<Vec<u8>>, Fail> {
     let mut blocks = Vec::with_capacity(alloc, 8)?;
     for halvings in 0..8u32 {
@@ -60,9 +64,11 @@ fn hoard_before_blocks(alloc: Global) -> Result<Vec<Vec<u8>>, Fail> {
 
 /// Returns the frames of the cells.
 fn frames(alloc: Global) -> Result<Vec<u8>, Fail> {
-    let mut frames = Vec::with_capacity(alloc, COUNT * SEVEN.len())?;
-    for _ in 0..COUNT {
-        frames.extend_from_slice(&SEVEN)?;
+    let (prefix, len) = LONG;
+    let mut frames = Vec::from_slice(alloc, &prefix)?;
+    frames.resize(prefix.len() + len, b'a')?;
+    for _ in 1..COUNT {
+        frames.extend_from_slice(&SHORT)?;
     }
     Ok(frames)
 }

@@ -5,6 +5,4 @@ use Rattle.pg_base.proofs.calendar.datetime_of.Goals as goal
 
 pub returns : goal.returns
 returns c =
-    let timestamp = c.new.ensures (omega (arith, signed_casts)) in
-    let same = timestamp.5 in
-    (timestamp.0, timestamp.1, timestamp.2, timestamp.3, timestamp.4, omega (arith, signed_casts))
+    let same = c.new.ensures.2 in (c.new.ensures.0, c.new.ensures.1, omega (arith, signed_casts))

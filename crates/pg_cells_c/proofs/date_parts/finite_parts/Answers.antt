@@ -5,7 +5,6 @@ use Rattle.pg_cells_c.proofs.date_parts.finite_parts.Goals as goal
 
 pub returns : goal.returns
 returns c =
-    let timestamp = c.new.ensures (omega (arith, signed_casts)) in
     let year : to_z w64 (of_z w64 c.new.result.date.year) ≡ c.new.result.date.year = search rules in
-    let same = timestamp.5 in
-    rw year (timestamp.0, timestamp.1, timestamp.2, timestamp.3, timestamp.4, omega (arith, signed_casts))
+    let same = c.new.ensures.2 in
+    rw year (c.new.ensures.0, c.new.ensures.1, omega (arith, signed_casts))

@@ -29,7 +29,7 @@ returns-in_default-clause-frames g c =
 
 pub returns-in_err-from_sql-in-Some-clause-run : goal.returns-in_err-from_sql-in-Some-clause-run
 returns-in_err-from_sql-in-Some-clause-run g c =
-    let p = err_from_is_err_and c.from_residual.result c.from_residual.ensures.1 in
+    let p = err_from_is_err_and c.from_residual-in_err-from_sql-in-Some.result c.from_residual-in_err-from_sql-in-Some.ensures.1 in
     let so_far = c.loop.invariant in
     let taken = rw c.in-Some.is at c.in-Ok.ensures in
     rw (p.1, p.2) (run_stops (λ (v : Vec g.row.T.Denot Global). v.items) (g.T.FromSql.reads (content c.args.type_.now))
@@ -44,7 +44,7 @@ returns-in_err-from_sql-in-Some-clause-frames g c =
     let single = (g.met.T.FromSql c.lifetimes k).single (content c.args.type_.now) c.requires in
     run_frames (λ (v : Vec g.row.T.Denot Global). v.items) g.T.FromSql.same
     (g.T.FromSql.reads (content c.args.type_.now)) single c.args.buf.now.now
-    c.read_cell.new.buf.now c.args.n c.from_residual.result (returns-in_err-from_sql-in-Some-clause-run g c)
+    c.read_cell.new.buf.now c.args.n c.from_residual-in_err-from_sql-in-Some.result (returns-in_err-from_sql-in-Some-clause-run g c)
 
 pub returns-in_err-push-in-Some-clause-run : goal.returns-in_err-push-in-Some-clause-run
 returns-in_err-push-in-Some-clause-run g c =
@@ -88,6 +88,15 @@ returns-in_err-push-in-None-clause-run g c =
     (spelled_next reads c.args.buf.now.now so_far.0 c.loop.values.items c.loop.buf.now so_far.2 taken.0
     None c.read_cell.new.buf.now taken.1 taken.2)
     (omega (arith, so_far.1)) c.holds_bytes.ensures (ap refusal_of p.2))
+
+pub returns-in_err-values-clause-frames : goal.returns-in_err-values-clause-frames
+returns-in_err-values-clause-frames g c =
+    let k : g.claim c.lifetimes = assumption c.well_formed in
+    let single = (g.met.T.FromSql c.lifetimes k).single (content c.args.type_.now) c.requires in
+    let p = err_from_is_err_and c.from_residual.result c.from_residual.ensures.1 in
+    run_frames (λ (v : Vec g.row.T.Denot Global). v.items) g.T.FromSql.same
+    (g.T.FromSql.reads (content c.args.type_.now)) single c.args.buf.now.now
+    c.read_first.new.buf.now c.args.n c.from_residual.result (rw (p.1, p.2) c.in_err-values.ensures.stops)
 
 pub loop-preserved : goal.loop-preserved
 loop-preserved g c =

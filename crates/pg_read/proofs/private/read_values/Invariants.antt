@@ -2,7 +2,7 @@
 use Rattle.std.proofs.Common.{◌≡◌, List, length}
 use Rattle.pg_base.specs.Cells.{Cell}
 use Rattle.pg_types.specs.Content.{content}
-use Rattle.pg_read.proofs.RunSteps.{HaveBeenRead}
+use Rattle.pg_read.specs.RunReading.{HaveBeenRead}
 use Rattle.pg_read.proofs.private.read_values.Given as goal
 
 -- the cells so far, and that the list has what they give

@@ -1,6 +1,6 @@
 -- What the proof of `parse_micros` answers by hand.
 use Rattle.std.proofs.Common.{rules, refl, ◌≡◌, w64, pos, ◌+ℤ◌, ◌*ℤ◌, to_z, of_z}
-use Rattle.std.proofs.lemmas.Option.{IfSome_then}
+use Rattle.pg_calendar.proofs.Outcomes.{MatchOption_then}
 use Rattle.pg_text.proofs.date_forms.parse_micros.Goals as goal
 
 pub returns : goal.returns
@@ -8,7 +8,7 @@ returns c =
     let date = c.in_ok-parse_datetime.field-0.date in
     let clock = c.in_ok-parse_datetime.field-0.clock in
     let day : to_z w64 (of_z w64 c.args.day) ≡ c.args.day = search rules in
-    IfSome_then c.micros_from.result (rw day at c.micros_from.ensures)
+    MatchOption_then c.micros_from.result (rw day at c.micros_from.ensures) (λ _. tt)
     (λ micros timestamp. (
       date.year,
       micros +ℤ c.args.day *ℤ pos 86_400_000_000,

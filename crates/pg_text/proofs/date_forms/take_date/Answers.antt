@@ -22,5 +22,6 @@ returns c =
           (subst (TakesDigits a m.month m.month_len) c.in_ok-expect-2.ensures m.ensures),
       omega arith,
       c.in_ok-day.ensures,
+      omega arith,
       year,
     )

@@ -25,5 +25,6 @@ returns c =
       subst (TakesDigits a month 2) c.in_ok-expect-2.ensures c.in_ok-month.ensures.digits,
       omega arith,
       (2, c.in_ok-day.ensures.digits),
+      omega arith,
       year,
     )

@@ -1,6 +1,6 @@
 //! Tests of streams that move in pieces, or fail.
 
-use super::{Outcome, columns, make_narrow, make_pieces};
+use super::{HEADER, Outcome, TRAILER, columns, make_narrow, make_pieces};
 use crate::tests::fake_streams::{Disturbed, Narrow, Pieces, ROOM};
 use pg_copy::columns::Column;
 use pg_copy::copy_fault::CopyFault;
@@ -35,6 +35,24 @@ fn pieces_of_a_stream_change_no_line(rt: HostRuntime) -> Result<(), Fail> {
         same(output.inner.taken.as_slice(), LINES)?;
     }
     Ok(())
+}
+
+#[test]
+fn a_million_reads_of_one_byte_are_one_copy(rt: HostRuntime) -> Result<(), Fail> {
+    let alloc = rt.alloc();
+    let columns = columns(alloc, &["int4"])?;
+    let mut stream = Vec::from_slice(alloc, HEADER)?;
+    let mut lines = Vec::new(alloc);
+    for _ in 0..170_000 {
+        stream.extend_from_slice(b"\0\x01\xff\xff\xff\xff")?;
+        lines.extend_from_slice(b"\\N\n")?;
+    }
+    stream.extend_from_slice(TRAILER)?;
+    let (rest, step, left) = (stream.as_slice(), 1, usize::MAX);
+    let mut input = Pieces { rest, step, left };
+    let mut output = Narrow::new(alloc, ROOM, ROOM);
+    read(alloc, columns.as_slice(), &mut input, &mut output)?;
+    same(output.taken.as_slice(), lines.as_slice())
 }
 
 #[test]

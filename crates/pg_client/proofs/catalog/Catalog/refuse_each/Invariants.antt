@@ -1,12 +1,13 @@
 -- What the rows so far leave.
-use Rattle.std.proofs.Common.{take}
+use Rattle.std.proofs.Common.{◌≡◌, take}
+use Rattle.std.specs.List.{AllZip}
 use Rattle.pg_client.specs.CatalogTypes.{refused_of, table_of}
-use Rattle.pg_client.specs.WholeCatalogs.{AreToldAt, Keeps}
+use Rattle.pg_client.specs.WholeCatalogs.{IsRefusal}
 use Rattle.pg_client.proofs.catalog.Catalog.refuse_each.Given as goal
 
--- each of them is told, and what there was is kept
-abbrev pub invariant-loop-place : goal.invariant-loop-place
-invariant-loop-place l = record {
-  told : AreToldAt (table_of l.self) (refused_of l.self) l.rows (take l.place-index l.places);
-  keeps : Keeps l.rows (table_of l.initial.self) (refused_of l.initial.self) (table_of l.self) (refused_of l.self);
+-- they are the refused ones, and the types stay
+abbrev pub invariant-loop-row : goal.invariant-loop-row
+invariant-loop-row l = record {
+  types : table_of l.self ≡ table_of l.initial.self;
+  refused : AllZip (λ row. IsRefusal (table_of l.self) l.rows row.place) (take l.row-index l.left) (refused_of l.self);
 }

@@ -18,7 +18,7 @@ returns c =
     let whole : v.secs *ℤ pos 1_000_000 +ℤ pos (v.nanos / 1_000) ≡ int_div_euclid (nanos_of v) (pos 1000) =
     omega (arith, signed_casts) in
     let text = text_of_timestamp [] at.date.year at.date.month at.date.day at.clock.hour at.clock.minute
-    at.clock.second at.clock.micros _ (c.new.ensures (omega arith)) in
+    at.clock.second at.clock.micros _ c.new.ensures in
     let micros = text ∙ ap (micros_text [])
     ((λ t. secs t *ℤ pos 1_000_000 +ℤ pos (same t / 1_000)) ∙ whole) in
     OnOk_then c.push_datetime.result c.push_datetime.ensures (λ e. e ∙ ap (λ t. c.args.out.now.items ++ t) micros)

@@ -1,6 +1,7 @@
 -- What the proof of `from_str` answers by hand.
 use Rattle.std.proofs.Common.{rules}
-use Rattle.pg_base.proofs.NetworkParses.{fit_passes, parses}
+use Rattle.std.proofs.lemmas.Result.{err_from_is_err_and}
+use Rattle.pg_base.proofs.NetworkParses.{fit_passes, long_netmask, parses, parses_none, too_long}
 use Rattle.pg_base.specs.Network.{NetmaskFits, first_fault_netmask, with_netmask}
 use Rattle.pg_base.proofs.network.text.IpInetFromStr.from_str.Goals as goal
 
@@ -9,3 +10,9 @@ returns c =
     parses NetmaskFits first_fault_netmask fit_passes c.args.text.now
     (with_netmask c.in_ok-address.address c.in_ok-address.len) c.new.result (search rules) c.new.ensures.outcome
     c.new.ensures.never_memory
+
+pub returns-in_err-address : goal.returns-in_err-address
+returns-in_err-address c =
+    let p = err_from_is_err_and c.from_residual.result c.from_residual.ensures.1 in
+    rw (p.1, p.2) (parses_none NetmaskFits first_fault_netmask (λ n long. (too_long n long, long_netmask n long))
+    c.args.text.now c.in_err-address.field-0.0 c.in_err-address.ensures.long c.in_err-address.ensures.refused)

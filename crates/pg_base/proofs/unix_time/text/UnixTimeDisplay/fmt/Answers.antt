@@ -15,6 +15,6 @@ returns-clause-writes g c = λ plain ok.
     let whole : v.secs *ℤ pos 1_000_000 +ℤ pos (v.nanos / 1_000) ≡ int_div_euclid (nanos_of v) (pos 1000) =
     omega (arith, signed_casts) in
     let text = text_of_timestamp [] at.date.year at.date.month at.date.day at.clock.hour at.clock.minute
-    at.clock.second at.clock.micros _ (c.new.ensures (omega arith)) in
+    at.clock.second at.clock.micros _ c.new.ensures in
     rw (text ∙ ap (micros_text []) (ap (λ s. s *ℤ pos 1_000_000 +ℤ pos (v.nanos / 1_000)) secs ∙ whole))
     at c.write_timestamp.ensures plain ok

@@ -1,0 +1,2 @@
+-- Definitions of what the program leaves.
+pub mod Outputs
