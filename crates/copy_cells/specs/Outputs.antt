@@ -2,13 +2,13 @@
 use Rattle.std.specs.Prelude.{◌≢◌, ℕ, List, Option}
 use Rattle.streams.specs.Answers.{LinesAre}
 use Rattle.pg_tuples.specs.Tuples.{IsNoCopy}
-use Rattle.pg_copy.specs.Outputs.{EndsIn, WritesWhole}
+use Rattle.pg_copy.specs.Outputs.{EndsIn, WritesPart, WritesWhole}
 use Rattle.pg_copy.specs.Refusals.{StopsAfter}
-use Rattle.pg_copy.specs.Rows.{IsCopyOf, IsFaultLine, OfInput}
-use Rattle.pg_copy.specs.WrittenRows.{CopyOf}
+use Rattle.pg_copy.specs.Rows.{IsCopyOf, IsFaultLine, OfInput, StartsCopyOf}
+use Rattle.pg_copy.specs.WrittenRows.{CopyOf, Stops}
 use Rattle.pg_copy.specs.declared.columns.Column.{Column}
 use Rattle.pg_copy.specs.declared.copy_fault.CopyFault.{CopyFault}
-use Rattle.pg_copy.specs.declared.copy_fault.CopyFault.TheVariants.{TooManyColumns}
+use Rattle.pg_copy.specs.declared.copy_fault.CopyFault.TheVariants as fault
 use Rattle.copy_cells.specs.declared.Direction.{Direction}
 use Rattle.copy_cells.specs.declared.Direction.TheVariants.{Read, Write}
 
@@ -18,9 +18,15 @@ Converts Read columns input old new = OfInput input (λ bytes. WritesWhole (IsCo
 Converts Write columns input old new =
     (lines : List (List ℕ)) × LinesAre input lines × WritesWhole (CopyOf columns lines) old new
 
--- a fault stops it, and no server loads the output: after the lines of the rows before it comes that of the fault, or
--- the bytes are no binary COPY
-abbrev pub Stops : Direction → List Column → CopyFault → Option (List ℕ) → Option (List ℕ) → Option (List ℕ) → Type 0
-Stops Read columns fault input old new = OfInput input (λ bytes.
-    WritesWhole (EndsIn (λ lines. StopsAfter columns bytes lines fault) IsFaultLine) old new)
-Stops Write columns fault input old new = fault ≢ TooManyColumns → WritesWhole IsNoCopy old new
+-- what is left where a fault stops it: the lines of the rows before the fault, and that of the fault; or what is no
+-- binary COPY, with the tuples of the lines before it. A failed write leaves a prefix
+abbrev pub Leaves : Direction → List Column → CopyFault → Option (List ℕ) → Option (List ℕ) → Option (List ℕ)
+    → Option (List ℕ) → Type 0
+Leaves Read columns e input left old new =
+    OfInput input (λ bytes. WritesPart (EndsIn (StartsCopyOf columns bytes) IsFaultLine) old new)
+    × (e ≢ fault.Write
+    → OfInput input (λ bytes. WritesWhole (EndsIn (StartsCopyOf columns bytes) IsFaultLine) old new)
+    × OfInput input (λ bytes. WritesWhole (EndsIn (λ lines. StopsAfter columns bytes lines e) IsFaultLine) old new))
+Leaves Write columns e input left old new =
+    Stops columns input left old new e
+    × (e ≢ fault.TooManyColumns → e ≢ fault.Write → WritesWhole IsNoCopy old new)

@@ -5,8 +5,8 @@
 //! error says why. If standard error is a terminal, it shows the progress of the COPY.
 #![tactic(auto)]
 
-ghost use Rattle.std.specs.Prelude.{◌≢◌, IfErr, OnOk};
-ghost use Rattle.copy_cells.specs.Outputs.{Converts, Stops};
+ghost use Rattle.std.specs.Prelude.{IfErr, OnOk};
+ghost use Rattle.copy_cells.specs.Outputs.{Converts, Leaves};
 
 mod progress;
 
@@ -59,8 +59,7 @@ enum Direction {
 }
 
 impl Direction {
-    /// Converts the input. After a fault no server loads the output; after a failed write it is a
-    /// prefix of what is written otherwise.
+    /// Converts the input. After a fault it leaves what no server loads, as `read` and `write` do.
     fn copy<R: io::Read, W: io::Write>(
         self,
         alloc: Global,
@@ -70,7 +69,7 @@ impl Direction {
     ) -> Result<(), CopyFault>
         ensures ok { OnOk result (Converts self columns.now (R.remaining input.old) (W.contents output.old)
             (W.contents output.new)) }
-        ensures err { IfErr result (λ e. e ≢ CopyFault.Write → Stops self columns.now e (R.remaining input.old)
+        ensures err { IfErr result (λ e. Leaves self columns.now e (R.remaining input.old) (R.remaining input.new)
             (W.contents output.old) (W.contents output.new)) }
     {
         match self {

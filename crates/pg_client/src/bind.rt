@@ -40,8 +40,8 @@ pub struct Bind<'b> {
 }
 
 impl<'b> Bind<'b> {
-    ghost use Rattle.pg_client.specs.Binding.{Binds, BindsMore, HoldsBind, PushesFrame, count_of, keeps_if_refused, out_of};
-    ghost use Rattle.pg_client.specs.Binding.{param_wire};
+    ghost use Rattle.pg_client.specs.Binding.{Binds, BindsMore, HoldsBind, PushesFrame};
+    ghost use Rattle.pg_client.specs.Binding.{count_of, keeps_if_refused, out_of, param_wire};
 
     /// Starts an empty list of parameters at the end of the buffer. `Memory`, at [`Place::Bind`],
     /// leaves its bytes as they were.
@@ -115,13 +115,13 @@ impl<'b> Bind<'b> {
         ensures err { IfErr result (λ fault. (self.exit.0.now.items ≡ (out_of self.entry).now.items)
             × (fault ≡ record { place = Place.Bind; fault = Fault.Memory })) }
     {
-        let Bind { out, at, count, .. } = self;
+        let Bind { out, at, count } = self;
         end(at, count, out)
     }
 }
 
-/// Appends the format code and the bytes of the number of parameters, and returns the offset of
-/// these.
+/// Appends the format code of the parameters and 0 as their number, and returns the offset of the
+/// number.
 fn push_head(out: &mut BytesMut) -> Result<usize, PlacedFault>
     ensures ok { IfOk result (λ at. (at ≡ length out.old.items + 4)
         × (out.new.items ≡ out.old.items ++ HEAD)) }

@@ -3,6 +3,7 @@ pub mod ElementCells
 pub mod Insertion
 mod ElementFrames
 mod KeyOrder
+pub mod ListRoom
 mod ParamFrames
 mod ParamLists
 mod ParamRoom

@@ -42,6 +42,16 @@ module _ {A : Type 0} (f : A → Wire) (vs : List A) (i : ℕ) (v : A) (h : i < 
         refl,
       )
 
+  -- there was no room for its frame, so that there was none for all
+  pub had_no_room : (start now : Filled) → KeepsCapacity start now → FramesFollow f (take i vs) start.items now.items
+      → (o : Option Refusal) → IfNone o (now.spare < frame_len (f v)) → IfNone o (start.spare < frames_len f vs)
+  had_no_room start now kept so_far o short =
+      let bytes = frames_take f (take i vs) so_far.cells so_far.bytes so_far.cells_are so_far.frames_are in
+      let enough = frames_before f vs i v h is in
+      let items : length now.items ≡ length start.items + length so_far.bytes =
+      ap length so_far.is ∙ length-append start.items so_far.bytes in
+      if_none_then o (λ k. omega (arith, k, kept, bytes, enough, items)) short
+
 is_ok : {A : Type 0} (r : Outcome A) (a : A) → r ≡ Ok a → IsOk r
 is_ok (Ok x) a e = refl
 is_ok (Err x) a e = let no : ⊥ = cc in absurd no
@@ -76,12 +86,10 @@ module _ {A B : Type 0} (f : A × B → Wire) (xs : List A) (ys : List B) (same 
     no_room g P same all start now kept so_far o short =
         let this = each_at P (zip xs ys) i here within stands all in
         let total = same_frames_len f g P same (zip xs ys) all in
-        let bytes = frames_take f (take i (zip xs ys)) so_far.cells so_far.bytes so_far.cells_are so_far.frames_are in
-        let enough = frames_before f (zip xs ys) i here within stands in
         let own : frame_len (f here) ≡ frame_len (g here) = ap frame_len (same here this) in
-        let items : length now.items ≡ length start.items + length so_far.bytes =
-        ap length so_far.is ∙ length-append start.items so_far.bytes in
-        if_none_then o (λ h. omega (arith, h, kept, total, bytes, enough, own, items)) (short this)
+        let here_none : IfNone o (now.spare < frame_len (f here)) = if_none_then o (λ k. omega (arith, k, own)) (short this) in
+        if_none_then o (λ k. omega (arith, k, total))
+        (had_no_room f (zip xs ys) i here within stands start now kept so_far o here_none)
 
     -- the parameter here is refused, and what was appended is taken back
     pub refused_param : {u : ⊤} (fault : Fault) (old mid low new : List ℕ)

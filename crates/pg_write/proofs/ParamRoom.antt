@@ -7,6 +7,7 @@ use Rattle.std.specs.List.{AllByRecursion}
 use Rattle.bytes.specs.Filled.{Filled}
 use Rattle.pg_base.specs.Appending.{KeepsCapacity, Wire}
 use Rattle.pg_base.specs.Cells.{Cell, be, concat, fits_prefix, frame, frames}
+use Rattle.pg_base.specs.Counts.{count_bytes, number_width}
 use Rattle.pg_types.specs.Faults.{Outcome, Refusal}
 use Rattle.pg_write.specs.ArrayWriting.{cons_cell, element_cells, element_frame_cell, with_frame}
 use Rattle.pg_write.specs.ParamWriting.{FrameFollows, frame_len, frames_len}
@@ -44,6 +45,10 @@ module _ {A : Type 0} where
 prefixed : (t : Bool) (y b : List ℕ) → cond t (Some y) None ≡ Some b → y ≡ b
 prefixed true y b e = cc
 prefixed false y b e = let no : ⊥ = cc in absurd no
+
+-- a count takes four bytes
+pub count_takes : (n : ℕ) (s : List ℕ) → count_bytes n ≡ Some s → length s ≡ number_width
+count_takes n s e = ap length (sym (prefixed (fits_prefix n) (be w32 (pos n)) s e))
 
 -- a frame has four bytes and those of its cell
 frame_takes : (c : Cell) (b : List ℕ) → frame c ≡ Some b → length b ≡ frame_len (Ok c)

@@ -1,6 +1,6 @@
 -- What a value is written as, and what a write leaves in the buffer.
 use Rattle.std.specs.Prelude.{◌≡◌, ℕ, ◌<◌, List, ◌++◌, length, Bool, Some, None, Result, Ok, Err}
-use Rattle.std.specs.Prelude.{IfSome, IfNone, if◌then◌else◌}
+use Rattle.std.specs.Prelude.{IfSome, IfNone, IsOk, IsTrue, if◌then◌else◌}
 use Rattle.pg_base.specs.Appending.{Wire}
 use Rattle.pg_types.specs.Content.{Content}
 use Rattle.pg_types.specs.Faults.{Refusal, refusal_of, wrong_type}
@@ -34,6 +34,10 @@ appended_len (Err r) = 0
 abbrev pub KeepsRoomRule : Wire → ℕ → Result IsNull Fault → Type 0
 KeepsRoomRule w room (Ok null) = Unit {0}
 KeepsRoomRule w room (Err f) = IfNone (refusal_of f) (room < appended_len w)
+
+-- the value has a cell for each type that is accepted
+abbrev pub HasCell : {A : Type 0} → (Content → Bool) → (Content → A → Wire) → A → Type 0
+HasCell accepted wire v = (ty : Content) → IsTrue (accepted ty) → IsOk (wire ty v)
 
 -- under a constraint: a value that meets it is written as without it, and another is refused with the fault of the
 -- constraint

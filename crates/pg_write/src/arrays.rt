@@ -1,14 +1,16 @@
 //! Writing lists.
-ghost use Rattle.std.specs.Prelude.{◌≡◌, ◌≤◌, IsTrue, length, true, codes};
+ghost use Rattle.std.specs.Prelude.{◌≡◌, ◌≤◌, IfErr, IsOk, IsTrue, length, true, codes};
 ghost use Rattle.std.specs.Box.{boxed_slice_items};
+ghost use Rattle.std.specs.List.{AllByRecursion};
 ghost use Rattle.pg_types.specs.Content.{content, oid_of};
 ghost use Rattle.pg_base.specs.ArrayTypes.{accepted_list};
 ghost use Rattle.pg_base.specs.Cells.{max_length};
 ghost use Rattle.pg_write.specs.ArrayWriting.{AppendsArrayOrPart, element_cells};
 ghost use Rattle.pg_write.specs.ArrayWriting.{lower_bound_of, wire_array, wire_fixed, wire_list};
-ghost use Rattle.pg_write.specs.ParamWriting.{AppendsElement, AppendsFrames};
+ghost use Rattle.pg_write.specs.ListRoom.{ListByRoom, array_len};
+ghost use Rattle.pg_write.specs.ParamWriting.{AppendsElement, AppendsFrames, HadNoRoom, frame_len, frames_len};
 ghost use Rattle.pg_base.specs.Appending.{KeepsCapacity};
-ghost use Rattle.pg_write.specs.Writing.{Writes};
+ghost use Rattle.pg_write.specs.Writing.{KeepsRoomRule, Writes};
 
 use crate::params::frame_from;
 use crate::to_sql::{ToSql, check_type};
@@ -25,13 +27,16 @@ use std::boxed::BoxedSlice;
 /// element type, the elements in order, and the lower bound 1, or 0 for OID_VECTOR and INT2_VECTOR.
 /// More than 2,147,483,647 elements are refused with `Transmit`. Otherwise the first element that
 /// `T` refuses, or whose cell exceeds 2,147,483,647 bytes, decides: with `T`'s fault, or with
-/// `Transmit`.
+/// `Transmit`. If no element is refused, writing needs only the room of the cell where writing each
+/// element does.
 impl<T: ToSql> ToSql for Vec<T> {
     ghost accepted = { accepted_list T.accepted };
 
     ghost name = { codes "Vec" };
 
     ghost wire = { λ ty v. wire_list T.wire ty v.items };
+
+    ghost by_room = { λ v. ListByRoom T.by_room (accepted_list T.accepted) (wire_list T.wire) v.items };
 
     ghost refuses_memory_free = { true };
 
@@ -65,6 +70,8 @@ impl<'b, T: ToSql> ToSql for &'b [T] {
     ghost name = { codes "&[T]" };
 
     ghost wire = { λ ty v. wire_list T.wire ty v.now };
+
+    ghost by_room = { λ v. ListByRoom T.by_room (accepted_list T.accepted) (wire_list T.wire) v.now };
 
     ghost refuses_memory_free = { true };
 
@@ -101,6 +108,8 @@ impl<T: ToSql, const N: usize> ToSql for [T; N] {
 
     ghost wire = { λ ty v. wire_fixed N T.wire ty v };
 
+    ghost by_room = { ListByRoom T.by_room (accepted_list T.accepted) (wire_fixed N T.wire) };
+
     ghost refuses_memory_free = { true };
 
     fn to_sql(&self, alloc: Global, ty: &PgType, out: &mut BytesMut) -> Result<IsNull, Fault> {
@@ -133,6 +142,8 @@ impl<T: ToSql> ToSql for BoxedSlice<T> {
     ghost name = { codes "Box<[T]>" };
 
     ghost wire = { λ ty v. wire_list T.wire ty (boxed_slice_items v) };
+
+    ghost by_room = { λ v. ListByRoom T.by_room (accepted_list T.accepted) (wire_list T.wire) (boxed_slice_items v) };
 
     ghost refuses_memory_free = { true };
 
@@ -184,6 +195,8 @@ fn list_to_sql<T: ToSql>(
 ) -> Result<IsNull, Fault>
     requires { IsTrue (accepted_list T.accepted (content ty.now)) }
     ensures writes { Writes (wire_list T.wire (content ty.now) values.now) out.old.items out.new.items result }
+    ensures room { AllByRecursion T.by_room values.now → IsOk (wire_list T.wire (content ty.now) values.now)
+        → KeepsRoomRule (wire_list T.wire (content ty.now) values.now) out.old.spare result }
     ensures capacity { KeepsCapacity out.old out.new }
 {
     let Some(element) = element_type(ty) else {
@@ -215,6 +228,8 @@ fn head_and_elements_to_sql<T: ToSql>(
     requires few { length values.now ≤ max_length }
     ensures array { AppendsArrayOrPart (wire_array lower_bound (oid_of (content element.now))
         (element_cells (T.wire (content element.now)) values.now)) out.old.items out.new.items result }
+    ensures room { AllByRecursion T.by_room values.now
+        → IfErr result (HadNoRoom (array_len (T.wire (content element.now)) values.now) out.old.spare) }
     ensures capacity { KeepsCapacity out.old out.new }
 {
     let start = out.len();
@@ -236,6 +251,8 @@ fn elements_to_sql<T: ToSql>(
 ) -> Result<bool, Fault>
     requires { IsTrue (T.accepted (content element.now)) }
     ensures frames { AppendsFrames (T.wire (content element.now)) values.now out.old.items out.new.items result }
+    ensures room { AllByRecursion T.by_room values.now
+        → IfErr result (HadNoRoom (frames_len (T.wire (content element.now)) values.now) out.old.spare) }
     ensures capacity { KeepsCapacity out.old out.new }
 {
     let mut has_null = false;
@@ -260,6 +277,8 @@ fn element_to_sql<T: ToSql>(
 ) -> Result<bool, Fault>
     requires { IsTrue (T.accepted (content element.now)) }
     ensures frame { AppendsElement (T.wire (content element.now) value.now) out.old.items out.new.items result }
+    ensures room { T.by_room value.now
+        → IfErr result (HadNoRoom (frame_len (T.wire (content element.now) value.now)) out.old.spare) }
     ensures capacity { KeepsCapacity out.old out.new }
 {
     let start = out.len();

@@ -1,5 +1,6 @@
 //! What the library's own types promise beyond the contract of the trait.
-ghost use Rattle.std.specs.Prelude.{IsTrue};
+ghost use Rattle.std.specs.Prelude.{◌≤◌, IsTrue, length};
+ghost use Rattle.pg_base.specs.Cells.{max_length};
 
 use crate::to_sql::ToSql;
 use jiff::civil;
@@ -65,7 +66,20 @@ pub fn types_that_keep_the_room_rule() {
     keeps_room_rule::<&i32>();
 }
 
-/// The types that do not keep the room rule, and that checked writing refuses without allocating.
+/// The value keeps the room rule.
+fn value_keeps_room_rule<T: ToSql>(value: &T)
+    requires { T.by_room value.now }
+{}
+
+/// A list keeps the room rule if its elements do and none is refused, as no boolean is.
+pub fn lists_that_keep_the_room_rule(list: &Vec<bool>)
+    requires { length list.now.items ≤ max_length }
+{
+    value_keeps_room_rule(list);
+}
+
+/// The types of which not every value keeps the room rule, and that checked writing refuses without
+/// allocating.
 pub fn types_refused_without_memory() {
     refuses_without_memory::<Vec<i32>>();
     refuses_without_memory::<&[i32]>();

@@ -1,6 +1,6 @@
 -- The steps of reading and writing a record, one after another.
 use Rattle.std.proofs.Common.{◌≡◌, ◌++◌, ℕ, List, [], ◌∷◌, length, take, drop, Option, Some, None}
-use Rattle.std.proofs.Common.{Result, Ok, Err, IfSome, ◌≤◌}
+use Rattle.std.proofs.Common.{Result, Ok, Err, IfNone, IfSome, IsOk, ◌<◌, ◌≤◌}
 use Rattle.std.proofs.Common.{refl, sym, ap, subst, ◌∙◌, append_assoc, append-nil, inl, inr, nat_eq, suc, arith, true}
 use Rattle.std.specs.Result.{is_err}
 use Rattle.std.specs.Bool.{⊤}
@@ -20,13 +20,14 @@ use Rattle.pg_base.specs.Counts.{after_number, no_trailing}
 use Rattle.pg_base.specs.Formats.{first_fault_of}
 use Rattle.pg_read.specs.FrameReading.{AnswersSize, BeginsWithCells, ReadsFirst}
 use Rattle.pg_write.specs.ParamWriting.{AppendsFrame}
+use Rattle.pg_write.specs.Writing.{appended_len}
 use Rattle.pg_write.specs.ArrayWriting.{element_frame_cell, with_frame}
 use Rattle.postgres_types.specs.CompositeFields.{ReadsAnd, and, no_fields}
 use Rattle.postgres_types.specs.Records.{AnswersRefusal, AppendsBytes, AppendsBytesOrPart, AtEnd, Both, Bytes}
 use Rattle.postgres_types.specs.Records.{CellThen}
 use Rattle.postgres_types.specs.Records.{CountThen, FieldFree, PassesCheck, FieldThen, FrameThen, IsDone}
 use Rattle.postgres_types.specs.Records.{IsRefused, PassesNumber, ReadsNext}
-use Rattle.postgres_types.specs.Records.{RecordFree, Unless, append_bytes}
+use Rattle.postgres_types.specs.Records.{RecordFree, Unless, append_bytes, bytes_cell, bytes_len}
 use Rattle.postgres_types.specs.Records.{concat_bytes, count_fault, count_of, frame_bytes, oid_fault}
 use Rattle.postgres_types.specs.Records.{or_transmit}
 use Rattle.postgres_types.specs.declared.composite.fields.And.{And}
@@ -37,6 +38,14 @@ use Rattle.postgres_types.specs.declared.composite.fields.And.{And}
 pub counted : (fs : List Field) → length fs ≡ count_of (fields_content fs)
 counted [] = refl
 counted (f ∷ fs) = ap suc (counted fs)
+
+-- ---- room
+
+-- where there was no room for bytes, there was none for them as a cell
+pub cell_short : (w : Bytes) (room : ℕ) (o : Option Refusal) → (IsOk w → IfNone o (room < bytes_len w))
+    → IsOk (bytes_cell w) → IfNone o (room < appended_len (bytes_cell w))
+cell_short (Err r) room o short ok = let no : ⊥ = cc in absurd no
+cell_short (Ok b) room o short ok = short refl
 
 -- ---- appended
 

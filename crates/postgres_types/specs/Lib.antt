@@ -49,6 +49,7 @@ pub use Rattle.pg_read.specs.Reading
 pub use Rattle.pg_read.specs.RunReading
 pub use Rattle.pg_read.specs.Views
 pub use Rattle.pg_write.specs.ArrayWriting
+pub use Rattle.pg_write.specs.ListRoom
 pub use Rattle.pg_write.specs.OptionWriting
 pub use Rattle.pg_write.specs.Writing
 pub use Rattle.pg_write.specs.ParamWriting

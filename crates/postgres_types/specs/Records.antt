@@ -1,7 +1,7 @@
 -- Records, the cells of composite types (record_recv, record_send): the number of the fields in four bytes, and then,
 -- for each field, the OID of its type in four bytes and the frame of its cell.
 use Rattle.std.specs.Prelude.{◌≡◌, ◌==◌, ◌⊎◌, ◌++◌, Bool, ℕ, suc, pos, List, [], ◌∷◌, length, take, Option, Some, None}
-use Rattle.std.specs.Prelude.{Result, Ok, Err, ⊤, IfSome, IsOk}
+use Rattle.std.specs.Prelude.{Result, Ok, Err, ⊤, IfSome, IfErr, IsOk}
 use Rattle.std.specs.Cmp.Lexicographic.{pointwise}
 use Rattle.std.specs.Int.{w32, to_be_bytes}
 use Rattle.std.specs.Ordering.{int_eq}
@@ -13,6 +13,7 @@ use Rattle.pg_base.specs.Cells.{Cell, Spells, frame}
 use Rattle.pg_base.specs.Counts.{after_number, count_bytes, has_number, no_trailing, number_in, number_width}
 use Rattle.pg_base.specs.Formats.{Checks, NotNull, first_fault_of}
 use Rattle.pg_read.specs.FrameReading.{BeginsWithCells, ReadsFrame, after_truncated}
+use Rattle.pg_write.specs.ParamWriting.{HadNoRoom}
 
 -- ---- the fields of a type
 
@@ -147,7 +148,16 @@ record_bytes n fs = concat_bytes (or_transmit (count_bytes n)) fs
 abbrev pub wire_record : ℕ → Bytes → Wire
 wire_record n fs = bytes_cell (record_bytes n fs)
 
+-- how many bytes these are; a refusal has none
+abbrev pub bytes_len : Bytes → ℕ
+bytes_len (Ok b) = length b
+bytes_len (Err r) = 0
+
 -- ---- what the calls for composites do
+
+-- where nothing is refused, memory ran out only if there was less room than the bytes
+abbrev pub RoomSuffices : Bytes → ℕ → Result ⊤ Fault → Type 0
+RoomSuffices w room result = IsOk w → IfErr result (HadNoRoom (bytes_len w) room)
 
 -- the result is this fault
 abbrev pub AnswersRefusal : {A : Type 0} → Refusal → Result A Fault → Type 0

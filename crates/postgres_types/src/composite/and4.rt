@@ -66,6 +66,8 @@ impl<A: ToSql, B: ToSql, C: ToSql, D: ToSql, E: ToFields> ToFields for And4<A, B
 
     ghost bytes = { λ fields v. ⟦<InTurn<A, B, C, D, E> as ToFields>⟧.bytes fields (in_turn4 v) };
 
+    ghost by_room = { λ v. ⟦<InTurn<A, B, C, D, E> as ToFields>⟧.by_room (in_turn4 v) };
+
     ghost width = { ⟦<InTurn<A, B, C, D, E> as ToFields>⟧.width };
 
     ghost width_of_accepted = { and_width A.accepted _ _ (and_width B.accepted _ _ (and_width C.accepted _ _

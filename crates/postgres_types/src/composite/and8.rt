@@ -100,6 +100,8 @@ where
 
     ghost bytes = { λ fields v. ⟦<InTurn<A, B, C, D, E, F, G, H, I> as ToFields>⟧.bytes fields (in_turn8 v) };
 
+    ghost by_room = { λ v. ⟦<InTurn<A, B, C, D, E, F, G, H, I> as ToFields>⟧.by_room (in_turn8 v) };
+
     ghost width = { ⟦<InTurn<A, B, C, D, E, F, G, H, I> as ToFields>⟧.width };
 
     ghost width_of_accepted = { and_width A.accepted _ _ (and_width B.accepted _ _ (and_width C.accepted _ _

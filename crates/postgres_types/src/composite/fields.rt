@@ -10,7 +10,7 @@ ghost use Rattle.postgres_types.specs.CompositeFields.{and, and_equivalence, and
 ghost use Rattle.postgres_types.specs.CompositeFields.{no_fields_equivalence, no_fields_lawful, no_fields_single};
 ghost use Rattle.postgres_types.specs.CompositeFields.{and_width, no_fields, no_fields_width};
 ghost use Rattle.postgres_types.specs.Laws.Record.{AreLawful};
-ghost use Rattle.postgres_types.specs.Records.{AppendsBytes, Bytes, FieldFree, count_of};
+ghost use Rattle.postgres_types.specs.Records.{AppendsBytes, Bytes, FieldFree, RoomSuffices, count_of};
 
 use super::reading::{read_end, read_field};
 use super::writing::field_to_sql;
@@ -74,6 +74,10 @@ pub trait ToFields {
     /// What the values are written as.
     ghost bytes: { FieldsContent → Self → Bytes };
 
+    /// Writing the values does not allocate if nothing is refused and the buffer has room for their
+    /// bytes. By default this holds of no values.
+    ghost by_room: { Self → Type 0 } = { λ _. ⊥ };
+
     /// The number of the fields.
     ghost width: { ℕ };
 
@@ -104,6 +108,8 @@ pub trait FieldRefs {
         requires { IsTrue (Self.Values.accepted (fields_content fields.now)) }
         ensures bytes { AppendsBytes (Self.Values.bytes (fields_content fields.now) (values self.now))
             out.old.items out.new.items result }
+        ensures room { Self.Values.by_room (values self.now)
+            → RoomSuffices (Self.Values.bytes (fields_content fields.now) (values self.now)) out.old.spare result }
         ensures capacity { KeepsCapacity out.old out.new };
 }
 
@@ -149,6 +155,8 @@ impl ToFields for End {
     ghost accepted = { no_fields };
 
     ghost bytes = { λ _ _. Ok [] };
+
+    ghost by_room = { λ _. Unit {0} };
 
     ghost width = { 0 };
 
@@ -219,6 +227,8 @@ impl<A: ToSql, B: ToFields> ToFields for And<A, B> {
     ghost accepted = { accepts_and A.accepted B.accepted };
 
     ghost bytes = { bytes_and A.wire B.bytes };
+
+    ghost by_room = { λ v. A.by_room v.0 × B.by_room v.1 };
 
     ghost width = { suc B.width };
 

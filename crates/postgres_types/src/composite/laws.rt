@@ -1,10 +1,13 @@
-//! What equality means, and what is read without allocating, each as a function whose contract
-//! states it.
+//! What equality means, what is read without allocating, and what keeps the room rule, each as a
+//! function whose contract states it.
 ghost use Rattle.std.specs.Prelude.{◌≡◌, ◌&&◌, ℕ, List, true};
 ghost use Rattle.pg_base.specs.Cells.{Cell};
+ghost use Rattle.pg_write.specs.Writing.{HasCell};
+ghost use Rattle.postgres_types.specs.Composites.{accepts_record, record_cell};
 
-use super::{And, And4, And8, Composite, End, FromFields, Record};
+use super::{And, And4, And8, Composite, End, FromFields, Record, ToFields};
 use pg_read::from_sql::FromSql;
+use pg_write::to_sql::ToSql;
 
 /// Whether two rows of fields are equal: in the first field and in the others.
 pub fn same_and<A: PartialEq, B: PartialEq>(a: &And<A, B>, b: &And<A, B>) -> bool
@@ -77,4 +80,24 @@ where
     T::Fields: FromFields<'a>,
     requires { (bytes : List ℕ) → T.Fields.memory_free bytes }
     ensures { (cell : Cell) → ⟦<Composite<T> as FromSql<'a>>⟧.memory_free cell }
+{}
+
+/// The row of fields keeps the room rule.
+fn row_keeps_room_rule<R: ToFields>()
+    requires { (row : R) → R.by_room row }
+{}
+
+/// Rows of fields keep the room rule if each field does.
+pub fn rows_that_keep_the_room_rule() {
+    row_keeps_room_rule::<And<i32, End>>();
+    row_keeps_room_rule::<And4<i32, i32, i32, i32, End>>();
+    row_keeps_room_rule::<And8<i32, i32, i32, i32, i32, i32, i32, i32, End>>();
+}
+
+/// A value of a composite type keeps the room rule if its fields do and none is refused.
+pub fn records_that_keep_the_room_rule<T: Record>(value: &Composite<T>)
+    requires fields { T.Fields.by_room (T.inside value.now.0) }
+    requires cell { HasCell (accepts_record T.type_name T.names T.Fields.accepted) (record_cell T.Fields.bytes)
+        (T.inside value.now.0) }
+    ensures { ⟦<Composite<T> as ToSql>⟧.by_room value.now }
 {}

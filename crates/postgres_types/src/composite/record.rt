@@ -7,7 +7,8 @@ ghost use Rattle.pg_read.specs.Views.{ReadsThrough, Through};
 ghost use Rattle.postgres_types.specs.Composites.{accepts_record, are_named, composite_lawful, composite_single};
 ghost use Rattle.postgres_types.specs.Composites.{composite_types, is_composite, is_record, reads_record, record_cell};
 ghost use Rattle.pg_base.specs.Appending.{KeepsCapacity};
-ghost use Rattle.postgres_types.specs.Records.{AppendsBytes, RecordFree, fields_of_kind, record_bytes};
+ghost use Rattle.pg_write.specs.Writing.{HasCell};
+ghost use Rattle.postgres_types.specs.Records.{AppendsBytes, RecordFree, RoomSuffices, fields_of_kind, record_bytes};
 ghost use Rattle.postgres_types.specs.Laws.ViewBack.{through_lawful};
 
 use super::fields::{FromFields, PairedFields, ToFields};
@@ -61,6 +62,8 @@ pub trait Record: Sized + fmt::Debug + Drop {
         requires { IsTrue (Self.Fields.accepted (fields_content fields.now)) }
         ensures bytes { AppendsBytes (Self.Fields.bytes (fields_content fields.now) (inside self.now))
             out.old.items out.new.items result }
+        ensures room { Self.Fields.by_room (inside self.now)
+            → RoomSuffices (Self.Fields.bytes (fields_content fields.now) (inside self.now)) out.old.spare result }
         ensures capacity { KeepsCapacity out.old out.new };
 
     /// Law: there are as many names as fields.
@@ -84,7 +87,8 @@ pub trait Record: Sized + fmt::Debug + Drop {
 /// allocates nothing.
 ///
 /// In writing, the first field that is refused gives the fault, which is `Transmit` if its cell
-/// exceeds 2,147,483,647 bytes. An error leaves the buffer's bytes as they were.
+/// exceeds 2,147,483,647 bytes. An error leaves the buffer's bytes as they were. If no field is
+/// refused, writing needs only the room of the cell where writing each field does.
 #[derive(Debug, PartialEq, Eq, Drop)]
 pub struct Composite<T>(pub T);
 
@@ -166,6 +170,9 @@ fn record_to_sql<T: Record>(
     ensures bytes { AppendsBytes (record_bytes (length fields.now)
         (T.Fields.bytes (fields_content fields.now) (T.inside value.now)))
         out.old.items out.new.items result }
+    ensures room { T.Fields.by_room (T.inside value.now)
+        → RoomSuffices (record_bytes (length fields.now)
+        (T.Fields.bytes (fields_content fields.now) (T.inside value.now))) out.old.spare result }
     ensures capacity { KeepsCapacity out.old out.new }
 {
     let start = out.len();
@@ -185,6 +192,9 @@ impl<T: Record> ToSql for Composite<T> {
     ghost name = { T.type_name };
 
     ghost wire = { λ ty v. record_cell T.Fields.bytes ty (T.inside v.0) };
+
+    ghost by_room = { λ v. T.Fields.by_room (T.inside v.0)
+        × HasCell (accepts_record T.type_name T.names T.Fields.accepted) (record_cell T.Fields.bytes) (T.inside v.0) };
 
     ghost refuses_memory_free = { true };
 

@@ -1,7 +1,10 @@
 -- What the proof of `elements_to_sql` answers by hand.
 use Rattle.std.proofs.Common.{[], arith, append-nil, refl, sym}
 use Rattle.pg_types.specs.Content.{content}
+use Rattle.pg_types.specs.Faults.{refusal_of}
 use Rattle.pg_write.proofs.ElementFrames.{all_elements, next_element, refused_element}
+use Rattle.pg_write.proofs.ParamLists.{had_no_room}
+use Rattle.pg_write.proofs.ParamRoom.{each_at}
 use Rattle.pg_write.proofs.arrays.elements_to_sql.Goals as goal
 
 pub loop-value-init : goal.loop-value-init
@@ -40,3 +43,11 @@ returns-clause-frames g c =
     all_elements (g.T.ToSql.wire (content c.args.element.now)) c.args.values.now c.args.out.now.items
     c.loop-value.out.items c.loop-value.value-index c.loop-value.has_null c.loop-value-test.false
     c.loop-value.invariant.0
+
+pub returns-in-Err-clause-room : goal.returns-in-Err-clause-room
+returns-in-Err-clause-room g c = λ all.
+    let here = each_at g.T.ToSql.by_room c.args.values.now c.loop-value.value-index _ c.loop-value-test.true c.value-item.is
+    all in
+    had_no_room (g.T.ToSql.wire (content c.args.element.now)) c.args.values.now c.loop-value.value-index _
+    c.loop-value-test.true c.value-item.is c.args.out.now c.loop-value.out c.loop-value.invariant.1
+    c.loop-value.invariant.0.0 (refusal_of c.in-Err.fault) ((rw c.in-Err.is at c.element_to_sql.ensures.room) here)
