@@ -9,7 +9,7 @@ use Rattle.std.proofs.lemmas.Bool.Decides.{nat_tests}
 use Rattle.std.proofs.lemmas.List.{take-append-drop, take_all}
 use Rattle.pg_base.specs.Appending.{Wire, wire_of}
 use Rattle.pg_base.specs.Arrays.{flags_of, has_null, head_bytes}
-use Rattle.pg_base.specs.Cells.{Cell, be, concat, fits_prefix, max_length}
+use Rattle.pg_base.specs.Cells.{Cell, be, concat, fits_prefix, frames, max_length}
 use Rattle.pg_base.specs.Counts.{count_bytes, number_width}
 use Rattle.pg_base.proofs.CellsByLength.{put_right}
 use Rattle.pg_base.proofs.Concat.{cond_passes}
@@ -74,6 +74,20 @@ module _ {A : Type 0} (f : A → Wire) where
         → AppendsFrames f vs old new (Ok null)
     all_elements i null h done = subst (λ us. AppendsFrames f us old new (Ok null)) (take_all i vs h) done
 
+  -- the array of values whose cells have frames
+  pub array_of : (vs : List A) (cs : List Cell) (bs : List ℕ) (lower_bound : ℤ) (oid : ℕ) → length vs ≤ max_length
+      → element_cells f vs ≡ Ok cs → frames cs ≡ Some bs
+      → wire_array lower_bound oid (element_cells f vs)
+      ≡ Ok (Some (head_bytes (flags_of cs) lower_bound oid (be w32 (pos (length vs))) ++ bs))
+  array_of vs cs bs lower_bound oid few cells framed =
+      let many : length cs ≡ length vs = as_many vs cs cells in
+      let fits : fits_prefix (length cs) ≡ true = grind (arith, nat_tests) in
+      let count : count_bytes (length cs) ≡ Some (be w32 (pos (length vs))) =
+      cond_passes (fits_prefix (length cs)) (be w32 (pos (length cs))) fits
+      ∙ ap (λ n. Some (be w32 (pos n))) many in
+      ap (wire_array lower_bound oid) cells
+      ∙ ap wire_of (ap₂ concat (ap (option_map (head_bytes (flags_of cs) lower_bound oid)) count) framed)
+
   -- the head, the frames, and the flags that were put right
   pub array_appended : (lower_bound : ℤ) (oid : ℕ) (vs : List A) (old headed framed new : List ℕ)
       (null : Bool) (flags n : ℕ) → length vs ≤ max_length
@@ -87,19 +101,12 @@ module _ {A : Type 0} (f : A → Wire) where
       let number : List ℕ = be w32 (pos (length vs)) in
       let rest : List ℕ = to_be_bytes w32 oid ++ number ++ be w32 lower_bound in
       let start : List ℕ = head_bytes (pos 0) lower_bound oid number in
-      let whole : List ℕ = head_bytes (flags_of fs.cells) lower_bound oid number in
       let bytes : List ℕ = to_be_bytes w32 flags in
       let all : framed ≡ old ++ (start ++ fs.bytes) = fs.is ∙ ap (λ s. s ++ fs.bytes) head
       ∙ append_assoc old start fs.bytes in
-      let right : bytes ≡ be w32 (flags_of fs.cells) = ap (to_be_bytes w32) is ∙ flags_number fs.cells null said in
-      let many : length fs.cells ≡ length vs = as_many vs fs.cells fs.cells_are in
-      let fits : fits_prefix (length fs.cells) ≡ true = grind (arith, nat_tests) in
-      let count : count_bytes (length fs.cells) ≡ Some number =
-      cond_passes (fits_prefix (length fs.cells)) (be w32 (pos (length fs.cells))) fits
-      ∙ ap (λ n. Some (be w32 (pos n))) many in (
-        whole ++ fs.bytes,
-        ap (wire_array lower_bound oid) fs.cells_are ∙ ap wire_of (ap₂ concat
-            (ap (option_map (head_bytes (flags_of fs.cells) lower_bound oid)) count) fs.frames_are),
+      let right : bytes ≡ be w32 (flags_of fs.cells) = ap (to_be_bytes w32) is ∙ flags_number fs.cells null said in (
+        head_bytes (flags_of fs.cells) lower_bound oid number ++ fs.bytes,
+        array_of vs fs.cells fs.bytes lower_bound oid few fs.cells_are fs.frames_are,
         set ∙ ap (λ k. take (k + number_width) framed ++ (bytes ++ drop (k + number_width + number_width) framed)) at
             ∙ put_right old one zero bytes (rest ++ fs.bytes) framed refl refl all
             ∙ ap (λ y. old ++ (one ++ (y ++ (rest ++ fs.bytes)))) right,

@@ -1,11 +1,11 @@
 -- How much room an array takes, and which lists have one.
-use Rattle.std.proofs.Common.{◌≡◌, ◌≤◌, ◌+◌, ◌++◌, ℕ, ℤ, pos, suc, List, [], ◌∷◌, length, Option, Some, None, option_map, Bool}
+use Rattle.std.proofs.Common.{◌≡◌, ◌≤◌, ◌+◌, ◌++◌, ℕ, ℤ, List, [], ◌∷◌, length, Option, Some, None, option_map, Bool}
 use Rattle.std.proofs.Common.{true, false, IsOk, IsTrue, if◌then◌else◌, Ok, Err, refl, sym, ap, ap₂, ◌∙◌, subst, arith}
 use Rattle.std.proofs.Common.{length-append}
 use Rattle.std.specs.Int.{w32}
 use Rattle.std.specs.List.{AllByRecursion}
 use Rattle.std.proofs.lemmas.Bool.Decides.{nat_tests}
-use Rattle.pg_base.proofs.Concat.{cond_passes, short_frame}
+use Rattle.pg_base.proofs.Concat.{short_frame}
 use Rattle.pg_base.specs.Appending.{Wire, wire_of}
 use Rattle.pg_base.specs.ArrayTypes.{accepted_element, accepted_list, element_of}
 use Rattle.pg_base.specs.Arrays.{flags_of, head_bytes}
@@ -18,6 +18,7 @@ use Rattle.pg_write.specs.ArrayWriting.{wire_by_element, wire_list, with_frame}
 use Rattle.pg_write.specs.ListRoom.{ListByRoom, array_len, head_len}
 use Rattle.pg_write.specs.ParamWriting.{frames_len}
 use Rattle.pg_write.specs.Writing.{appended_len}
+use Rattle.pg_write.proofs.ElementFrames.{array_of}
 use Rattle.pg_write.proofs.ParamRoom.{count_takes, frames_take}
 
 -- a header and frames of n bytes
@@ -79,6 +80,7 @@ framed (Ok c) ok =
 pub short_cell : (b : List ℕ) → length b ≤ max_length → IsOk (element_frame_cell (Ok (Some b)))
 short_cell b few = subst (λ m. IsOk (with_frame (Some b) m)) (sym (short_frame b few).1) refl
 
+-- what fits is not refused
 fitting : (t : Bool) (w : Wire) → t ≡ true → IsOk w → IsOk (if t then w else Err transmit)
 fitting true w e ok = ok
 fitting false w e ok = let no : ⊥ = cc in absurd no
@@ -91,8 +93,8 @@ module _ {A : Type 0} where
 
   -- the cells of values of which each has a frame
   all_cells : (f : A → Wire) (vs : List A) → AllByRecursion (λ v. IsOk (element_frame_cell (f v))) vs
-      → (cs : List Cell) × (bs : List ℕ) × (element_cells f vs ≡ Ok cs) × (frames cs ≡ Some bs) × (length cs ≡ length vs)
-  all_cells f [] all = ([], [], refl, refl, refl)
+      → (cs : List Cell) × (bs : List ℕ) × (element_cells f vs ≡ Ok cs) × (frames cs ≡ Some bs)
+  all_cells f [] all = ([], [], refl, refl)
   all_cells f (v ∷ vs) all =
       let one = framed (f v) all.0 in
       let others = all_cells f vs all.1 in (
@@ -101,19 +103,14 @@ module _ {A : Type 0} where
         ap (λ w. cons_cell (element_frame_cell w) (element_cells f vs)) one.2
             ∙ ap (λ m. cons_cell (with_frame one.0 m) (element_cells f vs)) one.3 ∙ ap (cons_cell (Ok one.0)) others.2,
         ap₂ concat one.3 others.3,
-        ap suc others.4,
       )
 
   -- so many have an array
   has_array : (f : A → Wire) (vs : List A) (lower_bound : ℤ) (oid : ℕ) → length vs ≤ max_length
       → AllByRecursion (λ v. IsOk (element_frame_cell (f v))) vs → IsOk (wire_array lower_bound oid (element_cells f vs))
   has_array f vs lower_bound oid few all =
-      let p = all_cells f vs all in
-      let many = p.4 in
-      let fits : fits_prefix (length p.0) ≡ true = grind (arith, nat_tests) in
-      let count = cond_passes (fits_prefix (length p.0)) (be w32 (pos (length p.0))) fits in
-      subst (λ w. IsOk w) (sym (ap (wire_array lower_bound oid) p.2 ∙ ap wire_of (ap₂ concat
-      (ap (option_map (head_bytes (flags_of p.0) lower_bound oid)) count) p.3))) refl
+      let cells = all_cells f vs all in
+      subst (λ w. IsOk w) (sym (array_of f vs cells.0 cells.1 lower_bound oid few cells.2 cells.3)) refl
 
   -- a value has a cell with a frame, for each type that is accepted
   abbrev HasFrames : (Content → Bool) → (Content → A → Wire) → A → Type 0

@@ -76,6 +76,8 @@ pub fn lists_that_keep_the_room_rule(list: &Vec<bool>)
     requires { length list.now.items ≤ max_length }
 {
     value_keeps_room_rule(list);
+    value_keeps_room_rule(&list.as_slice());
+    value_keeps_room_rule(&[false, true]);
 }
 
 /// The types of which not every value keeps the room rule, and that checked writing refuses without

@@ -12,6 +12,7 @@ use std::test::Fail;
 use test_support::code::{FIELD_COUNT, FIELD_OID, SIZE, TRANSMIT, WAS_NULL};
 use test_support::{
     accepts, refusal, refuses, refuses_both, refuses_type, rewrites, spells, unix, user_type,
+    writes_by_room,
 };
 
 /// The address Elm 1, Bonn: two fields.
@@ -192,7 +193,9 @@ fn a_purchase_is_read_and_written_again(rt: HostRuntime) -> Result<(), Fail> {
 fn an_address_is_written_and_read(rt: HostRuntime) -> Result<(), Fail> {
     let alloc = rt.alloc();
     let value = address(alloc, "Elm 1", "Bonn")?;
-    spells(alloc, &address_type(alloc)?, &[(value, ADDRESS)])
+    let ty = address_type(alloc)?;
+    writes_by_room(alloc, &ty, &value, ADDRESS)?;
+    spells(alloc, &ty, &[(value, ADDRESS)])
 }
 
 #[test]

@@ -7,6 +7,7 @@ use std::alloc::Global;
 use std::test::Fail;
 use test_support::{
     accepts, code, refuses_type, refuses_values, same, simple_type, unix, user_type, writes,
+    writes_by_room,
 };
 
 /// The `INT2_VECTOR` of 5.
@@ -24,9 +25,10 @@ const SEVEN_FROM_1: [u8; 28] = [
     0, 0, 0, 1, 0, 0, 0, 0, 0, 0, 0, 0x1a, 0, 0, 0, 1, 0, 0, 0, 1, 0, 0, 0, 4, 0, 0, 0, 7,
 ];
 
-/// Tests that 1 and 2 are written, from this type of list.
+/// Tests that 1 and 2 are written, from this type of list, and with room without allocating.
 fn is_written<T: ToSql>(alloc: Global, value: &T) -> Result<(), Fail> {
     writes(alloc, value, &Type::INT4_ARRAY, &ONE_AND_TWO)?;
+    writes_by_room(alloc, &Type::INT4_ARRAY, value, &ONE_AND_TWO)?;
     same(value.encode_format(&Type::INT4_ARRAY), Format::Binary)
 }
 
