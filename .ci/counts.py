@@ -21,7 +21,7 @@ WORDS = "no one two three four five six seven eight nine ten eleven twelve thirt
     "nineteen twenty".split()
 
 
-CRATE, PGCELL = "The library beside the Rust crate", "The program pgcell"
+CRATE = "The library beside the Rust crate"
 
 
 def read(path):
@@ -148,8 +148,6 @@ COUNTS = [
     ("docs/PERFORMANCE.md", r"beside the better build (?P<n>\d+)", partial(count_below, CRATE)),
     ("docs/PERFORMANCE.md", r"beside the better build \d+, (?P<n>\d+) and", partial(count_of, CRATE, limit=1.1)),
     ("docs/PERFORMANCE.md", r"beside the better build \d+, \d+ and (?P<n>[\d.]*\d)", partial(median_of, CRATE)),
-    ("docs/PERFORMANCE.md", r"Of (?P<n>\d+) names", partial(count_of, PGCELL)),
-    ("docs/PERFORMANCE.md", r"names, (?P<n>\d+) take at most (?P<limit>[\d.]+) times", partial(count_of, PGCELL)),
 ]
 
 

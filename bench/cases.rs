@@ -1,4 +1,4 @@
-//! The work of crates/benchmark over the conversions of a program: of plain Rust, or of the crate postgres-types.
+//! The work of crates/benchmark over the conversions of the crate postgres-types.
 //!
 //! `PROGRAM CASE TURNS` does a case so many times, and prints its name and the checksum of what it made. `PROGRAM
 //! cases` prints the names of the cases. Without arguments it does each case once, but for those of a megabyte and more.
@@ -10,21 +10,13 @@ use crate::conversions::dates::{
     Date, DateInf, DateTime, EPOCH_SECS, Time, Timestamp, TimestampInf, UnixTime, date, date_time, time, timestamp,
     unix_time,
 };
-#[cfg(not(real_crate))]
-use crate::conversions::decimals::{Decimal, Numeric};
 use crate::conversions::frames::{frame_to_sql, in_order, params_to_sql, read_value, read_values, rewrite};
 use crate::conversions::json::{Number, Value};
 use crate::conversions::maps::Map;
-#[cfg(not(real_crate))]
-use crate::conversions::network::{IpCidr, IpInet};
-#[cfg(not(real_crate))]
-use crate::conversions::numbers::Interval;
 use crate::conversions::numbers::{MacAddress, PgLsn, Uuid};
 use crate::conversions::texts::BitVec;
 use crate::conversions::types::Type;
-#[cfg(not(real_crate))]
-use crate::conversions::user_types::numeric_type;
-use crate::conversions::user_types::{float8_type, hstore_type, item_type, lists_type, ltree_type};
+use crate::conversions::user_types::{hstore_type, item_type, lists_type, ltree_type};
 use crate::conversions::user_values::InventoryItem;
 use crate::conversions::{Buf, Fault, FromSql, ToSql};
 use std::array;
@@ -118,28 +110,6 @@ impl Seed {
     }
 }
 
-/// Values that postgres-types has no type of, or not in Debian's packages.
-#[cfg(not(real_crate))]
-impl Seed {
-    fn interval(self) -> Interval {
-        let microseconds = i64::from_be_bytes(self.repeated());
-        Interval { microseconds, days: self.number, months: i32::from(self.bytes()[0]) }
-    }
-
-    /// A number of nine to twelve digits before the point and two after it.
-    fn numeric(self) -> Numeric {
-        let [a, b, c, d] = self.bytes();
-        let digits = [u16::from(a) + 1, u16::from(b) * 39, u16::from(c) * 39, u16::from(d % 100) * 100];
-        let len = digits.iter().rposition(|digit| *digit != 0).map_or(0, |place| place + 1);
-        Numeric::Finite(Decimal { negative: self.number < 0, weight: 2, scale: 2, digits: digits[..len].to_vec() })
-    }
-
-    fn network(self) -> IpInet {
-        let [a, b, c, _] = self.bytes();
-        IpInet { address: IpAddr::from([a, b, c, 0]), netmask: 24 }
-    }
-}
-
 /// So many values, each made of its seed.
 pub fn values<T>(count: usize, make: impl Fn(Seed) -> T) -> Vec<T> {
     let first = Seed { place: 0, number: 1 };
@@ -227,13 +197,12 @@ const fn has(case: &str) -> bool {
 
 /// The cases of conversions: of each the values, their Postgres type, and the Rust type that is read.
 macro_rules! conversions_by_name {
-    ($($(#[$cfg:meta])? $name:literal: $values:expr, $ty:expr, $read:ty;)*) => {
-        const CONVERSIONS: &[&str] = &[$($(#[$cfg])? $name),*];
+    ($($name:literal: $values:expr, $ty:expr, $read:ty;)*) => {
+        const CONVERSIONS: &[&str] = &[$($name),*];
 
         fn run_conversion(name: &str, reads: bool, turns: u32) -> Result<Option<u64>, Fault> {
             match name {
                 $(
-                    $(#[$cfg])?
                     $name => {
                         let (values, ty) = ($values, $ty);
                         if const { has(concat!("read-", $name)) } && reads {
@@ -262,9 +231,7 @@ conversions_by_name! {
     "oid": values(COUNT, |seed| seed.number.cast_unsigned()), Type::OID, u32;
     "pg_lsn": values(COUNT, |seed| PgLsn::from(u64::from_be_bytes(seed.repeated()))), Type::PG_LSN, PgLsn;
     "int4?": values(COUNT, |seed| seed.option(|seed| seed.number)), Type::INT4, Option<i32>;
-    "float8": values(COUNT, Seed::float), float8_type(), f64;
-    #[cfg(not(real_crate))]
-    "numeric": values(COUNT, Seed::numeric), numeric_type(), Numeric;
+    "float8": values(COUNT, Seed::float), Type::FLOAT8, f64;
     "text": texts(), Type::TEXT, String;
     "text-borrowed": texts(), Type::TEXT, &str;
     "ltree": texts(), ltree_type(), String;
@@ -272,10 +239,6 @@ conversions_by_name! {
     "bytea-borrowed": values(COUNT, |seed| seed.repeated::<8>().to_vec()), Type::BYTEA, &[u8];
     "varbit": values(COUNT, |seed| BitVec::from_bytes(&seed.repeated::<8>())), Type::VARBIT, BitVec;
     "addr": values(COUNT, |seed| IpAddr::from(seed.bytes())), Type::INET, IpAddr;
-    #[cfg(not(real_crate))]
-    "inet": values(COUNT, |seed| IpInet { address: IpAddr::from(seed.bytes()), netmask: 24 }), Type::INET, IpInet;
-    #[cfg(not(real_crate))]
-    "cidr": values(COUNT, |seed| IpCidr(seed.network())), Type::CIDR, IpCidr;
     "macaddr": values(COUNT, |seed| MacAddress::new(seed.repeated())), Type::MACADDR, MacAddress;
     "uuid": values(COUNT, |seed| Uuid::from_bytes(seed.repeated())), Type::UUID, Uuid;
     "date": values(COUNT, Seed::date), Type::DATE, Date;
@@ -285,8 +248,6 @@ conversions_by_name! {
     "timestamptz": values(COUNT, |seed| timestamp(seed.secs(), seed.nanos())), Type::TIMESTAMPTZ, Timestamp;
     "unix": values(COUNT, Seed::unix_time), Type::TIMESTAMP, UnixTime;
     "unix_inf": values(COUNT, |seed| TimestampInf::Value(seed.unix_time())), Type::TIMESTAMP, TimestampInf<UnixTime>;
-    #[cfg(not(real_crate))]
-    "interval": values(COUNT, Seed::interval), Type::INTERVAL, Interval;
     "hstore-5": [map(5)], hstore_type(), Map;
     "hstore-1000": [map(1_000)], hstore_type(), Map;
     "jsonb-1kB": [document(12)], Type::JSONB, Value;

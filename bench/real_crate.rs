@@ -3,28 +3,11 @@
 #![allow(dead_code, unused_imports, reason = "each program has a part of them")]
 
 use std::error::Error;
-use std::io::{self, Write};
-use std::panic::{self, AssertUnwindSafe};
 
 pub use bytes::BytesMut as Buf;
 pub use postgres_types::{FromSql, IsNull, ToSql};
 
 pub type Fault = Box<dyn Error + Sync + Send>;
-
-/// What the work returns, or nothing where it panics.
-pub fn caught<T>(work: impl FnOnce() -> T) -> Option<T> {
-    panic::catch_unwind(AssertUnwindSafe(work)).ok()
-}
-
-/// What answers are written to: a line at a time, since the crate may abort the process.
-pub fn output() -> impl Write {
-    io::stdout().lock()
-}
-
-/// The number of a fault, of which the crate has none.
-pub fn number_of(_: &Fault) -> u8 {
-    0
-}
 
 pub mod types {
     pub use postgres_types::{Field, Kind, Type};
@@ -35,7 +18,7 @@ pub mod types {
     }
 }
 
-#[path = "conversions/user_types.rs"]
+#[path = "user_types.rs"]
 pub mod user_types;
 
 pub mod dates {

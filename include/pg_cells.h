@@ -46,7 +46,7 @@ enum pgc_fault {
     PGC_DIMENSIONS = 8, /* an array has more than one dimension */
     PGC_TOO_FEW = 9,
     PGC_EXCESS = 10,
-    PGC_DECODE = 11,   /* a date or a timestamp is an infinity, or a time is not within a day: it has no parts */
+    PGC_DECODE = 11, /* a date or a timestamp is an infinity, or a time is not within a day: it has no parts */
     PGC_TRANSMIT = 12, /* there is no such day or time, or it is out of the range of the type */
     PGC_JSON_VERSION = 13,
     PGC_TEXT_VERSION = 14, /* the version of a cell of ltree, lquery or ltxtquery is not 1 */

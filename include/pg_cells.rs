@@ -26,6 +26,8 @@ pub const PGC_KEY_LENGTH: u32 = 7;
 pub const PGC_DIMENSIONS: u32 = 8;
 pub const PGC_TOO_FEW: u32 = 9;
 pub const PGC_EXCESS: u32 = 10;
+/// A date or a timestamp is an infinity, or a time is not within a day: it has no parts.
+pub const PGC_DECODE: u32 = 11;
 /// There is no such day or time, or it is out of the range of the type.
 pub const PGC_TRANSMIT: u32 = 12;
 pub const PGC_JSON_VERSION: u32 = 13;

@@ -55,7 +55,7 @@ def show_table(programs, _cases, _folder, passes):
     table(HEAD, (row_of(programs, case, items, passes) for case, items in cases_of(programs[0]).items()))
 
 
-def smoke(programs, _cases, _folder):
+def smoke(programs, _cases):
     """Does each case once by each side."""
     cases = cases_of(programs[0])
     for case in cases:

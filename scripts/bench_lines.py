@@ -1,30 +1,28 @@
-"""The lines of pgcell that scripts/bench measures: cells of each base name that plain Rust has."""
+"""The lines of pgcell that scripts/bench measures: cells of each base name that the Rust crate has."""
 import re
 import sys
 
-from measuring import TOP, Program, Work, compare, counts_of, head, least_times, plain_rust, row, said_of, shown, table, times_of
+import real_crate
+from measuring import TOP, Program, Work, compare, least_times, said_of, table, times_of
 
 sys.path.append(f"{TOP}/.ci")
-from formats import FORMATS, array, forms, framed
+from formats import FORMATS, array
 
-# How many lines are measured in a run, and how many are counted by valgrind.
+# How many lines are measured in a run.
 LINES = 200_000
-COUNTED = 2_000
+HEAD = ["name", "ns a line", "crate", "ratio"]
 
 
-def plain_names():
-    """The base names of the table in bench/lines.rs, which has no need to have each one of pgcell."""
+def crate_names():
+    """The base names of the table in bench/lines.rs: the crate has no INTERVAL, and no package an inet with a netmask or a cidr."""
     with open(f"{TOP}/bench/lines.rs", encoding="utf-8") as it:
         table = re.search(r"^base_names! \{\n(.*?)^\}", it.read(), flags=re.M | re.S)[1]
     return re.findall(r'^    "(\w+)": ', table, flags=re.M)
 
 
-NAMES = plain_names()
-
-
-def entry(key, value):
-    """The frames of an entry of hstore."""
-    return framed(key.encode()) + framed(value and value.encode())
+NAMES = crate_names()
+# What the crate writes otherwise: entries in no order, and 1 as the lower bound of a vector.
+OTHERWISE = ("hstore", "int2vector", "oidvector")
 
 
 def numbers(count):
@@ -33,19 +31,16 @@ def numbers(count):
 
 
 TEXTS = [b"some text", b"another text", b"", "café".encode(), b"a text of thirty bytes or more", None]
-HSTORE = (5).to_bytes(4, "big") + b"".join(
-    entry(f"key {place}", None if place == 3 else f"a value {place}") for place in range(5))
 # Cells that are more usual than those of formats.py, which has infinities and texts of characters of each length. What
 # stands after `-` in a name of the table says what the cell holds.
 CELLS = {
-    **{name: FORMATS[name].cell for name in NAMES if name not in ("text", "hstore")},
+    **{name: FORMATS[name].cell for name in NAMES if name != "text" and name not in OTHERWISE},
     "date_inf": FORMATS["date"].cell,
     "timestamp_inf": FORMATS["timestamp"].cell,
     "unix": FORMATS["timestamp"].cell,
     "unix_inf": FORMATS["timestamp"].cell,
     "text-10": b"ten bytes.",
     "text-200": b"A text of 25 characters. " * 8,
-    "hstore-5": HSTORE,
     "int4?": FORMATS["int4"].cell,
     "int4[]-10": array(numbers(10)),
     "text?[]-6": array(TEXTS),
@@ -73,10 +68,12 @@ def file_of(lines, folder, name):
 
 
 def built(given, folder):
-    """Returns pgcell, which is proved and built first where it is not given, and plain Rust."""
+    """Returns pgcell, which is proved and built first where it is not given, and the program over the crate."""
+    print(f"The Rust crate: {real_crate.require()}", flush=True)
     if not given:
         said_of([f"{TOP}/pgcell"])
-    return [Program(given or f"{TOP}/crates/pgcell/out/pgcell"), plain_rust("plain_pgcell", folder)]
+    crate = real_crate.built(folder, {"lines": real_crate.main_of("lines")})["lines"]
+    return [Program(given or f"{TOP}/crates/pgcell/out/pgcell"), Program(crate.path, ("buffered",))]
 
 
 def times_of_line(programs, name, folder):
@@ -88,25 +85,12 @@ def times_of_line(programs, name, folder):
     return times_of(programs, once, often, LINES, is_kept=False)[0]
 
 
-def row_of(programs, name, folder, before):
-    """Returns the row of a name, after the times of earlier passes."""
-    times = least_times([*before, times_of_line(programs, name, folder)])
-    line = CASES[name]
-    once, some = file_of(line, folder, "line"), file_of(line * (1 + COUNTED), folder, "some")
-    counts = [counts_of(program, once, some, COUNTED) for program in programs]
-    instructions, allocations = zip(*counts)
-    return row(name, times, [shown(it, 0) for it in instructions], [shown(it, 1) for it in allocations])
-
-
 def show_table(programs, names, folder, passes):
     before = [{name: times_of_line(programs, name, folder) for name in names} for _ in range(1, passes)]
-    table(head("name", "a line", "a line"), (row_of(programs, name, folder, [it[name] for it in before]) for name in names))
 
+    def rows():
+        for name in names:
+            ours, crate = least_times([*(it[name] for it in before), times_of_line(programs, name, folder)])
+            yield f"| {name} | {ours:.2f} | {crate:.2f} | {ours / crate:.2f} |"
 
-def smoke(programs, names, folder):
-    """Compares what is printed of a line of each name, and of each base name in each of its forms."""
-    lines = [CASES[name] for name in names]
-    lines += [line_of(name, it.cell) for name, it in forms() if re.match(r"\w+", name)[0] in NAMES]
-    work = file_of(b"".join(lines), folder, "lines")
-    compare("a line of each name", [program.run(work)[1] for program in programs])
-    print(f"bench: {len(lines)} lines of {len(NAMES)} base names have the answers of plain Rust")
+    table(HEAD, rows())

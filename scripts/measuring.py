@@ -1,18 +1,12 @@
 """Programs that scripts/bench runs: how long they take, what they print, and what valgrind counts of them."""
 import os
 import re
-import shutil
 import subprocess
 import sys
 from dataclasses import dataclass
 from itertools import zip_longest
 
 TOP = os.path.dirname(os.path.dirname(os.path.abspath(__file__)))
-# One unit, so that how plain Rust is divided into files does not decide what is inlined.
-RUSTC = ["rustc", "--edition", "2024", "-C", "opt-level=3", "-C", "codegen-units=1", "-C", "target-cpu=x86-64-v2"]
-# Without what Rattle's compiler does not tell LLVM, that nothing else reaches what a `&mut` points to, and with what the library
-# promises of faults and of memory.
-EQUAL_TERMS = ["-Z", "mutable-noalias=no", "-Z", "box-noalias=no", "--cfg", "equal_terms"]
 ROUNDS = 5
 # What a turn frees stays with the process. Else the C library gives the end of its heap and its largest blocks back to the system
 # after each turn, or does not, by how they lie, and the next turn's time is that of fresh pages.
@@ -64,11 +58,6 @@ class Program:
         told = said_of(["valgrind", *cachegrind, *self.command(work)], source=work.source)
         return number(r"I\s+refs:\s+([\d,]+)", told)
 
-    def allocations(self, work):
-        """Returns how many allocations valgrind counts in the work."""
-        told = said_of(["valgrind", *self.command(work)], source=work.source)
-        return number(r"total heap usage: ([\d,]+) allocs", told)
-
 
 def timed(command):
     """The command under `time`: of a process that Python starts, the system counts Python's own memory too."""
@@ -94,12 +83,6 @@ def said_of(command, folder=TOP, source=os.devnull):
 
 def number(pattern, text):
     return int(re.search(pattern, text)[1].replace(",", ""))
-
-
-def plain_rust(name, folder, flags=()):
-    """Builds a program of plain Rust in a folder."""
-    said_of(["env", "RUSTC_BOOTSTRAP=1", *RUSTC, *flags, "-o", f"{folder}/{name}", f"{TOP}/bench/{name}.rs"])
-    return Program(f"{folder}/{name}")
 
 
 def compare(name, printed):
@@ -132,13 +115,6 @@ def least_times(passes):
     return [min(each) for each in zip(*passes)]
 
 
-def counts_of(program, once, often, turns):
-    """Returns the instructions and the allocations of a turn, or nothing where valgrind is not there."""
-    if not shutil.which("valgrind"):
-        return None, None
-    return [(count(often) - count(once)) / turns for count in (program.instructions, program.allocations)]
-
-
 def instructions_of(program, once, often, turns):
     """Returns the instructions of a turn."""
     return (program.instructions(often) - program.instructions(once)) / turns
@@ -146,18 +122,6 @@ def instructions_of(program, once, often, turns):
 
 def shown(count, digits):
     return "-" if count is None else f"{count:,.{digits}f}"
-
-
-def row(name, times, instructions, allocations):
-    """Returns a row of the table; of each pair the first is of the program, and the other of plain Rust."""
-    ours, plain = times
-    cells = [name, f"{ours:.2f}", f"{plain:.2f}", f"{ours / plain:.2f}", *instructions, *allocations]
-    return f"| {' | '.join(cells)} |"
-
-
-def head(case, item, turn):
-    """Returns the head of a table in which each second number is of plain Rust."""
-    return [case, f"ns {item}", "plain Rust", "ratio", f"instructions {item}", "plain Rust", f"allocations {turn}", "plain Rust"]
 
 
 def table(columns, rows):

@@ -1,4 +1,4 @@
-"""The numbers of docs/PERFORMANCE.md and bench/pgcell.md: of each case that is compared, its ratios to the others."""
+"""The numbers of docs/PERFORMANCE.md: of each case that is compared, its ratios to the others."""
 import os
 import re
 import sys
@@ -6,8 +6,6 @@ from dataclasses import dataclass
 
 TOP = os.path.dirname(os.path.dirname(os.path.abspath(__file__)))
 DOCUMENT = "docs/PERFORMANCE.md"
-# The section whose tables stand in a file of their own.
-ELSEWHERE = {"The program pgcell": "bench/pgcell.md"}
 
 
 @dataclass
@@ -24,9 +22,7 @@ def read(path):
 
 
 def section(title):
-    """Returns the document's section of that title, or the file that has its tables."""
-    if title in ELSEWHERE:
-        return read(ELSEWHERE[title])
+    """Returns the document's section of that title."""
     return read(DOCUMENT).partition(f"\n## {title}\n")[2].partition("\n## ")[0]
 
 

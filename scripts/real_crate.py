@@ -6,6 +6,7 @@ import subprocess
 import sys
 
 from measuring import TOP, Program
+from packages import install
 
 REGISTRY = "/usr/share/cargo/registry"
 # What is used of each crate. `default-features` of chrono need a clock.
@@ -44,7 +45,7 @@ replace-with = "debian"
 [source.debian]
 directory = "{REGISTRY}"
 """
-FLAGS = "-C target-cpu=x86-64-v2 --cfg real_crate --cap-lints allow"
+FLAGS = "-C target-cpu=x86-64-v2 --cap-lints allow"
 # A program of a file in bench, of whose cases it may have one alone.
 MAIN = """const ONLY: &str = "{only}";
 #[path = "{top}/bench/real_crate.rs"]
@@ -61,11 +62,16 @@ def sources_of(crate):
     return sorted(glob.glob(f"{REGISTRY}/{crate}-[0-9]*"))
 
 
-def require():
-    """Ends the script with status 3 where cargo or a package is missing; else returns the crate's versions as a text."""
-    missing = [it for it in ("cargo", "rustc") if not shutil.which(it)]
+def missing_packages():
     wanted = [*CRATES, MENDED, "array-init", "postgres-derive"]
-    missing += [f"librust-{it.replace('_', '-')}-dev" for it in wanted if not sources_of(it)]
+    return [f"librust-{it.replace('_', '-')}-dev" for it in wanted if not sources_of(it)]
+
+
+def require():
+    """Returns the crate's versions as a text. Ends the script with status 3 where cargo or a package cannot be had."""
+    if missing_packages():
+        install(missing_packages())
+    missing = [it for it in ("cargo", "rustc") if not shutil.which(it)] + missing_packages()
     if missing:
         print(f"Nothing is compared with the Rust crate, for want of {', '.join(missing)}")
         sys.exit(3)

@@ -8,6 +8,8 @@ import subprocess
 import sys
 import tempfile
 
+from packages import install, say
+
 NO_SERVER = 3
 TOP = os.path.dirname(os.path.dirname(os.path.abspath(__file__)))
 # How the server writes texts.
@@ -34,11 +36,6 @@ class NoServer(Exception):
     """There is no server to try anything against."""
 
 
-def say(text):
-    """Tells the user, by the name of the script that runs."""
-    print(f"{os.path.basename(sys.argv[0])}: {text}", file=sys.stderr)
-
-
 def installed_binaries():
     """Returns the folder of the server's binaries, of the newest version that is here."""
     if shutil.which("initdb") and shutil.which("postgres"):
@@ -49,11 +46,8 @@ def installed_binaries():
 
 def find_binaries():
     """Returns the folder of the server's binaries, which root installs where they are absent."""
-    if not installed_binaries() and os.geteuid() == 0 and shutil.which("apt-get"):
-        say("installing postgresql")
-        # (another script may be installing it)
-        command = ["apt-get", "-o", "DPkg::Lock::Timeout=300", "install", "-y", "-q", "postgresql"]
-        subprocess.run(command, stdin=subprocess.DEVNULL, stdout=subprocess.DEVNULL, check=False)
+    if not installed_binaries():
+        install(["postgresql"])
     if not installed_binaries():
         raise NoServer("no PostgreSQL is here; Debian's is installed by `apt-get install postgresql`")
     return installed_binaries()

@@ -1,9 +1,7 @@
 //! The cases, by name.
 
 use crate::work::{Made, Way, Work};
-use crate::{
-    columns, dates, documents, floats, lists, maps, numbers, records, small_values, texts, types,
-};
+use crate::{columns, dates, documents, lists, maps, numbers, records, small_values, texts, types};
 use postgres_types::private::BytesMut;
 use std::alloc::Global;
 
@@ -27,8 +25,6 @@ pub const NAMES: &[&str] = &[
     "write-int4?",
     "read-float8",
     "write-float8",
-    "read-numeric",
-    "write-numeric",
     "read-text",
     "write-text",
     "read-text-borrowed",
@@ -43,10 +39,6 @@ pub const NAMES: &[&str] = &[
     "write-varbit",
     "read-addr",
     "write-addr",
-    "read-inet",
-    "write-inet",
-    "read-cidr",
-    "write-cidr",
     "read-macaddr",
     "write-macaddr",
     "read-uuid",
@@ -65,8 +57,6 @@ pub const NAMES: &[&str] = &[
     "write-unix",
     "read-unix_inf",
     "write-unix_inf",
-    "read-interval",
-    "write-interval",
     "read-hstore-5",
     "write-hstore-5",
     "read-hstore-1000",
@@ -121,9 +111,6 @@ pub fn run(alloc: Global, name: &str, turns: u32) -> Made {
 fn run_conversion(name: &str, work: Work) -> Made {
     let mut frames = BytesMut::new(work.alloc);
     if let Some(made) = numbers::run(name, work, &mut frames) {
-        return Some(made);
-    }
-    if let Some(made) = floats::run(name, work, &mut frames) {
         return Some(made);
     }
     if let Some(made) = texts::run(name, work, &mut frames) {

@@ -1,10 +1,10 @@
-//! Dates, times of day, timestamps and intervals.
+//! Dates, times of day and timestamps.
 
 use crate::values::{FromSeed, Seed};
 use crate::work::{Made, Work, measure};
 use jiff::civil;
 use postgres_types::private::BytesMut;
-use postgres_types::{Date, Fault, Interval, Timestamp, Type, UnixTime};
+use postgres_types::{Date, Fault, Timestamp, Type, UnixTime};
 use std::alloc::Global;
 
 /// Runs the case with this name, if it is in this file.
@@ -17,7 +17,6 @@ pub fn run(name: &str, work: Work, frames: &mut BytesMut) -> Made {
         "timestamptz" => measure::<jiff::Timestamp>(work, frames, &Type::TIMESTAMPTZ),
         "unix" => measure::<UnixTime>(work, frames, &Type::TIMESTAMP),
         "unix_inf" => measure::<Timestamp<UnixTime>>(work, frames, &Type::TIMESTAMP),
-        "interval" => measure::<Interval>(work, frames, &Type::INTERVAL),
         _ => return None,
     })
 }
@@ -100,16 +99,5 @@ impl<T: FromSeed> FromSeed for Date<T> {
 impl<T: FromSeed> FromSeed for Timestamp<T> {
     fn from_seed(alloc: Global, seed: Seed) -> Result<Timestamp<T>, Fault> {
         Ok(Timestamp::Value(T::from_seed(alloc, seed)?))
-    }
-}
-
-impl FromSeed for Interval {
-    fn from_seed(_alloc: Global, seed: Seed) -> Result<Interval, Fault> {
-        let [a, ..] = seed.bytes();
-        Ok(Interval {
-            microseconds: i64::from_be_bytes(seed.twice()),
-            days: seed.number,
-            months: i32::from(a),
-        })
     }
 }

@@ -9,7 +9,6 @@ mod cases;
 mod columns;
 mod dates;
 mod documents;
-mod floats;
 mod lists;
 mod maps;
 mod numbers;

@@ -1,7 +1,9 @@
-//! Booleans, integers and OIDs.
+//! Booleans, integers, OIDs and FLOAT8.
 
 use crate::values::{FromSeed, Seed};
 use crate::work::{Made, Work, measure};
+use pg_numbers::Float8;
+use pg_numbers::types::float8_type;
 use postgres_types::private::BytesMut;
 use postgres_types::{Fault, PgLsn, Type};
 use std::alloc::Global;
@@ -17,8 +19,14 @@ pub fn run(name: &str, work: Work, frames: &mut BytesMut) -> Made {
         "oid" => measure::<u32>(work, frames, &Type::OID),
         "pg_lsn" => measure::<PgLsn>(work, frames, &Type::PG_LSN),
         "int4?" => measure::<Option<i32>>(work, frames, &Type::INT4),
+        "float8" => floats(work, frames),
         _ => return None,
     })
+}
+
+fn floats(work: Work, frames: &mut BytesMut) -> Result<u64, Fault> {
+    let ty = float8_type(work.alloc)?;
+    measure::<Float8>(work, frames, &ty)
 }
 
 impl FromSeed for bool {
@@ -62,5 +70,13 @@ impl FromSeed for u32 {
 impl FromSeed for PgLsn {
     fn from_seed(_alloc: Global, seed: Seed) -> Result<PgLsn, Fault> {
         Ok(PgLsn::from(u64::from_be_bytes(seed.twice())))
+    }
+}
+
+/// A finite number.
+impl FromSeed for Float8 {
+    fn from_seed(_alloc: Global, seed: Seed) -> Result<Float8, Fault> {
+        let bits = u64::from_be_bytes(seed.twice());
+        Ok(Float8::from_bits(bits & 0xbfff_ffff_ffff_ffff))
     }
 }

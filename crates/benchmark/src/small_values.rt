@@ -3,7 +3,7 @@
 use crate::values::{FromSeed, Seed};
 use crate::work::{Made, Work, measure};
 use postgres_types::private::BytesMut;
-use postgres_types::{Fault, IpCidr, IpInet, MacAddress, Type};
+use postgres_types::{Fault, MacAddress, Type};
 use std::alloc::Global;
 use std::net::{IpAddr, Ipv4Addr};
 use uuid::Uuid;
@@ -12,8 +12,6 @@ use uuid::Uuid;
 pub fn run(name: &str, work: Work, frames: &mut BytesMut) -> Made {
     Some(match name {
         "addr" => measure::<IpAddr>(work, frames, &Type::INET),
-        "inet" => measure::<IpInet>(work, frames, &Type::INET),
-        "cidr" => measure::<IpCidr>(work, frames, &Type::CIDR),
         "macaddr" => measure::<MacAddress>(work, frames, &Type::MACADDR),
         "uuid" => measure::<Uuid>(work, frames, &Type::UUID),
         _ => return None,
@@ -24,19 +22,6 @@ impl FromSeed for IpAddr {
     fn from_seed(_alloc: Global, seed: Seed) -> Result<IpAddr, Fault> {
         let [a, b, c, d] = seed.bytes();
         Ok(IpAddr::V4(Ipv4Addr::new(a, b, c, d)))
-    }
-}
-
-impl FromSeed for IpInet {
-    fn from_seed(alloc: Global, seed: Seed) -> Result<IpInet, Fault> {
-        IpInet::new(IpAddr::from_seed(alloc, seed)?, 24)
-    }
-}
-
-impl FromSeed for IpCidr {
-    fn from_seed(_alloc: Global, seed: Seed) -> Result<IpCidr, Fault> {
-        let [a, b, c, _] = seed.bytes();
-        IpCidr::new(IpAddr::V4(Ipv4Addr::new(a, b, c, 0)), 24)
     }
 }
 

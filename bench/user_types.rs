@@ -1,4 +1,4 @@
-//! User-defined types, of plain Rust or of the crate postgres-types.
+//! User-defined types.
 
 use super::types::{Field, Kind, Type, user_type};
 
@@ -8,15 +8,6 @@ pub fn ltree_type() -> Type {
 
 pub fn hstore_type() -> Type {
     user_type("hstore", 100_002, Kind::Simple)
-}
-
-/// FLOAT8, which the crate has a constant for.
-pub fn float8_type() -> Type {
-    Type::from_oid(701).unwrap_or_else(|| user_type("float8", 701, Kind::Simple))
-}
-
-pub fn numeric_type() -> Type {
-    user_type("numeric", 1700, Kind::Simple)
 }
 
 /// Lists of lists of numbers.
