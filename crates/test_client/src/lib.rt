@@ -1,5 +1,5 @@
-//! Rows and Bind messages of a client: what is read and written, what is refused, and the place of
-//! the fault.
+//! Rows, Bind messages and the catalog of a client: what is read and written, what is refused, and
+//! the place of the fault.
 #![tactic(auto)]
 
 #[cfg(test)]

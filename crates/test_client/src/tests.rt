@@ -1,6 +1,7 @@
 //! The tests, by topic.
 
 mod bind;
+mod catalog;
 mod copy_rows;
 mod places;
 mod row_ends;

@@ -1,5 +1,6 @@
 //! The types that are made from the rows of a catalog.
-#![tactic(auto)]
 
-#[cfg(test)]
-mod tests;
+mod kinds;
+mod query;
+mod refused;
+mod rows;

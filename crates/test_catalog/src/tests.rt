@@ -1,6 +1,0 @@
-//! The tests.
-
-mod kinds;
-mod query;
-mod refused;
-mod rows;
