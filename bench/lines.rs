@@ -17,7 +17,7 @@ use std::net::IpAddr;
 use std::panic::{self, AssertUnwindSafe};
 use std::sync::LazyLock;
 
-/// Answers a line at a time, since the crate may abort the process; `PROGRAM buffered` writes many at once, as pgcell does.
+/// Writes a line at a time, since the crate may abort the process. `PROGRAM buffered` writes many at once, as pgcell does.
 pub fn main() -> Result<(), String> {
     let (input, output) = (io::stdin().lock(), io::stdout().lock());
     let ended = if env::args().len() > 1 { run(input, BufWriter::new(output)) } else { run(input, output) };

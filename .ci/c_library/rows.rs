@@ -50,6 +50,8 @@ fn try_plain_values() {
     assert_eq!(read(pgc_interval_read, &cell, PgcInterval::default()), Ok(interval));
     assert_eq!(written(|out, room| unsafe { pgc_interval_write(1, 2, 3, out, room) }), cell);
     assert_eq!(written(|out, room| unsafe { pgc_bool_write(true, out, room) }), [1]);
+    assert_eq!(written(|out, room| unsafe { pgc_char_write(-128, out, room) }), [0x80]);
+    assert_eq!(written(|out, room| unsafe { pgc_int2_write(-2, out, room) }), [0xff, 0xfe]);
     let [text, other] = ["a.b".as_bytes(), b"\xff"].map(|it| (it.as_ptr().cast::<c_void>(), it.len()));
     assert_eq!(written(|out, room| unsafe { pgc_ltree_write(text.0, text.1, out, room) }), b"\x01a.b");
     assert_eq!(unsafe { pgc_text_write(other.0, other.1, [0u8; 4].as_mut_ptr().cast(), 4) }, PGC_NO_CELL);
