@@ -52,7 +52,7 @@ fn read_event(alloc: Global, body: &[u8], columns: &[Column]) -> Result<Event, P
         host: row.next(alloc)?,
         done: row.next(alloc)?,
     };
-    row.finish(alloc)?;
+    row.finish()?;
     Ok(event)
 }
 

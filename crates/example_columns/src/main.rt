@@ -62,5 +62,5 @@ fn main(rt: HostRuntime) -> Result<()> {
             Err(fault) => println!(rt; "{fault}")?,
         }
     }
-    Ok(row.finish(alloc)?)
+    Ok(row.finish()?)
 }

@@ -12,7 +12,7 @@ fn read_ids(alloc: Global, bytes: &[u8], columns: &[Column]) -> Result<Vec<i64>>
     let mut rows = CopyRows::new(bytes, columns)?;
     while let Some(mut row) = rows.next()? {
         ids.push(row.next::<i64>(alloc)?)?;
-        row.finish(alloc)?;
+        row.finish()?;
     }
     Ok(ids)
 }

@@ -1,7 +1,6 @@
 -- The lemmas of this crate's proofs.
 mod BindLaws
 pub mod CatalogGrowth
-pub mod CellsTaken
 mod CopyLaws
 pub mod FirstRows
 pub mod RefusedReasons

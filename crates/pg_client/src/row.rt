@@ -7,12 +7,11 @@ ghost use Rattle.pg_client.specs.Rows.{ReadsNext};
 ghost use Rattle.pg_client.specs.Rows.{StandsAt, columns_of, frames_of, rest_of, taken_of};
 ghost use Rattle.pg_types.specs.Content.{content};
 ghost use Rattle.pg_types.specs.Faults.{Answers, NeverMemory, user};
-ghost use Rattle.pg_read.specs.FrameReading.{TakesCell};
 
 use crate::column::Column;
 use crate::placed_fault::{Place, PlacedFault};
 use pg_tuples::is_count;
-use postgres_types::{Fault, FromSql, Type, check_type, from_sql_nullable, read_value};
+use postgres_types::{Fault, FromSql, Type, check_type, from_sql_nullable, take_cell};
 use std::alloc::Global;
 
 /// The body of a DataRow message: the number of columns in 2 bytes, and for each column the frame
@@ -77,10 +76,10 @@ impl<'a, 'c> Row<'a, 'c> {
             return Err(no_column(place));
         };
         let mut rest = self.frames;
-        if let Err(truncated) = pass_cells(alloc, place, &mut rest) {
+        if let Err(truncated) = pass_cells(place, &mut rest) {
             return Err(PlacedFault::new(place_of(self.columns, truncated), Fault::Size));
         }
-        match take_cell(alloc, &mut rest) {
+        match take_cell(&mut rest) {
             Ok(cell) => convert(alloc, column, place, cell),
             Err(fault) => Err(PlacedFault::new(place_of(self.columns, place), fault)),
         }
@@ -101,7 +100,7 @@ impl<'a, 'c> Row<'a, 'c> {
             return Err(no_column(place));
         };
         let mut rest = self.rest;
-        match take_cell(alloc, &mut rest) {
+        match take_cell(&mut rest) {
             Ok(cell) => {
                 self.taken = place + 1;
                 self.rest = rest;
@@ -117,13 +116,13 @@ impl<'a, 'c> Row<'a, 'c> {
     ///
     /// Trailing bytes after the last column are refused with `Size` at [`Place::Row`], and a
     /// truncated frame of a column with `Size` at that column.
-    pub fn finish(self, alloc: Global) -> Result<(), PlacedFault>
+    pub fn finish(self) -> Result<(), PlacedFault>
         ensures { EndsRow (columns_of self.entry) (taken_of self.entry)
             (length (columns_of self.entry) - taken_of self.entry) (rest_of self.entry) result }
     {
         let left = self.columns.len().saturating_sub(self.taken);
         let mut rest = self.rest;
-        if let Err(passed) = pass_cells(alloc, left, &mut rest) {
+        if let Err(passed) = pass_cells(left, &mut rest) {
             let place = place_of(self.columns, self.taken + passed);
             return Err(PlacedFault::new(place, Fault::Size));
         }
@@ -160,23 +159,14 @@ fn no_column(place: usize) -> PlacedFault
     PlacedFault::new(Place::Column(place, None), Fault::user("no such column"))
 }
 
-/// Takes the framed cell from the front of the slice; every negative length is NULL. A truncated
-/// cell is refused with `Size`, and the slice is as `read_value` leaves it.
-#[tactic(auto, using(crate::proofs::CellsTaken::cell_taken))]
-fn take_cell<'a>(alloc: Global, buf: &mut &'a [u8]) -> Result<Option<&'a [u8]>, Fault>
-    ensures { TakesCell buf.old.now result buf.new.now }
-{
-    read_value(alloc, &Type::BYTEA, buf)
-}
-
 /// Skips `count` framed cells at the front of the slice. If one is truncated it returns the number
 /// of cells before it, and the slice begins at that cell.
-fn pass_cells(alloc: Global, count: usize, buf: &mut &[u8]) -> Result<(), usize>
+fn pass_cells(count: usize, buf: &mut &[u8]) -> Result<(), usize>
     ensures { PassesCells count buf.old.now result buf.new.now }
 {
     for passed in 0..count {
         let mut rest = *buf;
-        match take_cell(alloc, &mut rest) {
+        match take_cell(&mut rest) {
             Ok(_) => *buf = rest,
             Err(_) => return Err(passed),
         }

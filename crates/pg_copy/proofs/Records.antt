@@ -1,12 +1,12 @@
--- What is known of the cell of a composite type, or of arrays of it, which is taken as bytes.
-use Rattle.std.proofs.Common.{◌≡◌, ℕ, List, [], ◌∷◌, Option, Some, None, Ok, Err, inl, inr, length}
+-- What is known of the cell of arrays of a composite type, which is taken as bytes.
+use Rattle.std.proofs.Common.{ℕ, List, [], ◌∷◌, Option, Some, None, Ok, Err, inl, inr, length}
 use Rattle.std.proofs.Common.{subst, sym}
 use Rattle.std.proofs.Common.{◌≤◌, arith}
-use Rattle.std.proofs.lemmas.Option.{IfSome_then, none-some}
+use Rattle.std.proofs.lemmas.Option.{IfSome_then}
 use Rattle.std.specs.Borrow.{Bor}
 use Rattle.std.specs.Global.{Global}
-use Rattle.std.specs.Prelude.{IfErr, IfOk, IfSome, Result, Vec}
-use Rattle.pg_base.specs.Cells.{Cell, SpellsAll, SpellsNone, cell_of}
+use Rattle.std.specs.Prelude.{IfErr, IfOk, Result, Vec}
+use Rattle.pg_base.specs.Cells.{Cell, SpellsAll}
 use Rattle.pg_copy.proofs.CellTexts.{cell_refused}
 use Rattle.pg_copy.specs.CellRefusals.{CellFault, RefusesFront}
 use Rattle.pg_copy.specs.Composites.{ReadsBytesOfEach, records_values}
@@ -15,53 +15,9 @@ use Rattle.pg_copy.specs.declared.columns.Field.{Field}
 use Rattle.pg_text.specs.Texts.{AnyText}
 use Rattle.pg_types.specs.Content.{Content}
 use Rattle.pg_types.specs.declared.fault.Fault.{Fault}
-use Rattle.postgres_types.specs.Bytea.{ReadsBytes}
-use Rattle.postgres_types.specs.Faults.{Outcome, Refusal, refusal_of, size}
+use Rattle.postgres_types.specs.Faults.{Refusal, refusal_of}
 use Rattle.postgres_types.specs.FrameReading.{ReadsFirst, ReadsFrame}
 use Rattle.postgres_types.specs.OptionReading.{ReadsOption}
-
--- what is read of BYTEA
-abbrev BytesOf : Cell → Outcome (Bor (List ℕ)) → Type 0
-BytesOf = ReadsBytes (λ v. v.now)
-
-module _ (free : Cell → Type 0) (s new : List ℕ) where
-  taken_first : (o : Option (Bor (List ℕ))) (cs : List Cell) (rest : List ℕ) → length cs ≤ 1 → SpellsAll s cs rest
-      → ReadsFirst (ReadsOption BytesOf) free s cs rest (Ok o) new → SpellsAll s (cell_of o ∷ []) new
-  taken_first o [] rest few spelled h = absurd h.0
-  taken_first None (None ∷ []) rest few spelled h = subst (SpellsAll s (None ∷ [])) (sym h.2) spelled
-  taken_first None (Some b ∷ []) rest few spelled h = absurd h.0
-  taken_first (Some v) (None ∷ []) rest few spelled h = absurd h.0
-  taken_first (Some v) (Some b ∷ []) rest few spelled h =
-      subst (λ bytes. SpellsAll s (Some bytes ∷ []) new) (sym h.0) (subst (SpellsAll s (Some b ∷ [])) (sym h.2) spelled)
-  taken_first o (c ∷ d ∷ cs) rest few spelled h = let no : ⊥ = omega (arith, few) in absurd no
-
-  -- the frame at the front was taken
-  bytes_taken : (o : Option (Bor (List ℕ))) → ReadsFrame (ReadsOption BytesOf) free s (Ok o) new
-      → SpellsAll s (cell_of o ∷ []) new
-  bytes_taken o h = taken_first o h.cells h.rest h.in_row.1 h.in_row.0 h.holds
-
-  refused_front : (ty : Content) (r : Refusal)
-      → RefusesFront (values {A = Bor (List ℕ)} (λ ty. BytesOf) AnyText) ty s r → SpellsNone s × (r ≡ size)
-  refused_front ty r (inl q) = q
-  refused_front ty r (inr (b, rest, spelled, refused)) = absurd (none-some r refused)
-
-  -- no frame stands whole at the front, since bytes are never refused
-  bytes_refused : (ty : Content) (f : Fault) → ReadsFrame (ReadsOption BytesOf) free s (Err f) new
-      → IfSome (refusal_of f) (λ r. SpellsNone s × (r ≡ size))
-  bytes_refused ty f h =
-      IfSome_then (refusal_of f) (cell_refused (λ ty. BytesOf) AnyText ty free s new f h) (refused_front ty)
-
-  -- both of what reading answers
-  pub frame_taken : (result : Result (Option (Bor (List ℕ))) Fault) → ReadsFrame (ReadsOption BytesOf) free s result new
-      → IfOk result (λ o. SpellsAll s (cell_of o ∷ []) new)
-  frame_taken (Ok o) h = bytes_taken o h
-  frame_taken (Err f) h = tt
-
-  pub frame_refused : (ty : Content) (result : Result (Option (Bor (List ℕ))) Fault)
-      → ReadsFrame (ReadsOption BytesOf) free s result new
-      → IfErr result (λ f. IfSome (refusal_of f) (λ r. SpellsNone s × (r ≡ size)))
-  frame_refused ty (Ok o) h = tt
-  frame_refused ty (Err f) h = bytes_refused ty f h
 
 -- an array of BYTEA that was taken
 module _ (free : Cell → Type 0) (s new : List ℕ) where

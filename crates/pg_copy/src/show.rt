@@ -22,7 +22,7 @@ use pg_text::arrays::{push_array, push_element};
 use pg_text::separators::push_separator;
 use pg_text::{ToText, records};
 use postgres_types::composite::{read_end, read_field_count};
-use postgres_types::private::{read_be_i32, read_value};
+use postgres_types::private::{read_be_i32, read_value, take_cell};
 use postgres_types::{Fault, FromSql, Oid, Type, check_type};
 use std::alloc::Global;
 
@@ -34,7 +34,7 @@ macro_rules! push {
     ) => {
         match $base {
             $(Base::$of => push_row!(($alloc, $is_array, $ty, $row, $text) $types),)*
-            Base::Composite => refuse_composite($alloc, $is_array, $ty, $row, $text),
+            Base::Composite => refuse_composite($is_array, $ty, $row, $text),
         }
     };
 }
@@ -150,7 +150,6 @@ fn push_array_as<'a, T: FromSql<'a> + ToText>(
 
 /// Refuses a composite value in a field of a composite type; only NULL is read.
 fn refuse_composite(
-    alloc: Global,
     is_array: bool,
     ty: &Type,
     row: &mut &[u8],
@@ -160,7 +159,7 @@ fn refuse_composite(
         row.old.now has_text row.new.now text.old.items text.new.items) }
     ensures err { IfErr result (CellFault (in_form is_array no_values) (content ty.now) row.old.now) }
 {
-    match take_bytes(alloc, row)? {
+    match take_bytes(row)? {
         None => Ok(false),
         Some(_) => Err(Fault::user("composite type within a composite type")),
     }
@@ -179,7 +178,7 @@ fn push_composite(
         row.old.now has_text row.new.now text.old.items text.new.items) }
     ensures err { (ty : Content) → IfErr result (CellFault (record_values fields.now) ty row.old.now) }
 {
-    let Some(cell) = take_bytes(alloc, row)? else {
+    let Some(cell) = take_bytes(row)? else {
         return Ok(false);
     };
     push_record(alloc, fields, cell, text)?;
@@ -212,12 +211,12 @@ fn push_composites(
 }
 
 /// Takes the frame at the front of the row: the bytes of its cell, or NULL.
-fn take_bytes<'a>(alloc: Global, row: &mut &'a [u8]) -> Result<Option<&'a [u8]>, Fault>
+fn take_bytes<'a>(row: &mut &'a [u8]) -> Result<Option<&'a [u8]>, Fault>
     ensures ok { IfOk result (λ bytes. SpellsAll row.old.now (cell_of bytes ∷ []) row.new.now) }
     ensures err { IfErr result (λ fault. IfSome (refusal_of fault) (λ refusal.
         SpellsNone row.old.now × (refusal ≡ size))) }
 {
-    read_value::<Option<&[u8]>>(alloc, &Type::BYTEA, row)
+    take_cell(row)
 }
 
 /// Takes the frame of an array at the front of the row: the bytes of each element.

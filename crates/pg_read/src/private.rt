@@ -9,7 +9,7 @@ ghost use Rattle.pg_read.specs.RunReading.{HaveBeenRead, ReadsFrames, ReadsRun, 
 use crate::from_sql::FromSql;
 pub use bytes::BytesMut;
 use pg_base::fault::Fault;
-use pg_base::protocol::int4_from_sql;
+use pg_base::protocol::split_number;
 use pg_base::types::PgType;
 use std::alloc::Global;
 
@@ -18,18 +18,15 @@ use std::alloc::Global;
 pub fn read_be_i32(buf: &mut &[u8]) -> Result<i32, Fault>
     ensures { TakesNumber buf.old.now result buf.new.now }
 {
-    let bytes = *buf;
-    if bytes.len() < 4 {
-        return Err(Fault::Size);
-    }
-    let (head, rest) = bytes.split_at(4);
-    let n = int4_from_sql(head)?;
+    let (n, rest) = split_number(*buf)?;
     *buf = rest;
     Ok(n)
 }
 
-/// Takes the framed cell from the front of the slice.
-fn read_cell<'a>(buf: &mut &'a [u8]) -> Result<Option<&'a [u8]>, Fault>
+/// Takes the framed cell from the front of the slice: a length of 4 bytes, big-endian, and as many
+/// bytes; every negative length is NULL. A truncated cell is refused with `Size`, and the slice is
+/// as [`read_value`] leaves it.
+pub fn take_cell<'a>(buf: &mut &'a [u8]) -> Result<Option<&'a [u8]>, Fault>
     ensures { TakesCell buf.old.now result buf.new.now }
 {
     let len = read_be_i32(buf)?;
@@ -60,7 +57,7 @@ pub fn read_value<'a, T: FromSql<'a>>(
     requires { IsTrue (T.accepted (content type_.now)) }
     ensures { ReadsFrame (T.reads (content type_.now)) T.memory_free buf.old.now result buf.new.now }
 {
-    match read_cell(buf)? {
+    match take_cell(buf)? {
         Some(raw) => T::from_sql(alloc, type_, raw),
         None => T::from_sql_null(alloc, type_),
     }
@@ -130,7 +127,7 @@ pub fn read_values<'a, T: FromSql<'a>>(
     }
     let mut values = read_first(alloc, type_, n, buf)?;
     for _ in 1..n {
-        let Ok(cell) = read_cell(buf) else {
+        let Ok(cell) = take_cell(buf) else {
             return Err(Fault::Size);
         };
         // What is matched here stays in registers. A result of `read_value` does not.

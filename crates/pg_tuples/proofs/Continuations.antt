@@ -1,6 +1,6 @@
 -- Laws of what comes after a header and tuples.
 use Rattle.std.proofs.Common.{◌≡◌, ◌∙◌, ℕ, ℤ, suc, pos, negsuc, List, [], ◌∷◌, ◌++◌, Some, length, take, drop, nat_lt}
-use Rattle.std.proofs.Common.{ap, append_assoc, append-nil, arith, refl, subst, sym}
+use Rattle.std.proofs.Common.{ap, append_assoc, arith, refl, subst, sym}
 use Rattle.std.proofs.Math.Seq.{take-append_seam, drop-append_seam}
 use Rattle.std.proofs.lemmas.Bool.{ltb-true}
 use Rattle.std.proofs.lemmas.Int.{ints}
@@ -10,7 +10,7 @@ use Rattle.pg_base.proofs.CellLaws.{cell_single, frame_prefixes_single}
 use Rattle.pg_base.proofs.FormatLaws.{be-length, be-single}
 use Rattle.pg_base.proofs.FrameLaws.{parts_of, some_of}
 use Rattle.pg_base.specs.Cells.{Cell, IsBe, be, frames}
-use Rattle.pg_tuples.specs.Tuples.{IsCopy, IsHeader, IsNoCopy, column_count, header, trailer, tuple, tuples}
+use Rattle.pg_tuples.specs.Tuples.{IsHeader, IsNoCopy, column_count, header, trailer, tuple, tuples}
 
 -- the bytes of a number of columns
 count_is : (n : ℕ) (count : List ℕ) → column_count n ≡ Some count → IsBe w16 count (pos n)

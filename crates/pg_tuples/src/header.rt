@@ -3,7 +3,7 @@ ghost use Rattle.std.specs.Prelude.{◌≡◌, IfErr, IfOk, OnErr, OnOk};
 ghost use Rattle.pg_tuples.specs.Reading.{TakesHeader};
 ghost use Rattle.pg_tuples.specs.Refusals.{RefusesFlags, RefusesHeader};
 
-use pg_read::private::read_be_i32;
+use pg_base::protocol::split_number;
 use thiserror::Error;
 
 /// The signature, with which a binary COPY begins.
@@ -48,8 +48,7 @@ pub fn take_header(bytes: &mut &[u8]) -> Result<Option<usize>, HeaderFault>
         return Ok(None);
     };
     check_flags(*c0, *c1)?;
-    let mut extension = length;
-    let Ok(len) = read_be_i32(&mut extension) else {
+    let Ok((len, extension)) = split_number(length) else {
         return Ok(None);
     };
     if len < 0 {

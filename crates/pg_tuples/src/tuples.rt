@@ -6,7 +6,7 @@ ghost use Rattle.pg_tuples.specs.Reading.{NoFrame, StandsAt};
 ghost use Rattle.pg_tuples.specs.Refusals.{HasNegativeLength, RefusesTupleOf};
 ghost use Rattle.pg_tuples.specs.Tuples.{FrameThen, FramesThen};
 
-use pg_read::private::read_be_i32;
+use pg_base::protocol::split_number;
 use thiserror::Error;
 
 /// The trailer: -1 instead of a number of columns.
@@ -112,8 +112,7 @@ fn check_length(bytes: &[u8], place: usize) -> Result<(), TupleFault>
     ensures ok { OnOk result (HasNegativeLength bytes.now → ⊥) }
     ensures refused { IfErr result (λ fault. (fault ≡ TupleFault.Length (place + 1)) × HasNegativeLength bytes.now) }
 {
-    let mut rest = bytes;
-    let Ok(len) = read_be_i32(&mut rest) else {
+    let Ok((len, _)) = split_number(bytes) else {
         return Ok(());
     };
     if len < -1 {
@@ -129,8 +128,7 @@ fn after_frame(bytes: &[u8]) -> Option<&[u8]>
     ensures some { IfSome result (λ rest. FrameThen bytes.now rest.now) }
     ensures none { IfNone result (NoFrame bytes.now) }
 {
-    let mut rest = bytes;
-    let Ok(len) = read_be_i32(&mut rest) else {
+    let Ok((len, rest)) = split_number(bytes) else {
         return None;
     };
     if len == -1 {

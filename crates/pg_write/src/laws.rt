@@ -1,5 +1,6 @@
 //! What the library's own types promise beyond the contract of the trait.
 ghost use Rattle.std.specs.Prelude.{◌≤◌, IsTrue, length};
+ghost use Rattle.std.specs.Box.{boxed_slice_items};
 ghost use Rattle.pg_base.specs.Cells.{max_length};
 
 use crate::to_sql::ToSql;
@@ -72,11 +73,13 @@ fn value_keeps_room_rule<T: ToSql>(value: &T)
 {}
 
 /// A list keeps the room rule if its elements do and none is refused, as no boolean is.
-pub fn lists_that_keep_the_room_rule(list: &Vec<bool>)
-    requires { length list.now.items ≤ max_length }
+pub fn lists_that_keep_the_room_rule(list: &Vec<bool>, boxed: &BoxedSlice<bool>)
+    requires list { length list.now.items ≤ max_length }
+    requires boxed { length (boxed_slice_items boxed.now) ≤ max_length }
 {
     value_keeps_room_rule(list);
     value_keeps_room_rule(&list.as_slice());
+    value_keeps_room_rule(boxed);
     value_keeps_room_rule(&[false, true]);
 }
 

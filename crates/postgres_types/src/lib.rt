@@ -25,7 +25,7 @@ pub use pg_base::types::{Field, Kind, KindRef, Oid, PgType as Type};
 pub use pg_base::unix_time::UnixTime;
 pub use pg_read::from_sql::{FromSql, from_sql_nullable};
 pub use pg_read::private;
-pub use pg_read::private::{BytesMut, read_be_i32, read_value, read_values};
+pub use pg_read::private::{BytesMut, read_be_i32, read_value, read_values, take_cell};
 pub use pg_write::params::{frame_value, params_to_sql};
 pub use pg_write::to_sql::{ToSql, check_type, to_sql_checked_as, wrong_type};
 pub use rewriting::rewrite;

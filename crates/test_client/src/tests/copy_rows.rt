@@ -72,12 +72,12 @@ fn rows_come_in_their_order(rt: HostRuntime) -> Result<(), Fail> {
     same(row.next::<i32>(alloc)?, 7)?;
     same(row.next::<String>(alloc)?.as_str(), "ja")?;
     same(row.next::<bool>(alloc)?, true)?;
-    row.finish(alloc)?;
+    row.finish()?;
     let row = rows.next()?.ok_or("no second row")?;
     same(row.get::<bool>(alloc, 2)?, false)?;
     same(row.get::<Option<String>>(alloc, 1)?.is_none(), true)?;
     same(row.get::<i32>(alloc, 0)?, 8)?;
-    row.finish(alloc)?;
+    row.finish()?;
     same(rows.next()?.is_none(), true)?;
     same(rows.next()?.is_none(), true)?;
     same(rows.count(), 2)

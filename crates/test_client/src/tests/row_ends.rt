@@ -11,20 +11,20 @@ use test_support::same;
 fn columns_that_were_not_taken_are_passed_over(rt: HostRuntime) -> Result<(), Fail> {
     let alloc = rt.alloc();
     let columns = item_columns();
-    Row::new(&ITEM, &columns)?.finish(alloc)?;
+    Row::new(&ITEM, &columns)?.finish()?;
     let mut row = Row::new(&ITEM, &columns)?;
     same(row.next::<i32>(alloc)?, 7)?;
-    Ok(row.finish(alloc)?)
+    Ok(row.finish()?)
 }
 
 /// Tests that ending the row of this body fails with this text, whether its first column was taken
 /// or not.
 fn does_not_end(alloc: Global, body: &[u8], text: &str) -> Result<(), Fail> {
     let columns = item_columns();
-    refused(alloc, Row::new(body, &columns)?.finish(alloc), text)?;
+    refused(alloc, Row::new(body, &columns)?.finish(), text)?;
     let mut row = Row::new(body, &columns)?;
     same(row.next::<i32>(alloc)?, 7)?;
-    refused(alloc, row.finish(alloc), text)
+    refused(alloc, row.finish(), text)
 }
 
 #[test]

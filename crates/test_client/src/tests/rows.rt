@@ -33,7 +33,7 @@ fn columns_are_read_in_turn(rt: HostRuntime) -> Result<(), Fail> {
     same(row.next::<i32>(alloc)?, 7)?;
     same(row.next::<String>(alloc)?.as_str(), "ja")?;
     same(row.next::<bool>(alloc)?, true)?;
-    Ok(row.finish(alloc)?)
+    Ok(row.finish()?)
 }
 
 #[test]
@@ -47,7 +47,7 @@ fn columns_are_read_in_any_order(rt: HostRuntime) -> Result<(), Fail> {
     same(row.get::<String>(alloc, 1)?.as_str(), "ja")?;
     same(row.get::<bool>(alloc, 2)?, true)?;
     same(row.next::<String>(alloc)?.as_str(), "ja")?;
-    Ok(row.finish(alloc)?)
+    Ok(row.finish()?)
 }
 
 /// Returns the name in the row, borrowed from its body.
@@ -67,6 +67,6 @@ fn texts_are_borrowed_from_the_body(rt: HostRuntime) -> Result<(), Fail> {
 }
 
 #[test]
-fn a_row_without_columns_is_its_number(rt: HostRuntime) -> Result<(), Fail> {
-    Ok(Row::new(&[0, 0], &[])?.finish(rt.alloc())?)
+fn a_row_without_columns_is_its_number(_rt: HostRuntime) -> Result<(), Fail> {
+    Ok(Row::new(&[0, 0], &[])?.finish()?)
 }

@@ -17,7 +17,7 @@ returns-in_default-clause-run g c =
     let truncated = c.in_default.ensures in
     run_truncated (λ (v : Vec g.row.T.Denot Global). v.items) (g.T.FromSql.reads (content c.args.type_.now))
     c.args.buf.now.now so_far.0 c.loop.values.items c.loop.buf.now so_far.2
-    c.args.n Size c.read_cell.new.buf.now (omega (arith, so_far.1)) truncated.0 refl truncated.2
+    c.args.n Size c.take_cell.new.buf.now (omega (arith, so_far.1)) truncated.0 refl truncated.2
 
 pub returns-in_default-clause-frames : goal.returns-in_default-clause-frames
 returns-in_default-clause-frames g c =
@@ -25,7 +25,7 @@ returns-in_default-clause-frames g c =
     let single = (g.met.T.FromSql c.lifetimes k).single (content c.args.type_.now) c.requires in
     run_frames (λ (v : Vec g.row.T.Denot Global). v.items) g.T.FromSql.same
     (g.T.FromSql.reads (content c.args.type_.now)) single c.args.buf.now.now
-    c.read_cell.new.buf.now c.args.n (Err Size) (returns-in_default-clause-run g c)
+    c.take_cell.new.buf.now c.args.n (Err Size) (returns-in_default-clause-run g c)
 
 pub returns-in_err-from_sql-in-Some-clause-run : goal.returns-in_err-from_sql-in-Some-clause-run
 returns-in_err-from_sql-in-Some-clause-run g c =
@@ -34,7 +34,7 @@ returns-in_err-from_sql-in-Some-clause-run g c =
     let taken = rw c.in-Some.is at c.in-Ok.ensures in
     rw (p.1, p.2) (run_stops (λ (v : Vec g.row.T.Denot Global). v.items) (g.T.FromSql.reads (content c.args.type_.now))
     c.args.buf.now.now so_far.0 c.loop.values.items c.loop.buf.now so_far.2
-    c.args.n c.in_err-from_sql-in-Some.field-0.0 c.read_cell.new.buf.now
+    c.args.n c.in_err-from_sql-in-Some.field-0.0 c.take_cell.new.buf.now
     (omega (arith, so_far.1)) c.holds_bytes.ensures taken.0 (Some c.in-Some.raw.now) taken.1 taken.2
     c.in_err-from_sql-in-Some.ensures.outcome)
 
@@ -44,7 +44,7 @@ returns-in_err-from_sql-in-Some-clause-frames g c =
     let single = (g.met.T.FromSql c.lifetimes k).single (content c.args.type_.now) c.requires in
     run_frames (λ (v : Vec g.row.T.Denot Global). v.items) g.T.FromSql.same
     (g.T.FromSql.reads (content c.args.type_.now)) single c.args.buf.now.now
-    c.read_cell.new.buf.now c.args.n c.from_residual-in_err-from_sql-in-Some.result (returns-in_err-from_sql-in-Some-clause-run g c)
+    c.take_cell.new.buf.now c.args.n c.from_residual-in_err-from_sql-in-Some.result (returns-in_err-from_sql-in-Some-clause-run g c)
 
 pub returns-in_err-push-in-Some-clause-run : goal.returns-in_err-push-in-Some-clause-run
 returns-in_err-push-in-Some-clause-run g c =
@@ -53,9 +53,9 @@ returns-in_err-push-in-Some-clause-run g c =
     let so_far = c.loop.invariant in
     let taken = rw c.in-Some.is at c.in-Ok.ensures in
     rw p.1 (run_unkept (λ (v : Vec g.row.T.Denot Global). v.items) reads c.args.buf.now.now so_far.0
-    c.loop.values.items c.loop.buf.now so_far.2 c.args.n p.0 (Some c.in-Some.raw.now) c.read_cell.new.buf.now
+    c.loop.values.items c.loop.buf.now so_far.2 c.args.n p.0 (Some c.in-Some.raw.now) c.take_cell.new.buf.now
     (spelled_next reads c.args.buf.now.now so_far.0 c.loop.values.items c.loop.buf.now so_far.2 taken.0
-    (Some c.in-Some.raw.now) c.read_cell.new.buf.now taken.1 taken.2)
+    (Some c.in-Some.raw.now) c.take_cell.new.buf.now taken.1 taken.2)
     (omega (arith, so_far.1)) c.holds_bytes.ensures (ap refusal_of p.2))
 
 pub returns-in_err-from_sql_null-in-None-clause-run : goal.returns-in_err-from_sql_null-in-None-clause-run
@@ -65,7 +65,7 @@ returns-in_err-from_sql_null-in-None-clause-run g c =
     let taken = rw c.in-None.is at c.in-Ok.ensures in
     rw (p.1, p.2) (run_stops (λ (v : Vec g.row.T.Denot Global). v.items) (g.T.FromSql.reads (content c.args.type_.now))
     c.args.buf.now.now so_far.0 c.loop.values.items c.loop.buf.now so_far.2
-    c.args.n c.in_err-from_sql_null-in-None.field-0.0 c.read_cell.new.buf.now
+    c.args.n c.in_err-from_sql_null-in-None.field-0.0 c.take_cell.new.buf.now
     (omega (arith, so_far.1)) c.holds_bytes.ensures taken.0 None taken.1 taken.2
     c.in_err-from_sql_null-in-None.ensures.outcome)
 
@@ -75,7 +75,7 @@ returns-in_err-from_sql_null-in-None-clause-frames g c =
     let single = (g.met.T.FromSql c.lifetimes k).single (content c.args.type_.now) c.requires in
     run_frames (λ (v : Vec g.row.T.Denot Global). v.items) g.T.FromSql.same
     (g.T.FromSql.reads (content c.args.type_.now)) single c.args.buf.now.now
-    c.read_cell.new.buf.now c.args.n c.from_residual-in_err-from_sql_null-in-None.result (returns-in_err-from_sql_null-in-None-clause-run g c)
+    c.take_cell.new.buf.now c.args.n c.from_residual-in_err-from_sql_null-in-None.result (returns-in_err-from_sql_null-in-None-clause-run g c)
 
 pub returns-in_err-push-in-None-clause-run : goal.returns-in_err-push-in-None-clause-run
 returns-in_err-push-in-None-clause-run g c =
@@ -84,9 +84,9 @@ returns-in_err-push-in-None-clause-run g c =
     let so_far = c.loop.invariant in
     let taken = rw c.in-None.is at c.in-Ok.ensures in
     rw p.1 (run_unkept (λ (v : Vec g.row.T.Denot Global). v.items) reads c.args.buf.now.now so_far.0
-    c.loop.values.items c.loop.buf.now so_far.2 c.args.n p.0 None c.read_cell.new.buf.now
+    c.loop.values.items c.loop.buf.now so_far.2 c.args.n p.0 None c.take_cell.new.buf.now
     (spelled_next reads c.args.buf.now.now so_far.0 c.loop.values.items c.loop.buf.now so_far.2 taken.0
-    None c.read_cell.new.buf.now taken.1 taken.2)
+    None c.take_cell.new.buf.now taken.1 taken.2)
     (omega (arith, so_far.1)) c.holds_bytes.ensures (ap refusal_of p.2))
 
 pub returns-in_err-values-clause-frames : goal.returns-in_err-values-clause-frames
@@ -110,7 +110,7 @@ loop-preserved g c =
             omega (arith, so_far.1, length-append so_far.0 (cell ∷ [])),
             rw
                 (w.values-is, w.in_ok-push-in-Some.ensures.items) (read_next reads c.args.buf.now.now so_far.0
-                c.loop.values.items c.loop.buf.now so_far.2 taken.0 cell c.read_cell.new.buf.now taken.1 taken.2
+                c.loop.values.items c.loop.buf.now so_far.2 taken.0 cell c.take_cell.new.buf.now taken.1 taken.2
                 w.in_ok-from_sql-in-Some.field-0 w.in_ok-from_sql-in-Some.ensures.outcome),
           )
       | in-None+in_ok-from_sql_null-in-None+in_ok-push-in-None w ↦
@@ -120,7 +120,7 @@ loop-preserved g c =
             omega (arith, so_far.1, length-append so_far.0 (cell ∷ [])),
             rw
                 (w.values-is, w.in_ok-push-in-None.ensures.items) (read_next reads c.args.buf.now.now so_far.0
-                c.loop.values.items c.loop.buf.now so_far.2 taken.0 cell c.read_cell.new.buf.now taken.1 taken.2
+                c.loop.values.items c.loop.buf.now so_far.2 taken.0 cell c.take_cell.new.buf.now taken.1 taken.2
                 w.in_ok-from_sql_null-in-None.field-0 w.in_ok-from_sql_null-in-None.ensures.outcome),
           )
     ]

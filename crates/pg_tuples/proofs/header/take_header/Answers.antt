@@ -1,4 +1,5 @@
 -- What the proof of `take_header` answers by hand.
+use Rattle.std.proofs.lemmas.Grind.{common_steps}
 use Rattle.std.proofs.Common.{◌≡◌, ◌<ℤ◌, ◌∙◌, nat_abs, of_z, pos, refl, sym, to_z, arith}
 use Rattle.std.proofs.lemmas.Int.{ints}
 use Rattle.std.specs.Int.{w32}
@@ -13,7 +14,7 @@ returns-clause-ok c =
     let is : c.in-Ok.len ≡ pos len = omega (arith, ints) in
     header_taken c.args.bytes.now.now c.in-Some.flags.now c.in-Some.ensures.cases.0 c.in-Some.ensures.cases.1
     c.in-len4-up.len_at_least c.in_ok-check_flags.ensures.ok.0 c.in_ok-check_flags.ensures.ok.1
-    c.read_be_i32.new.buf.now c.in-Ok.len c.in-Ok.ensures len is
+    c.in-Ok.extension.now c.in-Ok.len c.in-Ok.ensures.outcome len is
 
 pub returns-in_err-check_flags-clause-refused : goal.returns-in_err-check_flags-clause-refused
 returns-in_err-check_flags-clause-refused c =
@@ -27,16 +28,15 @@ returns-then-len-lt0-clause-refused c =
     let below : c.in-Ok.len <ℤ pos 0 = omega (arith, ints) in
     extension_refused c.args.bytes.now.now c.in-Some.flags.now c.in-Some.ensures.cases.0 c.in-Some.ensures.cases.1
     c.in-len4-up.len_at_least c.in_ok-check_flags.ensures.ok.0 c.in_ok-check_flags.ensures.ok.1
-    c.read_be_i32.new.buf.now c.in-Ok.len c.in-Ok.ensures below
+    c.in-Ok.extension.now c.in-Ok.len c.in-Ok.ensures.outcome below
 
 pub returns-then-starts_with-clause-ok : goal.returns-then-starts_with-clause-ok
 returns-then-starts_with-clause-ok c =
     (ends_in_signature c.args.bytes.now.now (sym c.starts_with.ensures.value ∙ c.if-starts_with.true), refl)
 
-pub returns-in_default-read_be_i32-clause-ok : goal.returns-in_default-read_be_i32-clause-ok
-returns-in_default-read_be_i32-clause-ok c = (
+pub returns-in_default-split_number-clause-ok : goal.returns-in_default-split_number-clause-ok
+returns-in_default-split_number-clause-ok c = (
   ends_in_length c.args.bytes.now.now c.in-Some.flags.now c.in-Some.ensures.cases.0 c.in-Some.ensures.cases.1
-      c.in-len4-up.len_at_least c.in_ok-check_flags.ensures.ok.0 c.in_ok-check_flags.ensures.ok.1
-      c.in_default-read_be_i32.ensures.0,
+      c.in-len4-up.len_at_least c.in_ok-check_flags.ensures.ok.0 c.in_ok-check_flags.ensures.ok.1 (grind (arith, common_steps)),
   refl,
 )

@@ -7,4 +7,4 @@ use Rattle.pg_tuples.proofs.tuples.check_length.Goals as goal
 pub returns-then-len-ltminus1-clause-refused : goal.returns-then-len-ltminus1-clause-refused
 returns-then-len-ltminus1-clause-refused c =
     let below : c.in-Ok.len <ℤ negsuc 0 = omega (arith, ints) in
-    (refl, negative_length c.args.bytes.now c.read_be_i32.new.buf.now c.in-Ok.len c.in-Ok.ensures below)
+    (refl, negative_length c.args.bytes.now c.in-Ok.field-0-1.now c.in-Ok.len c.in-Ok.ensures.outcome below)

@@ -1,4 +1,5 @@
 -- What the proof of `lists_that_keep_the_room_rule` answers by hand.
+use Rattle.std.specs.Box.{boxed_slice_items}
 use Rattle.std.proofs.Common.{◌≤◌, [], ◌∷◌, Bool, IsOk, List, ap, arith, false, length, true}
 use Rattle.pg_base.specs.ArrayTypes.{accepted_list}
 use Rattle.pg_base.specs.Cells.{max_length}
@@ -21,7 +22,10 @@ by_room accepted list few =
     (each_of _ (λ v ty ok. has_frame v) list)
 
 pub value_keeps_room_rule-requires : goal.value_keeps_room_rule-requires
-value_keeps_room_rule-requires c = by_room _ c.args.list.now.items c.requires
+value_keeps_room_rule-requires c = by_room _ c.args.list.now.items c.requires.list
 
 pub value_keeps_room_rule-requires-2 : goal.value_keeps_room_rule-requires-2
-value_keeps_room_rule-requires-2 c = by_room _ c.as_slice.result.now (omega (arith, c.requires, ap length c.as_slice.ensures.value))
+value_keeps_room_rule-requires-2 c = by_room _ c.as_slice.result.now (omega (arith, c.requires.list, ap length c.as_slice.ensures.value))
+
+pub value_keeps_room_rule-requires-3 : goal.value_keeps_room_rule-requires-3
+value_keeps_room_rule-requires-3 c = by_room _ (boxed_slice_items c.args.boxed.now) c.requires.boxed

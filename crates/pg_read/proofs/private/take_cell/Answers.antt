@@ -1,9 +1,9 @@
--- What the proof of `read_cell` answers by hand.
+-- What the proof of `take_cell` answers by hand.
 use Rattle.std.proofs.Common.{◌≡◌, ◌++◌, arith, length, pos}
 use Rattle.std.proofs.lemmas.Int.{ints}
 use Rattle.std.proofs.lemmas.Grind.{common_steps}
 use Rattle.pg_base.proofs.FrameLaws.{cell_after_length}
-use Rattle.pg_read.proofs.private.read_cell.Goals as goal
+use Rattle.pg_read.proofs.private.take_cell.Goals as goal
 
 pub returns : goal.returns
 returns c =
