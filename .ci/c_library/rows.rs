@@ -3,7 +3,6 @@
 //! Expected values are computed by hand from PostgreSQL's formats. .ci/c_library/*.c have more rows; these are to show
 //! that each kind of parameter, and each struct, is declared as the library has it.
 
-#[path = "../../include/pg_cells.rs"]
 mod pg_cells;
 
 use core::ffi::c_void;
