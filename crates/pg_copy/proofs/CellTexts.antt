@@ -1,5 +1,5 @@
 -- What is known of a framed cell that was read as an option.
-use Rattle.std.proofs.Common.{◌≤◌, ℕ, List, [], ◌∷◌, Some, None, Ok, Err, length, arith, inl, inr, refl, subst}
+use Rattle.std.proofs.Common.{◌≡◌, ◌≤◌, ℕ, List, [], ◌∷◌, Some, None, Ok, Err, length, arith, inl, inr, refl, subst}
 use Rattle.std.proofs.Common.{sym}
 use Rattle.std.proofs.lemmas.Option.{IfSome_then}
 use Rattle.std.specs.Prelude.{IfSome}
@@ -48,3 +48,9 @@ module _ {A : Type 0} (reads : Content → Cell → Outcome A → Type 0) (shows
   pub cell_refused : ReadsFrame (ReadsOption (reads ty)) free s (Err f) new
       → IfSome (refusal_of f) (RefusesFront (values reads shows) ty s)
   cell_refused h = refused_first h.cells h.rest h.in_row h.holds
+
+-- what was appended to an empty buffer is a text
+pub shown_alone : {A : Type 0} (shows : A → List ℕ → List ℕ → Type 0) (v w : A) (old new text : List ℕ) → w ≡ v
+    → old ≡ [] → text ≡ new → shows w old new → shows v [] text
+shown_alone shows v w old new text same empty is h =
+    subst (λ x. shows x [] text) same (subst (λ s. shows w s text) empty (subst (shows w old) (sym is) h))

@@ -17,7 +17,7 @@ use Rattle.pg_copy.proofs.ArrayBounds.{bound_shown}
 use Rattle.pg_copy.specs.Composites.{FieldText, ReadsBytesOfEach, ShowsField, ShowsRecord, field_values, fits_oid}
 use Rattle.pg_copy.specs.Composites.{record_values, records_values, type_fault}
 use Rattle.pg_copy.specs.Lines.{values_with}
-use Rattle.pg_copy.specs.ReadingSteps.{TakesCell}
+use Rattle.pg_copy.specs.ReadingSteps.{TakesText}
 use Rattle.pg_copy.specs.Values.{HasOtherBound}
 use Rattle.pg_copy.specs.declared.columns.Field.{Field}
 use Rattle.pg_copy.specs.declared.types.Base.{Base}
@@ -113,39 +113,19 @@ module _ (field : Field) (old mid new : List ℕ) (fits : type_fault (content fi
     refl,
   )
 
-  null_shown : (has_text : Bool) (cleared own : List ℕ) → has_text ≡ false
-      → TakesCell (field_values field) (content field.ty) mid has_text new cleared own
-      → TakesField field old new text text
-  null_shown false cleared own e (None, spelled, q) =
+  -- NULL was taken
+  pub null_field : TakesText (field_values field) (content field.ty) mid None new → TakesField field old new text text
+  null_field (None, spelled, q) =
       subst (TakesField field old new text) (append-nil text) (with_cell None [] spelled refl)
-  null_shown false cleared own e (Some bytes, spelled, q) = let bad : ⊥ = cc in absurd bad
-  null_shown true cleared own e q = let bad : ⊥ = cc in absurd bad
+  null_field (Some bytes, spelled, q) = absurd q
 
-  some_shown : (has_text : Bool) (own longer : List ℕ) → has_text ≡ true
-      → TakesCell (field_values field) (content field.ty) mid has_text new [] own
-      → longer ≡ text ++ field_text own
-      → TakesField field old new text longer
-  some_shown true own longer e (Some bytes, spelled, q) last =
+  -- a value was taken
+  pub some_field : (own longer : List ℕ) → TakesText (field_values field) (content field.ty) mid (Some own) new
+      → longer ≡ text ++ field_text own → TakesField field old new text longer
+  some_field own longer (Some bytes, spelled, q) last =
       subst (TakesField field old new text) (sym last)
-      (with_cell (Some bytes) (field_text own) spelled (own, q.1, refl))
-  some_shown true own longer e (None, spelled, q) last = let bad : ⊥ = cc in absurd bad
-  some_shown false own longer e q last = let bad : ⊥ = cc in absurd bad
-
-  module _ (has_text : Bool) (cleared own : List ℕ) (e : cleared ≡ [])
-      (q : TakesCell (field_values field) (content field.ty) mid has_text new cleared
-      own) where
-    -- NULL was taken
-    pub null_field : has_text ≡ false → TakesField field old new text text
-    null_field none = null_shown has_text cleared own none q
-
-    -- a value was taken
-    pub some_field : (longer : List ℕ) → has_text ≡ true → longer ≡ text ++ field_text own
-        → TakesField field old new text longer
-    some_field longer some last =
-        some_shown has_text own longer some
-        (subst (λ c. TakesCell (field_values field) (content field.ty) mid has_text new c own)
-        e q)
-        last
+      (with_cell (Some bytes) (field_text own) spelled (own, q, refl))
+  some_field own longer (None, spelled, q) last = let bad : ⊥ = cc in absurd bad
 
 -- the elements of a list, if there is one
 abbrev all : Option (Vec (Option (Bor (List ℕ))) Global) → List (Option (Bor (List ℕ)))
@@ -153,16 +133,16 @@ all None = []
 all (Some v) = v.items
 
 -- an array of records was taken
-pub records_taken : (fields : List Field) (s new text longer : List ℕ)
+pub records_taken : (fields : List Field) (s new text : List ℕ)
     (o : Option (Vec (Option (Bor (List ℕ))) Global)) (v : Vec (Option (Bor (List ℕ))) Global) → o ≡ Some v
     → (cell : Cell) × SpellsAll s (cell ∷ []) new × ReadsOption ReadsBytesOfEach cell (Ok o)
     → (HasOtherBound (drop 4 s) → ⊥)
-    → ShowsArray (λ r. ShowsRecord fields r.now) v.items text longer
-    → (ty : Content) → TakesCell (records_values fields) ty s true new text longer
-records_taken fields s new text longer (Some v) w e (Some b, spelled, read) none shown ty =
-    let same = subst (λ p. ShowsArray (λ r. ShowsRecord fields r.now) (all p) text longer) (sym e) shown in
+    → ShowsArray (λ r. ShowsRecord fields r.now) v.items [] text
+    → (ty : Content) → TakesText (records_values fields) ty s (Some text) new
+records_taken fields s new text (Some v) w e (Some b, spelled, read) none shown ty =
+    let same = subst (λ p. ShowsArray (λ r. ShowsRecord fields r.now) (all p) [] text) (sym e) shown in
     let of_bound_one = bound_shown (λ ty. ReadsOption (ReadsBytes (λ r. r.now))) (BuiltInType ByteaArray) s b new v
     spelled read none in
-    (Some b, spelled, (refl, (v, of_bound_one, same)))
-records_taken fields s new text longer (Some v) w e (None, spelled, read) none shown ty = absurd read
-records_taken fields s new text longer None w e taken none shown ty = let bad : ⊥ = cc in absurd bad
+    (Some b, spelled, (v, of_bound_one, same))
+records_taken fields s new text (Some v) w e (None, spelled, read) none shown ty = absurd read
+records_taken fields s new text None w e taken none shown ty = let bad : ⊥ = cc in absurd bad

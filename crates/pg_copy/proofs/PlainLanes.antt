@@ -21,17 +21,17 @@ none_passes p (x ∷ xs) e zero h = (unset (p x) (mask_l (map p xs)) e).0
 none_passes p (x ∷ xs) e (suc k) h =
     none_passes p xs (unset (p x) (mask_l (map p xs)) e).1 k (omega arith)
 
--- nor does one of the bytes that were loaded
-none_passes_at : (t : ℕ → ℕ → Bool) (y : ℕ) (text : List ℕ) (at : ℕ) → at + 16 ≤ length text
-    → mask_l (map (top 7) (zip2 (λ a b. cond (t a b) 255 0) (chunk at 16 text) (replicate 16 y))) % 2 ^ 64 ≡ 0
-    → (k : ℕ) → at ≤ k → k < at + 16 → t (get_or text k 0) y ≡ false
-none_passes_at t y text at room none k from to =
-    let long = length-chunk at 16 text room in
-    let mask = bitmask_splat w8 t (chunk at 16 text) 16 y long (omega arith) in
+-- nor does one of the bytes that were loaded to n lanes
+none_passes_at : (n : ℕ) (t : ℕ → ℕ → Bool) (y : ℕ) (text : List ℕ) (at : ℕ) → n ≤ 64 → at + n ≤ length text
+    → mask_l (map (top 7) (zip2 (λ a b. cond (t a b) 255 0) (chunk at n text) (replicate n y))) % 2 ^ 64 ≡ 0
+    → (k : ℕ) → at ≤ k → k < at + n → t (get_or text k 0) y ≡ false
+none_passes_at n t y text at few room none k from to =
+    let long = length-chunk at n text room in
+    let mask = bitmask_splat w8 t (chunk at n text) n y long few in
     let back : at + (k - at) ≡ k = omega arith in
-    let byte = sym (get_or-chunk at 16 text (k - at) 0 (omega arith) ∙ ap (λ j. get_or text j 0) back) in
+    let byte = sym (get_or-chunk at n text (k - at) 0 (omega arith) ∙ ap (λ j. get_or text j 0) back) in
     ap (λ b. t b y) byte
-    ∙ none_passes (λ b. t b y) (chunk at 16 text) (sym mask ∙ none) (k - at) (omega arith)
+    ∙ none_passes (λ b. t b y) (chunk at n text) (sym mask ∙ none) (k - at) (omega arith)
 
 -- neither a control character nor a backslash
 plain_byte : (byte : ℕ) → ltb byte 32 ≡ false → eqb byte 92 ≡ false → is_plain byte ≡ true
@@ -52,14 +52,15 @@ on_true true P f = f refl
 on_true false P f = tt
 
 -- the two tests of the lanes, as the code makes them
-pub plain_lanes : (text : List ℕ) (at : ℕ) → at + 16 ≤ length text
-    → mask_l (map (top 7) (zip2 (λ a b. cond (ltb a b) 255 0) (chunk at 16 text) (replicate 16 32))) % 2 ^ 64 ≡ 0
+pub plain_lanes : (n : ℕ) (text : List ℕ) (at : ℕ) → n ≤ 64 → at + n ≤ length text
+    → mask_l (map (top 7) (zip2 (λ a b. cond (ltb a b) 255 0) (chunk at n text) (replicate n 32))) % 2 ^ 64 ≡ 0
     → OnTrue
-    (mask_l (map (top 7) (zip2 (λ a b. cond (eqb a b) 255 0) (chunk at 16 text) (replicate 16 92))) % 2 ^ 64 == 0)
-    (PlainBetween text at (at + 16))
-plain_lanes text at room printed =
-    on_true _ (PlainBetween text at (at + 16)) (λ e k from to. plain_byte (get_or text k 0) (none_passes_at ltb 32 text at room printed k from to)
-    (none_passes_at eqb 92 text at room (eqb-true _ 0 e) k from to))
+    (mask_l (map (top 7) (zip2 (λ a b. cond (eqb a b) 255 0) (chunk at n text) (replicate n 92))) % 2 ^ 64 == 0)
+    (PlainBetween text at (at + n))
+plain_lanes n text at few room printed =
+    on_true _ (PlainBetween text at (at + n)) (λ e k from to. plain_byte (get_or text k 0)
+    (none_passes_at n ltb 32 text at few room printed k from to)
+    (none_passes_at n eqb 92 text at few room (eqb-true _ 0 e) k from to))
 
 -- the bytes before an index and those from there
 pub plain_until : (text : List ℕ) (from at to : ℕ) → from ≤ at → PlainBetween text 0 at → PlainBetween text from to
@@ -75,10 +76,10 @@ all_plain [] h = refl
 all_plain (byte ∷ text) h =
     rw (h 0 (omega arith) (omega arith)) (all_plain text (λ k from to. h (suc k) (omega arith) (omega arith)))
 
--- the whole text, if its last bytes stand for themselves
-pub plain_to_end : (b : Bool) (text : List ℕ) (from at : ℕ) → from ≤ at → from + 16 ≡ length text
-    → PlainBetween text 0 at → OnTrue b (PlainBetween text from (from + 16))
+-- the whole text, if its last n bytes stand for themselves
+pub plain_to_end : (n : ℕ) (b : Bool) (text : List ℕ) (from at : ℕ) → from ≤ at → from + n ≡ length text
+    → PlainBetween text 0 at → OnTrue b (PlainBetween text from (from + n))
     → OnTrue b (list_all is_plain text ≡ true)
-plain_to_end false text from at le len before after = tt
-plain_to_end true text from at le len before after =
-    all_plain text (λ k start end. plain_until text from at (from + 16) le before after k start (omega arith))
+plain_to_end n false text from at le len before after = tt
+plain_to_end n true text from at le len before after =
+    all_plain text (λ k start end. plain_until text from at (from + n) le before after k start (omega arith))

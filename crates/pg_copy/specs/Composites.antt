@@ -40,7 +40,7 @@ field_values field = in_form field.is_array (values_of field.base).0
 abbrev pub FieldText : Field → Cell → List ℕ → Type 0
 FieldText field None text = text ≡ []
 FieldText field (Some bytes) text =
-    (own : List ℕ) × ShowsCell (field_values field) (content field.ty) bytes [] own × (text ≡ field_text own)
+    (own : List ℕ) × ShowsCell (field_values field) (content field.ty) bytes own × (text ≡ field_text own)
 
 -- the bytes of a field in the record, and its text
 pub record ShowsField (field : Field) (part : List ℕ × List ℕ) : Type 0 where

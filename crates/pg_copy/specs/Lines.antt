@@ -23,7 +23,7 @@ values_in column = in_form column.is_array (values_with column.fields.items colu
 abbrev pub FieldOf : Column → Cell → List ℕ → Type 0
 FieldOf column None field = field ≡ 92 ∷ 78 ∷ []
 FieldOf column (Some bytes) field =
-    (text : List ℕ) × (field ≡ escaped text) × ShowsCell (values_in column) (content column.ty) bytes [] text
+    (text : List ℕ) × (field ≡ escaped text) × ShowsCell (values_in column) (content column.ty) bytes text
 
 -- the fields of the cells of a row, one for each column
 abbrev pub AreFieldsOf : List Column → List Cell → List (List ℕ) → Type 0

@@ -1,5 +1,5 @@
 -- How a binary COPY is read, one part after another.
-use Rattle.std.specs.Prelude.{◌≡◌, ◌≢◌, ◌<◌, ℕ, Bool, true, false, List, [], ◌∷◌, ◌++◌, length, Some, None}
+use Rattle.std.specs.Prelude.{◌≡◌, ◌≢◌, ◌<◌, ℕ, List, [], ◌∷◌, ◌++◌, length, Option, Some, None}
 use Rattle.pg_base.specs.Cells.{Cell, SpellsAll}
 use Rattle.pg_copy.specs.Lines.{FieldOf, IsLineOf}
 use Rattle.pg_copy.specs.Outputs.{Gains}
@@ -14,15 +14,15 @@ use Rattle.pg_copy.specs.declared.read.Place.{Place}
 use Rattle.pg_copy.specs.declared.read.Place.TheVariants.{Header, Extension, Tuples, End}
 use Rattle.pg_tuples.specs.Reading.{AwaitsExtension, EndsInHeader, EndsInTuple}
 
--- NULL has no text; bytes have that of a value that they are read as, and it was appended
-abbrev pub HasText : Values → Content → Cell → Bool → List ℕ → List ℕ → Type 0
-HasText own ty None has_text old new = has_text ≡ false
-HasText own ty (Some bytes) has_text old new = (has_text ≡ true) × ShowsCell own ty bytes old new
+-- NULL has no text, and bytes have that of a value that they are read as
+abbrev pub HasText : Values → Content → Cell → Option (List ℕ) → Type 0
+HasText own ty None text = text ≡ None
+HasText own ty (Some bytes) None = ⊥
+HasText own ty (Some bytes) (Some text) = ShowsCell own ty bytes text
 
--- the framed cell at the front was taken, and its text appended
-abbrev pub TakesCell : Values → Content → List ℕ → Bool → List ℕ → List ℕ → List ℕ → Type 0
-TakesCell own ty old has_text new text longer =
-    (cell : Cell) × SpellsAll old (cell ∷ []) new × HasText own ty cell has_text text longer
+-- the framed cell at the front, which has this text, was taken
+abbrev pub TakesText : Values → Content → List ℕ → Option (List ℕ) → List ℕ → Type 0
+TakesText own ty old text new = (cell : Cell) × SpellsAll old (cell ∷ []) new × HasText own ty cell text
 
 -- the framed cell at the front was taken, and its field appended
 abbrev pub TakesField : Column → List ℕ → List ℕ → List ℕ → List ℕ → Type 0

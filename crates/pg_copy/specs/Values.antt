@@ -4,8 +4,8 @@ use Rattle.std.specs.Fmt.{signed_decimal}
 use Rattle.std.specs.Global.{Global}
 use Rattle.std.specs.HashMap.{HashMap}
 use Rattle.std.specs.Int.{w8, w16, w32, w64}
-use Rattle.std.specs.Prelude.{◌≡◌, ◌≢◌, ◌⊎◌, ◌≤◌, ℕ, pos, Bool, true, false, List, Option, Some, None, Ok, Err, String}
-use Rattle.std.specs.Prelude.{Vec, codes, decimal, drop, length, map, string_bytes, take}
+use Rattle.std.specs.Prelude.{◌≡◌, ◌≢◌, ◌⊎◌, ◌≤◌, ℕ, pos, Bool, true, false, List, [], Option, Some, None, Ok, Err}
+use Rattle.std.specs.Prelude.{String, Vec, codes, decimal, drop, length, map, string_bytes, take}
 use Rattle.std.specs.Borrow.{Bor}
 use Rattle.std.specs.declared.hash.BuildHasherDefault.{BuildHasherDefault}
 use Rattle.std.specs.declared.hash.FoldHasher.{FoldHasher}
@@ -243,10 +243,10 @@ values_of base.Uuid = (
 values_of base.Varbit = (plain (ReadsBits (λ v. v)) (Shows bits_text), parsed (λ text v. text ≡ bits_text v) wire_bits)
 values_of base.Varchar = texts
 
--- the text of a value that the bytes of the cell are read as was appended
-abbrev pub ShowsCell : Values → Content → List ℕ → List ℕ → List ℕ → Type 0
-ShowsCell (values {A} reads shows) ty bytes old new =
-    (value : A) × reads ty (Some bytes) (Ok value) × shows value old new
+-- the text is that of a value that the bytes of the cell are read as
+abbrev pub ShowsCell : Values → Content → List ℕ → List ℕ → Type 0
+ShowsCell (values {A} reads shows) ty bytes text =
+    (value : A) × reads ty (Some bytes) (Ok value) × shows value [] text
 
 -- the cell is what a value that the text stands for is written as
 abbrev pub WritesText : TextValues → Content → List ℕ → Cell → Type 0

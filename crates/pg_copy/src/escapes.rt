@@ -64,39 +64,60 @@ fn is_plain(text: &[u8]) -> bool
     letters == 0
 }
 
-/// The number of bytes that are tested at once.
-const LANES: usize = 16;
-
-/// Whether none of these bytes from an index is a control character or a backslash, so that none is
+/// Whether none of 8 bytes from an index is a control character or a backslash, so that none is
 /// escaped.
 #[inline(always)]
-fn are_plain(text: &[u8], at: usize) -> bool
-    requires { at + LANES ≤ length text.now }
-    ensures { OnTrue result (PlainBetween text.now at (at + LANES)) }
+fn are_8_plain(text: &[u8], at: usize) -> bool
+    requires { at + 8 ≤ length text.now }
+    ensures { OnTrue result (PlainBetween text.now at (at + 8)) }
+{
+    let bytes = u8x8::from_slice(&text[at..]);
+    bytes.simd_lt(u8x8::splat(0x20)).to_bitmask() == 0
+        && bytes.simd_eq(u8x8::splat(b'\\')).to_bitmask() == 0
+}
+
+/// Whether none of 16 bytes from an index is a control character or a backslash.
+#[inline(always)]
+fn are_16_plain(text: &[u8], at: usize) -> bool
+    requires { at + 16 ≤ length text.now }
+    ensures { OnTrue result (PlainBetween text.now at (at + 16)) }
 {
     let bytes = u8x16::from_slice(&text[at..]);
     bytes.simd_lt(u8x16::splat(0x20)).to_bitmask() == 0
         && bytes.simd_eq(u8x16::splat(b'\\')).to_bitmask() == 0
 }
 
-/// Whether no byte of the text is escaped; a long text with control characters may be taken for
+/// Whether no byte of the text is escaped; a text with other control characters may be taken for
 /// one with escapes. The last bytes of a long text are tested together with some before them.
 #[inline(always)]
 fn is_surely_plain(text: &[u8]) -> bool
     ensures { OnTrue result (list_all is_plain text.now ≡ true) }
 {
     let len = text.len();
-    if len < LANES {
+    if len < 8 {
         return is_plain(text);
     }
+    if len < 16 {
+        return are_8_plain(text, 0) && are_8_plain(text, len - 8);
+    }
+    are_first_plain(text, len - 16) && are_16_plain(text, len - 16)
+}
+
+/// Whether none of the bytes up to an index, and of some after it, is a control character or a
+/// backslash.
+#[inline(always)]
+fn are_first_plain(text: &[u8], end: usize) -> bool
+    requires { end + 16 ≤ length text.now }
+    ensures { OnTrue result (PlainBetween text.now 0 end) }
+{
     let mut at = 0;
-    'bytes: while at < len - LANES {
-        if !are_plain(text, at) {
+    'bytes: while at < end {
+        if !are_16_plain(text, at) {
             return false;
         }
-        at += LANES;
+        at += 16;
     }
-    are_plain(text, len - LANES)
+    true
 }
 
 /// Appends the text with a backslash and a letter for each byte that has one

@@ -12,7 +12,7 @@ ghost use Rattle.pg_tuples.specs.Tuples.{FramesThen};
 use crate::columns::Column;
 use crate::copy_fault::{CopyFault, Row, refused_tuple, value_fault};
 use crate::escapes::escape;
-use crate::show::push_cell;
+use crate::show::take_text;
 use pg_tuples::{Front, front_of, take_header};
 use std::alloc::{AllocError, Global};
 use std::io::{self, Read, Write};
@@ -40,7 +40,8 @@ struct Reading<'a> {
     place: Place,
     /// The number of rows that were read.
     row: u64,
-    /// The text of a value; the buffer is kept so that it is allocated once.
+    /// The text of a value that does not stand in its cell; the buffer is kept so that it is
+    /// allocated once.
     value: Vec<u8>,
     /// The lines to be written.
     lines: Vec<u8>,
@@ -367,10 +368,9 @@ impl Reading<'_> {
         ensures refused { IfErr result (UnlessMemory (ValueRefused (next_row self.old.row) (place + 1) column.now
             (RefusesAt column.now fields.old.now))) }
     {
-        self.value.clear();
-        match push_cell(self.alloc, column, fields, &mut self.value) {
-            Ok(true) => Ok(escape(self.value.as_slice(), &mut self.lines)?),
-            Ok(false) => Ok(self.lines.extend_from_slice(b"\\N")?),
+        match take_text(self.alloc, column, fields, &mut self.value) {
+            Ok(Some(text)) => Ok(escape(text, &mut self.lines)?),
+            Ok(None) => Ok(self.lines.extend_from_slice(b"\\N")?),
             Err(fault) => {
                 let number = self.row.saturating_add(1);
                 Err(value_fault(Row::Tuple(number), place + 1, column, fault))

@@ -6,8 +6,8 @@ ghost use Rattle.pg_copy.specs.CellRefusals.{CellFault, RefusesFront, accepted_i
 ghost use Rattle.pg_copy.specs.Composites.{ReadsBytesOfEach, ReadsElement, RefusesField, RefusesRecord, ShowsField};
 ghost use Rattle.pg_copy.specs.Composites.{ShowsRecord, record_values, records_values, type_fault};
 ghost use Rattle.pg_copy.specs.Lines.{values_in};
-ghost use Rattle.pg_copy.specs.ReadingSteps.{TakesCell};
-ghost use Rattle.pg_copy.specs.Values.{HasOtherBound, arrays_of, in_form, no_values, values, values_of, with_arrays};
+ghost use Rattle.pg_copy.specs.ReadingSteps.{TakesText};
+ghost use Rattle.pg_copy.specs.Values.{HasOtherBound, arrays_of, in_form, no_values, texts, values, values_of, with_arrays};
 ghost use Rattle.pg_copy.specs.declared.columns.Field.{Field};
 ghost use Rattle.pg_text.specs.Lists.{ShowsArray, ShowsElement};
 ghost use Rattle.pg_types.specs.Content.{Content, content};
@@ -27,80 +27,102 @@ use postgres_types::{Fault, FromSql, Oid, Type, check_type};
 use std::alloc::Global;
 
 // Reads a cell by the row of its type.
-macro_rules! push {
+macro_rules! take {
     (
-        ($alloc:ident, $base:ident, $is_array:ident, $ty:ident, $row:ident, $text:ident)
+        ($alloc:ident, $base:ident, $is_array:ident, $ty:ident, $row:ident, $own:ident)
         $($of:ident $names:tt $types:tt,)*
     ) => {
         match $base {
-            $(Base::$of => push_row!(($alloc, $is_array, $ty, $row, $text) $types),)*
-            Base::Composite => refuse_composite($is_array, $ty, $row, $text),
+            $(Base::$of => take_row!(($alloc, $is_array, $ty, $row, $own) $types),)*
+            Base::Composite => refuse_composite($is_array, $ty, $row),
         }
     };
 }
 
 // Reads a cell as the Rust type of a row, or as its borrowed form.
-macro_rules! push_row {
+macro_rules! take_row {
     ($args:tt [String, $($types:tt)*]) => {
-        push_as::<&str> $args
+        take_str $args
     };
     ($args:tt [Vec<u8>, $($types:tt)*]) => {
-        push_as::<&[u8]> $args
+        take_as::<&[u8]> $args
     };
     ($args:tt [$rust:ty, $($types:tt)*]) => {
-        push_as::<$rust> $args
+        take_as::<$rust> $args
     };
 }
 
-/// Takes the frame at the front of the row, appends the text of the value that its cell is read as,
-/// and returns whether it has a text: NULL has none. An error may leave a part of the text.
+/// Takes the frame at the front of the row, and returns the text of the value that its cell is read
+/// as, or `None` for NULL. A text that does not stand in the cell is written to `own`.
 // It is called for each value.
 #[inline(always)]
-pub fn push_cell(
+pub fn take_text<'a: 'b, 'b>(
     alloc: Global,
     column: &Column,
-    row: &mut &[u8],
-    text: &mut Vec<u8>,
-) -> Result<bool, Fault>
-    ensures ok { IfOk result (λ has_text. TakesCell (values_in column.now) (content column.now.ty)
-        row.old.now has_text row.new.now text.old.items text.new.items) }
+    row: &mut &'a [u8],
+    own: &'b mut Vec<u8>,
+) -> Result<Option<&'b [u8]>, Fault>
+    ensures ok { IfOk result (λ text. TakesText (values_in column.now) (content column.now.ty)
+        row.old.now (cell_of text) row.new.now) }
     ensures err { IfErr result (CellFault (values_in column.now) (content column.now.ty)
         row.old.now) }
 {
     match column.fields.as_slice() {
-        [] => push_value(alloc, column.base, column.is_array, &column.ty, row, text),
-        fields if column.is_array => push_composites(alloc, fields, row, text),
-        fields => push_composite(alloc, fields, row, text),
+        [] => take_value(alloc, column.base, column.is_array, &column.ty, row, own),
+        fields if column.is_array => take_composites(alloc, fields, row, own),
+        fields => take_composite(alloc, fields, row, own),
     }
 }
 
-/// Reads a value that is not composite, and appends its text.
-fn push_value(
+/// Takes a value that is not composite, as [`take_text`] does.
+fn take_value<'a: 'b, 'b>(
     alloc: Global,
     base: Base,
     is_array: bool,
     ty: &Type,
-    row: &mut &[u8],
-    text: &mut Vec<u8>,
-) -> Result<bool, Fault>
-    ensures ok { IfOk result (λ has_text. TakesCell (in_form is_array (values_of base).0) (content ty.now)
-        row.old.now has_text row.new.now text.old.items text.new.items) }
+    row: &mut &'a [u8],
+    own: &'b mut Vec<u8>,
+) -> Result<Option<&'b [u8]>, Fault>
+    ensures ok { IfOk result (λ text. TakesText (in_form is_array (values_of base).0) (content ty.now)
+        row.old.now (cell_of text) row.new.now) }
     ensures err { IfErr result (CellFault (in_form is_array (values_of base).0) (content ty.now) row.old.now) }
 {
-    base_types!(push(alloc, base, is_array, ty, row, text))
+    base_types!(take(alloc, base, is_array, ty, row, own))
 }
 
-/// Reads a `T`, or an array of them, and appends its text.
-fn push_as<'a, T: FromSql<'a> + ToText>(
+/// Takes a text, which stands in its cell, or an array of texts.
+fn take_str<'a: 'b, 'b>(
     alloc: Global,
     is_array: bool,
     ty: &Type,
     row: &mut &'a [u8],
-    text: &mut Vec<u8>,
-) -> Result<bool, Fault>
-    ensures ok { IfOk result (λ has_text. TakesCell (in_form is_array (with_arrays (values T.reads T.shows)))
-        (content ty.now)
-        row.old.now has_text row.new.now text.old.items text.new.items) }
+    own: &'b mut Vec<u8>,
+) -> Result<Option<&'b [u8]>, Fault>
+    ensures ok { IfOk result (λ text. TakesText (in_form is_array texts.0) (content ty.now)
+        row.old.now (cell_of text) row.new.now) }
+    ensures err { IfErr result (CellFault (in_form is_array texts.0) (content ty.now) row.old.now) }
+{
+    if is_array {
+        return take_array_as::<&str>(alloc, ty, row, own);
+    }
+    let is_accepted = <Option<&str> as FromSql<'a>>::accepts(ty);
+    check_type(is_accepted, ty, "Option")?;
+    match read_value::<Option<&str>>(alloc, ty, row)? {
+        None => Ok(None),
+        Some(text) => Ok(Some(text.as_bytes())),
+    }
+}
+
+/// Takes a `T`, or an array of them.
+fn take_as<'a: 'b, 'b, T: FromSql<'a> + ToText>(
+    alloc: Global,
+    is_array: bool,
+    ty: &Type,
+    row: &mut &'a [u8],
+    own: &'b mut Vec<u8>,
+) -> Result<Option<&'b [u8]>, Fault>
+    ensures ok { IfOk result (λ text. TakesText (in_form is_array (with_arrays (values T.reads T.shows)))
+        (content ty.now) row.old.now (cell_of text) row.new.now) }
     ensures err { IfErr result (CellFault (in_form is_array (with_arrays (values T.reads T.shows)))
         (content ty.now) row.old.now) }
     ensures accepted { IsTrue (accepted_in_form is_array T.accepted (content ty.now))
@@ -108,28 +130,29 @@ fn push_as<'a, T: FromSql<'a> + ToText>(
         (in_form is_array (with_arrays (values T.reads T.shows))) (content ty.now) row.old.now)) }
 {
     if is_array {
-        return push_array_as::<T>(alloc, ty, row, text);
+        return take_array_as::<T>(alloc, ty, row, own);
     }
     let is_accepted = <Option<T> as FromSql<'a>>::accepts(ty);
     check_type(is_accepted, ty, "Option")?;
     match read_value::<Option<T>>(alloc, ty, row)? {
-        None => Ok(false),
+        None => Ok(None),
         Some(value) => {
-            value.to_text(alloc, text)?;
-            Ok(true)
+            own.clear();
+            value.to_text(alloc, own)?;
+            Ok(Some(own.as_slice()))
         }
     }
 }
 
-/// Reads an array of `T`s, and appends its text.
-fn push_array_as<'a, T: FromSql<'a> + ToText>(
+/// Takes an array of `T`s.
+fn take_array_as<'a: 'b, 'b, T: FromSql<'a> + ToText>(
     alloc: Global,
     ty: &Type,
     row: &mut &'a [u8],
-    text: &mut Vec<u8>,
-) -> Result<bool, Fault>
-    ensures ok { IfOk result (λ has_text. TakesCell (arrays_of (values T.reads T.shows)) (content ty.now)
-        row.old.now has_text row.new.now text.old.items text.new.items) }
+    own: &'b mut Vec<u8>,
+) -> Result<Option<&'b [u8]>, Fault>
+    ensures ok { IfOk result (λ text. TakesText (arrays_of (values T.reads T.shows)) (content ty.now)
+        row.old.now (cell_of text) row.new.now) }
     ensures err { IfErr result (CellFault (arrays_of (values T.reads T.shows)) (content ty.now) row.old.now) }
     ensures accepted { IsTrue (accepted_in_form true T.accepted (content ty.now))
         → IfErr result (λ fault. IfSome (refusal_of fault) (RefusesFront (arrays_of (values T.reads T.shows))
@@ -139,73 +162,75 @@ fn push_array_as<'a, T: FromSql<'a> + ToText>(
     check_type(is_accepted, ty, "Option")?;
     let frame = *row;
     match read_value::<Option<Vec<Option<T>>>>(alloc, ty, row)? {
-        None => Ok(false),
+        None => Ok(None),
         Some(_) if has_other_lower_bound(frame) => Err(other_lower_bound()),
         Some(elements) => {
-            push_array(alloc, elements.as_slice(), text)?;
-            Ok(true)
+            own.clear();
+            push_array(alloc, elements.as_slice(), own)?;
+            Ok(Some(own.as_slice()))
         }
     }
 }
 
 /// Refuses a composite value in a field of a composite type; only NULL is read.
-fn refuse_composite(
+fn refuse_composite<'a>(
     is_array: bool,
     ty: &Type,
-    row: &mut &[u8],
-    text: &mut Vec<u8>,
-) -> Result<bool, Fault>
-    ensures ok { IfOk result (λ has_text. TakesCell (in_form is_array no_values) (content ty.now)
-        row.old.now has_text row.new.now text.old.items text.new.items) }
+    row: &mut &'a [u8],
+) -> Result<Option<&'a [u8]>, Fault>
+    ensures ok { IfOk result (λ text. TakesText (in_form is_array no_values) (content ty.now)
+        row.old.now (cell_of text) row.new.now) }
     ensures err { IfErr result (CellFault (in_form is_array no_values) (content ty.now) row.old.now) }
 {
     match take_bytes(row)? {
-        None => Ok(false),
+        None => Ok(None),
         Some(_) => Err(Fault::user("composite type within a composite type")),
     }
 }
 
-/// Reads a composite value with these fields, and appends its text.
+/// Takes a composite value with these fields.
 // It is kept out of the loop over the values of other types.
 #[inline(never)]
-fn push_composite(
+fn take_composite<'b>(
     alloc: Global,
     fields: &[Field],
     row: &mut &[u8],
-    text: &mut Vec<u8>,
-) -> Result<bool, Fault>
-    ensures ok { (ty : Content) → IfOk result (λ has_text. TakesCell (record_values fields.now) ty
-        row.old.now has_text row.new.now text.old.items text.new.items) }
+    own: &'b mut Vec<u8>,
+) -> Result<Option<&'b [u8]>, Fault>
+    ensures ok { (ty : Content) → IfOk result (λ text. TakesText (record_values fields.now) ty
+        row.old.now (cell_of text) row.new.now) }
     ensures err { (ty : Content) → IfErr result (CellFault (record_values fields.now) ty row.old.now) }
 {
     let Some(cell) = take_bytes(row)? else {
-        return Ok(false);
+        return Ok(None);
     };
-    push_record(alloc, fields, cell, text)?;
-    Ok(true)
+    own.clear();
+    push_record(alloc, fields, cell, own)?;
+    Ok(Some(own.as_slice()))
 }
 
-/// Reads an array of composite values with these fields, whose cell has the layout of an array of
-/// BYTEA, and appends its text.
+/// Takes an array of composite values with these fields, whose cell has the layout of an array of
+/// BYTEA.
 // It is kept out of that loop too.
 #[inline(never)]
-fn push_composites(
+fn take_composites<'b>(
     alloc: Global,
     fields: &[Field],
     row: &mut &[u8],
-    text: &mut Vec<u8>,
-) -> Result<bool, Fault>
-    ensures ok { (ty : Content) → IfOk result (λ has_text. TakesCell (records_values fields.now) ty
-        row.old.now has_text row.new.now text.old.items text.new.items) }
+    own: &'b mut Vec<u8>,
+) -> Result<Option<&'b [u8]>, Fault>
+    ensures ok { (ty : Content) → IfOk result (λ text. TakesText (records_values fields.now) ty
+        row.old.now (cell_of text) row.new.now) }
     ensures err { (ty : Content) → IfErr result (CellFault (records_values fields.now) ty row.old.now) }
 {
     let frame = *row;
     match take_records(alloc, row)? {
-        None => Ok(false),
+        None => Ok(None),
         Some(_) if has_other_lower_bound(frame) => Err(other_lower_bound()),
         Some(records) => {
-            push_records(alloc, fields, records.as_slice(), text)?;
-            Ok(true)
+            own.clear();
+            push_records(alloc, fields, records.as_slice(), own)?;
+            Ok(Some(own.as_slice()))
         }
     }
 }
@@ -293,8 +318,8 @@ fn push_record(alloc: Global, fields: &[Field], raw: &[u8], text: &mut Vec<u8>) 
     Ok(text.push(b')')?)
 }
 
-/// Takes a field from the front of the record, and appends its text, or nothing for NULL; the text
-/// is first written to `own`.
+/// Takes a field from the front of the record, and appends its text, or nothing for NULL. A text
+/// that does not stand in the cell is first written to `own`.
 fn push_field(
     alloc: Global,
     field: &Field,
@@ -308,11 +333,10 @@ fn push_field(
 {
     let Field { base, is_array, ty } = field;
     take_oid(ty, raw)?;
-    own.clear();
-    if !push_value(alloc, *base, *is_array, ty, raw, own)? {
-        return Ok(());
+    match take_value(alloc, *base, *is_array, ty, raw, own)? {
+        None => Ok(()),
+        Some(field_text) => Ok(records::push_field(field_text, text)?),
     }
-    Ok(records::push_field(own.as_slice(), text)?)
 }
 
 /// The first OID that is not assigned by hand (`FirstGenbkiObjectId`). The OIDs below it are the

@@ -1,7 +1,7 @@
 //! Tables of writing.
 
 use crate::code::WRONG_TYPE;
-use crate::{BEFORE, fault_code, read, reads, same, simple_type};
+use crate::{BEFORE, fault_code, read, reads, same};
 use postgres_types::private::BytesMut;
 use postgres_types::{FromSql, IsNull, Paired, ToSql, Type, rewrite, to_sql_checked_as};
 use std::alloc::Global;
@@ -58,13 +58,6 @@ pub fn refuses_values<T: ToSql>(alloc: Global, ty: &Type, rows: &[(T, u32)]) -> 
         refuses_value(alloc, value, ty, *code)?;
     }
     Ok(())
-}
-
-/// Tests that the user-defined type `odd`, which no type of the library accepts, is refused, with
-/// the Rust type's name in the text of the fault.
-pub fn refuses_odd<T: ToSql>(alloc: Global, value: &T, rust: &str) -> Result<(), Fail> {
-    let odd = simple_type(alloc, "odd", 99_999, "public")?;
-    refuses_type(alloc, value, &odd, rust)
 }
 
 /// Tests that the type is refused, with the Rust type's name in the text of the fault, and that

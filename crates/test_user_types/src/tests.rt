@@ -14,7 +14,6 @@ mod refused_fields;
 mod session_ids;
 mod surveys;
 mod timestamps;
-mod unequal_values;
 mod user_defined;
 mod view;
 mod workers;

@@ -10,7 +10,6 @@ mod damaged_lists;
 mod fixed_arrays;
 mod formats;
 mod frames;
-mod growths;
 mod known_frames;
 mod list_reading;
 mod list_refusals;

@@ -6,9 +6,7 @@ use postgres_types::Type;
 use postgres_types::protocol::{date_from_sql, date_to_sql, time_from_sql, time_to_sql};
 use std::test::Fail;
 use test_support::code::{DECODE, SIZE, WAS_NULL};
-use test_support::{
-    accepts, displays, has_cells, has_functions, reads, refuses_odd, simple_type, writes,
-};
+use test_support::{accepts, displays, has_cells, has_functions, reads, simple_type, writes};
 
 /// Year, month and day.
 type Day = (i16, i8, i8);
@@ -238,17 +236,4 @@ fn the_format_of_times_has_every_count(rt: HostRuntime) -> Result<(), Fail> {
         |cell| time_from_sql(cell),
         &COUNTS_OF_MICROSECONDS,
     )
-}
-
-#[test]
-fn civil_dates_and_times_are_named(rt: HostRuntime) -> Result<(), Fail> {
-    let alloc = rt.alloc();
-    refuses_odd(alloc, &Date::ZERO, "jiff::civil::Date")?;
-    refuses_odd(alloc, &Time::MIN, "jiff::civil::Time")?;
-    refuses_odd(alloc, &DateTime::ZERO, "jiff::civil::DateTime")
-}
-
-#[test]
-fn timestamps_of_jiff_are_named(rt: HostRuntime) -> Result<(), Fail> {
-    refuses_odd(rt.alloc(), &Timestamp::MIN, "jiff::Timestamp")
 }

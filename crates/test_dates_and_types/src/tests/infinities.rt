@@ -9,8 +9,8 @@ use std::alloc::Global;
 use std::test::Fail;
 use test_support::code::{DECODE, SIZE, TRANSMIT, WAS_NULL};
 use test_support::{
-    accepts, debugs, has_cells, holds, reads_back, refuses, refuses_both, refuses_odd,
-    refuses_type, rewrites, same, spells, unix, writes, writes_null,
+    accepts, debugs, has_cells, holds, reads_back, refuses, refuses_both, refuses_type, rewrites,
+    same, spells, unix, writes, writes_null,
 };
 
 const LAST_DATE: [u8; 4] = [0x7f, 0xff, 0xff, 0xff];
@@ -232,13 +232,4 @@ fn timestamps_of_jiff_have_infinities(rt: HostRuntime) -> Result<(), Fail> {
         (Timestamp::Value(base), &[0; 8]),
     ];
     spells(rt.alloc(), &Type::TIMESTAMPTZ, &rows)
-}
-
-#[test]
-fn infinities_are_named(rt: HostRuntime) -> Result<(), Fail> {
-    let alloc = rt.alloc();
-    let date = Date::Value(civil::Date::ZERO);
-    refuses_odd(alloc, &date, "Date")?;
-    let timestamp = Timestamp::Value(jiff::Timestamp::MIN);
-    refuses_odd(alloc, &timestamp, "Timestamp")
 }

@@ -8,8 +8,8 @@ use std::cmp::Ordering;
 use std::test::Fail;
 use test_support::code::{SIZE, TRANSMIT, USER, WAS_NULL};
 use test_support::{
-    debugs, has_functions, holds, reads_back, refuses, refuses_both, refuses_odd, same,
-    takes_no_memory, unix, writes,
+    debugs, has_functions, holds, reads_back, refuses, refuses_both, same, takes_no_memory, unix,
+    writes,
 };
 
 const FIRST: [u8; 8] = [0x80, 0, 0, 0, 0, 0, 0, 0];
@@ -140,11 +140,6 @@ fn timestamps_have_microseconds_from_2000(_rt: HostRuntime) -> Result<(), Fail> 
     let time = unix(1, 0)?;
     same(time.to_postgres_micros(), Some(-946_684_799_000_000))?;
     same(UnixTime::from_postgres_micros(-946_684_799_000_000), time)
-}
-
-#[test]
-fn timestamps_are_named(rt: HostRuntime) -> Result<(), Fail> {
-    refuses_odd(rt.alloc(), &unix(0, 0)?, "UnixTime")
 }
 
 #[test]

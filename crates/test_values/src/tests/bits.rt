@@ -9,8 +9,8 @@ use std::test::Fail;
 use test_support::code::{COUNT, SIZE, WAS_NULL};
 use test_support::without_memory::{answer_without_memory, yes};
 use test_support::{
-    debugs, holds, null_takes_no_memory, read, reads, refuses, refuses_fronts, refuses_odd,
-    rewrites, same, spells, writes_by_room,
+    debugs, holds, null_takes_no_memory, read, reads, refuses, refuses_fronts, rewrites, same,
+    spells, writes_by_room,
 };
 
 /// Bit strings and their cells.
@@ -202,12 +202,6 @@ fn the_format_of_bits_takes_no_memory(rt: HostRuntime) -> Result<(), Fail> {
             "varbit_to_sql",
         )
     })
-}
-
-#[test]
-fn bits_are_named(rt: HostRuntime) -> Result<(), Fail> {
-    let alloc = rt.alloc();
-    refuses_odd(alloc, &BitVec::new(alloc), "BitVec")
 }
 
 #[test]

@@ -6,8 +6,7 @@ use std::borrow::CowSlice;
 use std::test::Fail;
 use test_support::code::WAS_NULL;
 use test_support::{
-    appends, has_cells, holds, null_takes_no_memory, read, refuses, refuses_odd, same, writes,
-    writes_by_room,
+    appends, has_cells, holds, null_takes_no_memory, read, refuses, same, writes, writes_by_room,
 };
 
 const BYTEA: [(&[u8], &[u8]); 3] = [(&[], &[]), (&[0], &[0]), (&[0, 0xff, 7], &[0, 0xff, 7])];
@@ -82,14 +81,4 @@ fn owned_bytes_are_written_without_memory(rt: HostRuntime) -> Result<(), Fail> {
     let bytes: Vec<u8> = Vec::from_slice(alloc, b"ab")?;
     writes_by_room(alloc, &Type::BYTEA, &bytes, b"ab")?;
     null_takes_no_memory::<Vec<u8>>(alloc, &Type::BYTEA)
-}
-
-#[test]
-fn bytes_are_named(rt: HostRuntime) -> Result<(), Fail> {
-    let alloc = rt.alloc();
-    let bytes = [7u8];
-    refuses_odd(alloc, &bytes.as_slice(), "&[u8]")?;
-    refuses_odd(alloc, &Vec::from_slice(alloc, &bytes)?, "Vec<u8>")?;
-    refuses_odd(alloc, &CowSlice::Borrowed(bytes.as_slice()), "Cow<[u8]>")?;
-    refuses_odd(alloc, &bytes, "[u8; N]")
 }

@@ -10,8 +10,7 @@ use std::test::Fail;
 use test_support::code::{COUNT, KEY_LENGTH, SIZE, USER, UTF8, WAS_NULL};
 use test_support::without_memory::{answer_without_memory, gives, yes};
 use test_support::{
-    holds, null_takes_no_memory, read, refuses, refuses_fronts, refuses_odd, rewrites, same,
-    simple_type, writes,
+    holds, null_takes_no_memory, read, refuses, refuses_fronts, rewrites, same, simple_type, writes,
 };
 
 type Map = HashMap<String, Option<String>>;
@@ -242,11 +241,4 @@ fn entries_are_read_and_written_without_memory(rt: HostRuntime) -> Result<(), Fa
 #[test]
 fn null_is_no_map_without_memory(rt: HostRuntime) -> Result<(), Fail> {
     null_takes_no_memory::<Map>(rt.alloc(), &hstore(rt.alloc())?)
-}
-
-#[test]
-fn maps_are_named(rt: HostRuntime) -> Result<(), Fail> {
-    let alloc = rt.alloc();
-    let map: HashMap<String, Option<String>> = HashMap::new(alloc);
-    refuses_odd(alloc, &map, "HashMap")
 }

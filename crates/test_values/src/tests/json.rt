@@ -9,7 +9,7 @@ use std::test::Fail;
 use test_support::code::{JSON_NUMBER, JSON_TEXT, JSON_VERSION, SIZE, USER, WAS_NULL};
 use test_support::{
     accepts, holds, null_takes_no_memory, read, reads, refusal, refuses, refuses_both,
-    refuses_fronts, refuses_odd, same, simple_type, writes,
+    refuses_fronts, same, simple_type, writes,
 };
 
 /// Returns a JSONB cell: the version, and the text.
@@ -295,9 +295,4 @@ fn fronts_of_documents_are_refused(rt: HostRuntime) -> Result<(), Fail> {
     refuses_fronts::<Vec<Value>>(alloc, &Type::JSONB_ARRAY, &ARRAY, &[])?;
     let documents = read::<Vec<Option<Value>>>(alloc, &Type::JSONB_ARRAY, Some(&ARRAY))?;
     same(documents.len(), 1)
-}
-
-#[test]
-fn documents_are_named(rt: HostRuntime) -> Result<(), Fail> {
-    refuses_odd(rt.alloc(), &Value::Null, "serde_json::Value")
 }

@@ -6,9 +6,7 @@ use postgres_types::{PgLsn, Type};
 use std::cmp::Ordering;
 use std::test::Fail;
 use test_support::code::{SIZE, USER, WAS_NULL};
-use test_support::{
-    debugs, displays, has_cells, has_functions, holds, reads, refuses, refuses_odd, same,
-};
+use test_support::{debugs, displays, has_cells, has_functions, holds, reads, refuses, same};
 
 /// A text, the number that it is parsed to, and the text of that.
 const POSITIONS: [(&str, u64, &str); 9] = [
@@ -117,11 +115,6 @@ fn positions_are_appended_and_parsed_from_cells(rt: HostRuntime) -> Result<(), F
 fn an_integer_is_no_position(rt: HostRuntime) -> Result<(), Fail> {
     let [(_, cell)] = LSN;
     refuses::<PgLsn>(rt.alloc(), &Type::INT8, &[(Some(cell), USER)])
-}
-
-#[test]
-fn positions_are_named(rt: HostRuntime) -> Result<(), Fail> {
-    refuses_odd(rt.alloc(), &PgLsn::from(7u64), "PgLsn")
 }
 
 #[test]

@@ -11,8 +11,8 @@ use std::test::Fail;
 use test_support::code::{ADDRESS_LENGTH, FAMILY, HOST_BITS, NETMASK, SIZE, WAS_NULL};
 use test_support::without_memory::{answer_without_memory, yes};
 use test_support::{
-    debugs, fault_code, has_cells, has_functions, holds, reads, refusal, refuses_fronts,
-    refuses_odd, rewrites, same,
+    debugs, fault_code, has_cells, has_functions, holds, reads, refusal, refuses_fronts, rewrites,
+    same,
 };
 use uuid::Uuid;
 
@@ -309,21 +309,6 @@ fn the_format_of_addresses_takes_no_memory(rt: HostRuntime) -> Result<(), Fail> 
         let appended = inet_to_sql(alloc, ten(1, 2, 3), 8, &mut target.out).is_ok();
         yes(appended && target.has(&HOST), "inet_to_sql")
     })
-}
-
-#[test]
-fn addresses_are_named(rt: HostRuntime) -> Result<(), Fail> {
-    let alloc = rt.alloc();
-    refuses_odd(alloc, &ten(0, 0, 0), "IpAddr")?;
-    refuses_odd(alloc, &IpInet::new(ten(0, 0, 0), 8)?, "IpInet")?;
-    refuses_odd(alloc, &IpCidr::new(ten(0, 0, 0), 8)?, "IpCidr")
-}
-
-#[test]
-fn mac_addresses_and_uuids_are_named(rt: HostRuntime) -> Result<(), Fail> {
-    let alloc = rt.alloc();
-    refuses_odd(alloc, &MacAddress::new([0; 6]), "MacAddress")?;
-    refuses_odd(alloc, &Uuid::from_bytes([0; 16]), "Uuid")
 }
 
 #[test]

@@ -10,8 +10,8 @@ use std::alloc::Global;
 use std::test::Fail;
 use test_support::code::{SIZE, USER, WAS_NULL, WRONG_TYPE};
 use test_support::{
-    accepts, fault_code, has_cells, has_functions, holds, refusal, refuses_odd, refuses_value,
-    rewrites, same, simple_type, writes, writes_by_room,
+    accepts, fault_code, has_cells, has_functions, holds, refusal, refuses_value, rewrites, same,
+    simple_type, writes, writes_by_room,
 };
 
 const BOOL: [(bool, &[u8]); 2] = [(false, &[0]), (true, &[1])];
@@ -186,22 +186,4 @@ fn a_refused_user_type_leaves_the_buffer(rt: HostRuntime) -> Result<(), Fail> {
     let rewritten = rewrite::<i32>(alloc, &int4, None, &mut out);
     same(fault_code(rewritten), WRONG_TYPE)?;
     holds(out.is_empty(), "appended")
-}
-
-#[test]
-fn booleans_and_narrow_integers_are_named(rt: HostRuntime) -> Result<(), Fail> {
-    let alloc = rt.alloc();
-    refuses_odd(alloc, &true, "bool")?;
-    refuses_odd(alloc, &1i8, "i8")?;
-    refuses_odd(alloc, &1i16, "i16")?;
-    refuses_odd(alloc, &1i32, "i32")
-}
-
-#[test]
-fn wide_integers_and_options_are_named(rt: HostRuntime) -> Result<(), Fail> {
-    let alloc = rt.alloc();
-    refuses_odd(alloc, &1u32, "u32")?;
-    refuses_odd(alloc, &1i64, "i64")?;
-    refuses_odd(alloc, &Some(1i32), "Option")?;
-    refuses_odd(alloc, &&1i32, "&T")
 }

@@ -11,7 +11,7 @@ use std::test::Fail;
 use test_support::code::{TEXT_VERSION, UTF8, WAS_NULL};
 use test_support::{
     accepts, has_cells, has_functions, holds, null_takes_no_memory, read, refuses, refuses_fronts,
-    refuses_odd, same, simple_type, spells, takes_no_memory, user_type, writes, writes_by_room,
+    same, simple_type, spells, takes_no_memory, user_type, writes, writes_by_room,
 };
 
 const TEXT: [(&str, &[u8]); 4] = [
@@ -180,14 +180,4 @@ fn a_name_decides_whether_a_user_type_is_accepted(rt: HostRuntime) -> Result<(),
     let text = simple_type(alloc, "text", 25, "pg_catalog")?;
     accepts::<String>(&[(citext, true), (text, false)])?;
     accepts::<&str>(&[(Type::JSON, false)])
-}
-
-#[test]
-fn texts_are_named(rt: HostRuntime) -> Result<(), Fail> {
-    let alloc = rt.alloc();
-    let text = String::from_str(alloc, "a")?;
-    refuses_odd(alloc, &text, "String")?;
-    refuses_odd(alloc, &text.into_boxed_str(), "Box<str>")?;
-    refuses_odd(alloc, &"a", "&str")?;
-    refuses_odd(alloc, &CowStr::Borrowed("a"), "Cow<str>")
 }

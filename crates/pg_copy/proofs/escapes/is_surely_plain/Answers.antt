@@ -1,10 +1,20 @@
 -- What the proof of `is_surely_plain` answers by hand.
-use Rattle.std.proofs.Common.{◌-◌, arith, length}
+use Rattle.std.proofs.Common.{◌-◌, arith, length, subst}
+use Rattle.std.specs.Bool.{OnTrue}
 use Rattle.pg_copy.proofs.PlainLanes.{plain_to_end}
+use Rattle.pg_copy.specs.Escapes.{PlainBetween}
 use Rattle.pg_copy.proofs.escapes.is_surely_plain.Goals as goal
 
-pub returns : goal.returns
-returns c =
+pub returns-then-are_8_plain : goal.returns-then-are_8_plain
+returns-then-are_8_plain c =
     let text = c.args.text.now in
-    plain_to_end c.are_plain-2.result text (length text - 16) c.bytes.at c.bytes-test.false (omega arith)
-    c.bytes.invariant.1 c.are_plain-2.ensures
+    let first = subst (λ b. OnTrue b (PlainBetween text 0 8)) c.if-are_8_plain.true c.are_8_plain.ensures in
+    plain_to_end 8 c.are_8_plain-then-are_8_plain.result text (length text - 8) 8 (omega arith) (omega arith) first
+    c.are_8_plain-then-are_8_plain.ensures
+
+pub returns-then-are_first_plain : goal.returns-then-are_first_plain
+returns-then-are_first_plain c =
+    let text = c.args.text.now in
+    let end = length text - 16 in
+    let first = subst (λ b. OnTrue b (PlainBetween text 0 end)) c.if-are_first_plain.true c.are_first_plain.ensures in
+    plain_to_end 16 c.are_16_plain.result text end end (omega arith) (omega arith) first c.are_16_plain.ensures

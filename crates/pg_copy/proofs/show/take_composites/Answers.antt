@@ -1,8 +1,9 @@
--- What the proof of `push_composites` answers by hand.
+-- What the proof of `take_composites` answers by hand.
 use Rattle.std.proofs.Common.{Err, drop, subst}
 use Rattle.std.proofs.lemmas.Result.{err_from_is_err_and}
 use Rattle.std.specs.Prelude.{IfSome}
 use Rattle.pg_copy.proofs.ArrayBounds.{untrue}
+use Rattle.pg_copy.proofs.CellTexts.{shown_alone}
 use Rattle.pg_copy.proofs.CompositeSteps.{records_taken}
 use Rattle.pg_copy.proofs.RecordFaults.{records_bound, records_refused}
 use Rattle.pg_copy.specs.Composites.{ReadsElement, ShowsRecord}
@@ -10,18 +11,18 @@ use Rattle.pg_copy.specs.Values.{HasOtherBound}
 use Rattle.pg_text.specs.Lists.{ShowsArray}
 use Rattle.pg_types.specs.Faults.{refusal_of}
 use Rattle.postgres_types.specs.ArrayReading.{ReadsAll}
-use Rattle.pg_copy.proofs.show.push_composites.Goals as goal
+use Rattle.pg_copy.proofs.show.take_composites.Goals as goal
 
-pub returns-in_ok-push_records-in-Some-2-clause-ok : goal.returns-in_ok-push_records-in-Some-2-clause-ok
-returns-in_ok-push_records-in-Some-2-clause-ok c =
-    let shows = ShowsArray (λ r. ShowsRecord c.args.fields.now r.now) in
-    records_taken c.args.fields.now c.args.row.now.now c.take_records.new.row.now c.args.text.now.items
-    c.push_records.new.text.items c.in_ok-take_records.field-0 c.in-Some.field-0 c.in-Some.is
-    c.in_ok-take_records.ensures.ok
+pub returns-clause-ok : goal.returns-clause-ok
+returns-clause-ok c =
+    let shown = shown_alone (ShowsArray (λ r. ShowsRecord c.args.fields.now r.now)) _ _ c.clear.new.self.items
+    c.push_records.new.text.items c.as_slice-in-Some-2.result.now c.as_slice.ensures.value c.clear.ensures.items
+    c.as_slice-in-Some-2.ensures.value c.in_ok-push_records-in-Some-2.ensures.ok in
+    records_taken c.args.fields.now c.args.row.now.now c.take_records.new.row.now c.as_slice-in-Some-2.result.now
+    c.in_ok-take_records.field-0 c.in-Some.field-0 c.in-Some.is c.in_ok-take_records.ensures.ok
     (untrue c.has_other_lower_bound.result (HasOtherBound (drop 4 c.args.row.now.now)) c.has_other_lower_bound.ensures
     c.if-has_other_lower_bound.false)
-    (subst (λ vs. shows vs c.args.text.now.items c.push_records.new.text.items) c.as_slice.ensures.value
-    c.in_ok-push_records-in-Some-2.ensures.ok)
+    shown
 
 pub returns-in-Some-clause-err : goal.returns-in-Some-clause-err
 returns-in-Some-clause-err c =

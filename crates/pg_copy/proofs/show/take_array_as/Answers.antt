@@ -1,16 +1,16 @@
--- What the proof of `push_array_as` answers by hand.
-use Rattle.std.proofs.Common.{Ok, Some, drop, inr, refl, subst}
+-- What the proof of `take_array_as` answers by hand.
+use Rattle.std.proofs.Common.{Ok, Some, drop, inr, subst}
 use Rattle.std.proofs.lemmas.Option.{IfSome_then}
 use Rattle.std.proofs.lemmas.Result.{err_from_is_err_and}
 use Rattle.pg_copy.proofs.ArrayBounds.{array_refused, bound_refused, bound_shown, untrue}
-use Rattle.pg_copy.proofs.CellTexts.{value_taken}
+use Rattle.pg_copy.proofs.CellTexts.{shown_alone, value_taken}
 use Rattle.pg_copy.specs.Values.{HasOtherBound, ReadsVec}
 use Rattle.pg_text.specs.Lists.{ShowsArray}
 use Rattle.postgres_types.specs.Content.{content}
 use Rattle.postgres_types.specs.Faults.{refusal_of}
 use Rattle.postgres_types.specs.FrameReading.{ReadsFrame}
 use Rattle.postgres_types.specs.OptionReading.{ReadsOption}
-use Rattle.pg_copy.proofs.show.push_array_as.Goals as goal
+use Rattle.pg_copy.proofs.show.take_array_as.Goals as goal
 
 pub returns-in_ok-push_array-in-Some-2-clause-ok : goal.returns-in_ok-push_array-in-Some-2-clause-ok
 returns-in_ok-push_array-in-Some-2-clause-ok g c =
@@ -19,13 +19,14 @@ returns-in_ok-push_array-in-Some-2-clause-ok g c =
     c.in-Some.is
     c.in_ok-read_value.ensures in
     let taken = value_taken list _ c.args.row.now.now c.read_value.new.buf.now c.in-Some.field-0 read in
-    let shown = subst (λ elements. ShowsArray g.T.ToText.shows elements c.args.text.now.items c.push_array.new.out.items)
-    c.as_slice.ensures.value c.in_ok-push_array-in-Some-2.ensures in
+    let shown = shown_alone (ShowsArray g.T.ToText.shows) _ _ c.clear.new.self.items c.push_array.new.out.items
+    c.as_slice-in-Some-2.result.now c.as_slice.ensures.value c.clear.ensures.items c.as_slice-in-Some-2.ensures.value
+    c.in_ok-push_array-in-Some-2.ensures in
     let of_bound_one = bound_shown (λ element. ReadsOption (g.T.FromSql.reads element)) (content c.args.ty.now)
     c.args.row.now.now taken.0 c.read_value.new.buf.now c.in-Some.field-0 taken.1 taken.2
     (untrue c.has_other_lower_bound.result (HasOtherBound (drop 4 c.args.row.now.now)) c.has_other_lower_bound.ensures
     c.if-has_other_lower_bound.false) in
-    (Some taken.0, taken.1, (refl, (c.in-Some.field-0, of_bound_one, shown)))
+    (Some taken.0, taken.1, (c.in-Some.field-0, of_bound_one, shown))
 
 pub returns-in-Some-clause-accepted : goal.returns-in-Some-clause-accepted
 returns-in-Some-clause-accepted g c =

@@ -1,7 +1,7 @@
--- What the proof of `push_composite` answers by hand.
+-- What the proof of `take_composite` answers by hand.
 use Rattle.std.proofs.lemmas.Result.{err_from_is_err_and}
 use Rattle.pg_copy.proofs.RecordFaults.{record_refused}
-use Rattle.pg_copy.proofs.show.push_composite.Goals as goal
+use Rattle.pg_copy.proofs.show.take_composite.Goals as goal
 
 pub returns-in_err-push_record-clause-err : goal.returns-in_err-push_record-clause-err
 returns-in_err-push_record-clause-err c =

@@ -1,8 +1,8 @@
--- What the proof of `push_cell` answers by hand.
+-- What the proof of `take_text` answers by hand.
 use Rattle.std.proofs.Common.{◌≤◌, length, subst}
 use Rattle.pg_copy.proofs.CompositeSteps.{with_fields}
 use Rattle.pg_types.specs.Content.{content}
-use Rattle.pg_copy.proofs.show.push_cell.Goals as goal
+use Rattle.pg_copy.proofs.show.take_text.Goals as goal
 
 pub returns-in_default-clause-ok : goal.returns-in_default-clause-ok
 returns-in_default-clause-ok c =
@@ -11,7 +11,7 @@ returns-in_default-clause-ok c =
       c.if-column.true,
       with_fields c.args.column.now.fields.items c.args.column.now.base some,
       ← c.as_slice.ensures.value,
-    ) (c.push_composites.ensures.ok (content c.args.column.now.ty))
+    ) (c.take_composites.ensures.ok (content c.args.column.now.ty))
 
 pub returns-in_default-2-clause-ok : goal.returns-in_default-2-clause-ok
 returns-in_default-2-clause-ok c =
@@ -20,4 +20,4 @@ returns-in_default-2-clause-ok c =
       c.if-column.false,
       with_fields c.args.column.now.fields.items c.args.column.now.base some,
       ← c.as_slice.ensures.value,
-    ) (c.push_composite.ensures.ok (content c.args.column.now.ty))
+    ) (c.take_composite.ensures.ok (content c.args.column.now.ty))

@@ -1,6 +1,0 @@
--- What the proof of `are_plain` answers by hand.
-use Rattle.pg_copy.proofs.PlainLanes.{plain_lanes}
-use Rattle.pg_copy.proofs.escapes.are_plain.Goals as goal
-
-pub returns-then-bytes-eq0 : goal.returns-then-bytes-eq0
-returns-then-bytes-eq0 c = plain_lanes c.args.text.now c.args.at c.requires c.if-bytes-eq0.true
