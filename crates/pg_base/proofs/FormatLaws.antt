@@ -69,7 +69,7 @@ module _ (w : Width) (back : (n : ℕ) → n < 2 ^ bits w → from_be_bytes w (t
     single = be-single;
   }
 
-  pub unsigned_grammar : IsGrammar (λ m n. m ≡ n) (FormUnsigned w) (first_fault_number (byte_len w))
+  unsigned_grammar : IsGrammar (λ m n. m ≡ n) (FormUnsigned w) (first_fault_number (byte_len w))
   unsigned_grammar = record {
     passes = λ b n h. passes_number (byte_len w) b (ap length h.1 ∙ length-bytes_high_first (byte_len w) n);
     single = be_unsigned-single;
@@ -106,8 +106,11 @@ int4_grammar = signed_grammar w32 from_be_bytes-to_be_bytes_4
 pub int8_grammar : IsGrammar (λ v w. v ≡ w) (FormSigned w64) (first_fault_number 8)
 int8_grammar = signed_grammar w64 from_be_bytes-to_be_bytes_8
 
-pub oid_grammar : IsGrammar (λ v w. v ≡ w) (FormUnsigned w32) (first_fault_number 4)
-oid_grammar = unsigned_grammar w32 from_be_bytes-to_be_bytes_4
+pub unsigned4_grammar : IsGrammar (λ v w. v ≡ w) (FormUnsigned w32) (first_fault_number 4)
+unsigned4_grammar = unsigned_grammar w32 from_be_bytes-to_be_bytes_4
+
+pub unsigned8_grammar : IsGrammar (λ v w. v ≡ w) (FormUnsigned w64) (first_fault_number 8)
+unsigned8_grammar = unsigned_grammar w64 from_be_bytes-to_be_bytes_8
 
 pub bool_grammar : IsGrammar (λ v w. v ≡ w) FormBool (first_fault_number 1)
 bool_grammar = record {

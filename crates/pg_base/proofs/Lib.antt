@@ -27,7 +27,6 @@ pub mod ItemSteps
 pub mod JsonLaws
 pub mod JsonLemmas
 pub mod Lists
-pub mod LsnLaws
 pub mod LsnLemmas
 pub mod Macaddrs
 pub mod NetworkLaws

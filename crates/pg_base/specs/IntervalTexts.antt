@@ -1,27 +1,19 @@
 -- The text of an interval, with IntervalStyle postgres (EncodeInterval).
-use Rattle.std.specs.Prelude.{ℕ, ◌/◌, ◌%◌, ◌==◌, ◌||◌, ℤ, pos, List, [], ◌++◌, Bool, true, false, codes, not}
+use Rattle.std.specs.Prelude.{ℕ, ◌/◌, ◌%◌, ◌==◌, ◌||◌, ℤ, pos, List, [], ◌++◌, Bool, codes, not}
 use Rattle.std.specs.Prelude.{if◌then◌else◌, int_div, int_rem, unsigned_abs}
 use Rattle.std.specs.Fmt.{decimal}
 use Rattle.std.specs.Int.{is_negative}
 use Rattle.pg_base.specs.declared.interval.Interval.{Interval}
 use Rattle.pg_calendar.specs.Texts.{clock_text}
-use Rattle.pg_base.specs.declared.interval.text.Before.{Before}
-use Rattle.pg_base.specs.declared.interval.text.Before.TheVariants.{Nothing, Positive, Negative}
 
--- a space after a part
-abbrev pub space_after : Before → List ℕ
-space_after Nothing = []
-space_after Positive = codes " "
-space_after Negative = codes " "
+-- a space after a part; 0 stands for no part
+abbrev pub space_after : ℤ → List ℕ
+space_after before = if unsigned_abs before == 0 then [] else codes " "
 
 -- the sign of a part: `-`, or `+` where the part before it is negative (AddPostgresIntPart)
-abbrev pub plus_after : Before → List ℕ
-plus_after Nothing = []
-plus_after Positive = []
-plus_after Negative = codes "+"
-
-abbrev pub sign_text : Before → Bool → List ℕ
-sign_text before negative = space_after before ++ (if negative then codes "-" else plus_after before)
+abbrev pub sign_text : ℤ → Bool → List ℕ
+sign_text before negative =
+    space_after before ++ (if negative then codes "-" else if is_negative before then codes "+" else [])
 
 -- a number and its unit, which may be plural (AddPostgresIntPart)
 abbrev pub plural_text : ℤ → List ℕ
@@ -31,12 +23,12 @@ abbrev pub count_text : ℤ → List ℕ → List ℕ
 count_text n unit = decimal (unsigned_abs n) ++ (codes " " ++ (unit ++ plural_text n))
 
 -- a part, which is left out if it is 0
-abbrev pub part_text : Before → ℤ → List ℕ → List ℕ
+abbrev pub part_text : ℤ → ℤ → List ℕ → List ℕ
 part_text before n unit = if unsigned_abs n == 0 then [] else sign_text before (is_negative n) ++ count_text n unit
 
--- what precedes the next part
-abbrev pub after_part : Before → ℤ → Before
-after_part before n = if unsigned_abs n == 0 then before else if is_negative n then Negative else Positive
+-- the part before the next one: this one, unless it is left out
+abbrev pub after_part : ℤ → ℤ → ℤ
+after_part before n = if unsigned_abs n == 0 then before else n
 
 -- hours, minutes and seconds (AppendSeconds)
 abbrev pub hours_text : ℕ → List ℕ
@@ -45,27 +37,22 @@ hours_text micros =
     clock_text (seconds / 3_600) (seconds / 60 % 60) (seconds % 60) (micros % 1_000_000)
 
 -- hours, minutes and seconds with their sign
-abbrev pub time_text : Before → ℤ → List ℕ
+abbrev pub time_text : ℤ → ℤ → List ℕ
 time_text before n = sign_text before (is_negative n) ++ hours_text (unsigned_abs n)
 
-abbrev pub is_nothing : Before → Bool
-is_nothing Nothing = true
-is_nothing Positive = false
-is_nothing Negative = false
-
 -- the time, which is written also if all parts are 0
-abbrev pub last_text : Before → ℤ → List ℕ
-last_text before n = if is_nothing before || not (unsigned_abs n == 0) then time_text before n else []
+abbrev pub last_text : ℤ → ℤ → List ℕ
+last_text before n = if unsigned_abs before == 0 || not (unsigned_abs n == 0) then time_text before n else []
 
 -- years, months, days and the time
 abbrev pub parts_text : ℤ → ℤ → ℤ → List ℕ
 parts_text all_months days micros =
     let years = int_div all_months (pos 12) in
     let months = int_rem all_months (pos 12) in
-    let after_years = after_part Nothing years in
+    let after_years = after_part (pos 0) years in
     let after_months = after_part after_years months in
     let after_days = after_part after_months days in
-    part_text Nothing years (codes "year") ++ (part_text after_years months (codes "mon")
+    part_text (pos 0) years (codes "year") ++ (part_text after_years months (codes "mon")
     ++ (part_text after_months days (codes "day") ++ last_text after_days micros))
 
 -- INTERVAL (interval_out)

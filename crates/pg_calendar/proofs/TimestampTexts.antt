@@ -1,7 +1,6 @@
 -- Lemmas on the day that has a number, and on the text of a timestamp.
-use Rattle.std.proofs.Common.{◌≡◌, ℕ, suc, ◌+◌, ◌-◌, ◌/◌, ◌%◌, ◌*◌, ◌<◌, ◌≤◌, List, refl, sym, ◌∙◌, arith, ℤ, pos, ◌+ℤ◌, ◌*ℤ◌}
-use Rattle.std.proofs.Common.{Bool, true, false, nat_lt}
-use Rattle.std.proofs.lemmas.Bool.{ltb-true, ltb-false}
+use Rattle.std.proofs.Common.{◌≡◌, ℕ, suc, ◌+◌, ◌-◌, ◌/◌, ◌%◌, ◌*◌, ◌<◌, ◌≤◌, List, refl, arith, ℤ, pos, ◌+ℤ◌, ◌*ℤ◌}
+use Rattle.std.proofs.Common.{eq-zero-or-pos, inl, inr, subst}
 use Rattle.std.specs.Int.{int_div_euclid, int_rem_euclid}
 use Rattle.std.specs.Prelude.{unsigned_abs}
 use Rattle.jiff_core.proofs.MarchLemmas.{month_and_day}
@@ -10,7 +9,7 @@ use Rattle.jiff_core.specs.March.{march_days}
 use Rattle.pg_calendar.specs.Calendar.{IsDay, IsTimestamp, civil_day, civil_month, civil_year, day_number}
 use Rattle.pg_calendar.specs.Texts.{clock_text, micros_text, timestamp_text}
 use Rattle.pg_calendar.proofs.CivilDays.{day_number-early, day_number-late, day_of, is_day-early, is_day-late, month_of}
-use Rattle.pg_calendar.proofs.CivilOrder.{day_number-one_day}
+use Rattle.pg_calendar.proofs.CivilOrder.{civil_is}
 
 -- the days of a year that begins in March, and what is left of the day's place
 module _ (d : ℕ) where
@@ -32,7 +31,16 @@ module _ (d : ℕ) where
   rest_bound : rest < 366
   rest_bound = omega arith
 
--- the day of a number is a day, and has this number
+-- a day with this number is the one that is found
+found : (n z : ℤ) (m d : ℕ) → IsDay z m d × (day_number z m d ≡ n) → IsDay (civil_year n) (civil_month n) (civil_day n)
+    × (day_number (civil_year n) (civil_month n) (civil_day n) ≡ n)
+found n z m d (day, is) =
+    let same = civil_is n z m d day is in
+    let one : ◌≡◌ {A = ℤ × ℕ × ℕ} (z, m, d) (civil_year n, civil_month n, civil_day n) =
+    λ i. (same.0 i, same.1 i, same.2 i) in
+    subst (λ (t : ℤ × ℕ × ℕ). IsDay t.0 t.1 t.2 × (day_number t.0 t.1 t.2 ≡ n)) one (day, is)
+
+-- each number is that of a day
 module _ (n c : ℤ) (d : ℕ) (cycle : c ≡ int_div_euclid n (pos 146_097))
     (place : d ≡ unsigned_abs (int_rem_euclid n (pos 146_097)) + 719_468) where
   number : c *ℤ pos 146_097 +ℤ pos d ≡ n +ℤ pos 719_468
@@ -64,19 +72,15 @@ module _ (n c : ℤ) (d : ℕ) (cycle : c ≡ int_div_euclid n (pos 146_097))
         omega (arith, signed_arith, count, month_and_day (rest d) bound, place_is d, number),
       )
 
-by_month : (n : ℤ) (t : Bool) → nat_lt 12 (month_of (rest (unsigned_abs (int_rem_euclid n (pos 146_097)) + 719_468))) ≡ t
-    → IsDay (civil_year n) (civil_month n) (civil_day n)
-    × (day_number (civil_year n) (civil_month n) (civil_day n) ≡ n)
-by_month n true e =
-    rw e (early n (int_div_euclid n (pos 146_097)) (unsigned_abs (int_rem_euclid n (pos 146_097)) + 719_468) refl refl
-    (ltb-true _ _ e) _ refl)
-by_month n false e =
-    rw e (late n (int_div_euclid n (pos 146_097)) (unsigned_abs (int_rem_euclid n (pos 146_097)) + 719_468) refl refl
-    (ltb-false _ _ e) _ refl)
-
 pub civil_is_day : (n : ℤ) → IsDay (civil_year n) (civil_month n) (civil_day n)
     × (day_number (civil_year n) (civil_month n) (civil_day n) ≡ n)
-civil_is_day n = by_month n _ refl
+civil_is_day n =
+    let c = int_div_euclid n (pos 146_097) in
+    let d = unsigned_abs (int_rem_euclid n (pos 146_097)) + 719_468 in
+    elim (eq-zero-or-pos (month_of (rest d) - 12)) [
+      | inl less ↦ found n _ _ _ (late n c d refl refl (omega arith) _ refl)
+      | inr more ↦ found n _ _ _ (early n c d refl refl (omega arith) _ refl)
+    ]
 
 -- the text of a timestamp is that of its microseconds
 pub text_of_timestamp : (zone : List ℕ) (year : ℤ) (month day hour minute second fraction : ℕ) (micros : ℤ)
@@ -86,8 +90,7 @@ text_of_timestamp zone y m d h mi s f micros is =
     let n = int_div_euclid micros (pos 86_400_000_000) in
     let of_day = unsigned_abs (int_rem_euclid micros (pos 86_400_000_000)) in
     let number : day_number y m d ≡ n = omega (arith, signed_arith) in
-    let civil = civil_is_day n in
-    let same = day_number-one_day y (civil_year n) m d (civil_month n) (civil_day n) is.0 civil.0 (number ∙ sym civil.1) in
+    let same = civil_is n y m d is.0 number in
     let hours : h ≡ of_day / 3_600_000_000 = omega (arith, signed_arith) in
     let minutes : mi ≡ of_day / 60_000_000 % 60 = omega (arith, signed_arith) in
     let seconds : s ≡ of_day / 1_000_000 % 60 = omega (arith, signed_arith) in

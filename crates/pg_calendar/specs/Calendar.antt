@@ -1,6 +1,6 @@
 -- Dates of the proleptic Gregorian calendar in any year, and timestamps, each with the time from 1970-01-01 00:00:00 to
 -- it. Year 0 is the year before year 1.
-use Rattle.std.specs.Prelude.{◌≡◌, ℕ, ◌+◌, ◌-◌, ◌*◌, ◌/◌, ◌%◌, ◌<◌, ℤ, pos, ◌+ℤ◌, ◌*ℤ◌, nat_lt}
+use Rattle.std.specs.Prelude.{◌≡◌, ℕ, zero, suc, ◌+◌, ◌*◌, ◌<◌, ℤ, pos, ◌+ℤ◌, ◌-ℤ◌, ◌*ℤ◌, int_lt}
 use Rattle.std.specs.Prelude.{if◌then◌else◌, unsigned_abs}
 use Rattle.std.specs.Int.{IsInRange, int_div_euclid, int_rem_euclid}
 use Rattle.jiff_core.specs.Calendar.{days_from_civil, days_in_month}
@@ -14,41 +14,25 @@ abbrev pub day_number : ℤ → ℕ → ℕ → ℤ
 day_number year month day =
     days_from_civil (int_rem_euclid year (pos 400)) month day +ℤ int_div_euclid year (pos 400) *ℤ pos 146_097
 
--- The day with a given number, by arithmetic alone: it is proved that it is a day and has this number
--- (`a_number_is_a_day`). Years begin in March here, so that the leap day is the last day of its year.
+-- the last of the first n, counted from 1, that begins on a day or before it; 0 if none does
+abbrev pub last_begun : (ℕ → ℤ) → ℤ → ℕ → ℕ
+last_begun start day zero = zero
+last_begun start day (suc n) = if int_lt day (start (suc n)) then last_begun start day n else suc n
 
--- the number of days from 0000-03-01 to the day, if the day is moved into the 400 years from 1970 on
-abbrev days_from_march : ℤ → ℕ
-days_from_march n = unsigned_abs (int_rem_euclid n (pos 146_097)) + 719_468
-
--- the number of days from the first day of its century to it, in quarters of a day
-abbrev quarters_of_century : ℕ → ℕ
-quarters_of_century days = (4 * days + 3) % 146_097 / 4 * 4 + 3
-
-abbrev march_year : ℕ → ℕ
-march_year days = 100 * ((4 * days + 3) / 146_097) + quarters_of_century days / 1_461
-
--- the number of days from 1 March to it
-abbrev day_of_march_year : ℤ → ℕ
-day_of_march_year n = quarters_of_century (days_from_march n) % 1_461 / 4
-
--- its month; 13 and 14 are January and February of the next year
-abbrev march_month : ℤ → ℕ
-march_month n = (5 * day_of_march_year n + 461) / 153
-
--- the year of the day with this number
+-- the year of the day with this number: the last one that begins on it or before it, of the 400 years that it is in;
+-- 0000-01-01 has the number -719,528
 abbrev pub civil_year : ℤ → ℤ
 civil_year n =
-    int_div_euclid n (pos 146_097) *ℤ pos 400
-    +ℤ pos (march_year (days_from_march n) + (if nat_lt 12 (march_month n) then 1 else 0))
+    let first = int_div_euclid (n +ℤ pos 719_528) (pos 146_097) *ℤ pos 400 in
+    first +ℤ pos (last_begun (λ year. day_number (first +ℤ pos year) 1 1) n 399)
 
--- its month
+-- its month: the last one that begins on it or before it
 abbrev pub civil_month : ℤ → ℕ
-civil_month n = if nat_lt 12 (march_month n) then march_month n - 12 else march_month n
+civil_month n = last_begun (λ month. day_number (civil_year n) month 1) n 12
 
--- the day of the month of the day with this number
+-- its day of the month
 abbrev pub civil_day : ℤ → ℕ
-civil_day n = (5 * day_of_march_year n + 461) % 153 / 5 + 1
+civil_day n = unsigned_abs (n -ℤ day_number (civil_year n) (civil_month n) 1) + 1
 
 -- the number of microseconds in a day
 abbrev pub micros_per_day : ℤ

@@ -91,7 +91,8 @@ impl DateTime {
 
 /// Returns the microseconds from midnight of day `start` to `micros` after midnight of day `day`;
 /// `None` if they do not fit in an `i64`.
-fn micros_since(start: i64, day: i64, micros: i64) -> Option<i64>
+#[inline]
+pub fn micros_since(start: i64, day: i64, micros: i64) -> Option<i64>
     ensures { MatchOption result (¬ (FitsSigned w64 ((day -ℤ start) *ℤ pos 86_400_000_000 +ℤ micros)))
         (λ n. n ≡ (day -ℤ start) *ℤ pos 86_400_000_000 +ℤ micros) }
 {

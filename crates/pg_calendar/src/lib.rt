@@ -9,6 +9,6 @@ pub mod laws;
 mod text;
 
 pub use civil::Civil;
-pub use date_time::{Clock, DateTime};
+pub use date_time::{Clock, DateTime, micros_since};
 pub use digits::{len_without_zeros, six_digits, two_digits};
 pub use text::{write_clock, write_date, write_timestamp, year_of_era};

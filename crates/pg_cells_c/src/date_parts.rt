@@ -13,7 +13,7 @@ ghost use Rattle.pg_types.specs.Faults.{Answers, NeverMemory};
 
 use crate::store::store;
 use pg_base::epoch::{POSTGRES_EPOCH_DAY, POSTGRES_EPOCH_SECS};
-use pg_calendar::{Civil, Clock, DateTime};
+use pg_calendar::{Civil, Clock, DateTime, micros_since};
 use pg_types::fault::Fault;
 
 /// The number of microseconds of a day.
@@ -244,25 +244,15 @@ pub extern "C" fn pgc_time_of_parts(parts: &TimeParts, microseconds: &mut i64) -
 }
 
 /// Returns the number of microseconds from 2000-01-01 00:00:00 to `time` microseconds after
-/// midnight of a day, which is given as days from 1970-01-01. It is `None` if the number does not
-/// fit in an `i64`.
-#[inline(always)]
-fn micros_from_epoch(day: i64, time: i64) -> Option<i64>
-    ensures { MatchOption result (¬ (FitsSigned w64 ((day -ℤ base_day) *ℤ micros_per_day +ℤ time)))
-        (λ n. n ≡ (day -ℤ base_day) *ℤ micros_per_day +ℤ time) }
-{
-    let days = i128::from(day) - i128::from(POSTGRES_EPOCH_DAY);
-    i64::try_from(days * 86_400_000_000 + i128::from(time)).ok()
-}
-
-/// Returns the same number, or `None` if it is not that of a finite TIMESTAMP.
+/// midnight of a day, which is given as days from 1970-01-01. It is `None` if the number is not that
+/// of a finite TIMESTAMP.
 #[inline(always)]
 fn finite_micros(day: i64, time: i64) -> Option<i64>
     ensures { MatchOption result
         ((z : ℤ) → IsFinite w64 z → z ≡ (day -ℤ base_day) *ℤ micros_per_day +ℤ time → ⊥)
         (λ n. IsFinite w64 n × (n ≡ (day -ℤ base_day) *ℤ micros_per_day +ℤ time)) }
 {
-    let micros = micros_from_epoch(day, time)?;
+    let micros = micros_since(i64::from(POSTGRES_EPOCH_DAY), day, time)?;
     if micros == i64::MAX || micros == i64::MIN {
         return None;
     }

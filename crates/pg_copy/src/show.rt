@@ -1,13 +1,14 @@
 //! The text of a cell, by the type of its column.
-ghost use Rattle.std.specs.Prelude.{◌≡◌, ◌++◌, ◌∷◌, ◌↔◌, ℕ, List, [], IfErr, IfOk, IfSome, IsTrue, OnOk};
-ghost use Rattle.std.specs.Prelude.{Err, Ok, Some, codes, drop, false, true};
+ghost use Rattle.std.specs.Prelude.{◌≡◌, ◌++◌, ◌∷◌, ◌↔◌, ℕ, List, [], IfErr, IfOk, IfSome, IsTrue, OnOk, Err, Ok, Some};
+ghost use Rattle.std.specs.Prelude.{codes, drop, false, true};
 ghost use Rattle.pg_base.specs.Cells.{Cell, SpellsAll, SpellsNone, cell_of};
 ghost use Rattle.pg_copy.specs.CellRefusals.{CellFault, RefusesFront, accepted_in_form};
 ghost use Rattle.pg_copy.specs.Composites.{ReadsBytesOfEach, ReadsElement, RefusesField, RefusesRecord, ShowsField};
 ghost use Rattle.pg_copy.specs.Composites.{ShowsRecord, record_values, records_values, type_fault};
 ghost use Rattle.pg_copy.specs.Lines.{values_in};
 ghost use Rattle.pg_copy.specs.ReadingSteps.{TakesText};
-ghost use Rattle.pg_copy.specs.Values.{HasOtherBound, arrays_of, in_form, no_values, texts, values, values_of, with_arrays};
+ghost use Rattle.pg_copy.specs.Values.{HasOtherBound, arrays_of, in_form, no_values, texts, values, values_of};
+ghost use Rattle.pg_copy.specs.Values.{with_arrays};
 ghost use Rattle.pg_copy.specs.declared.columns.Field.{Field};
 ghost use Rattle.pg_text.specs.Lists.{ShowsArray, ShowsElement};
 ghost use Rattle.pg_types.specs.Content.{Content, content};

@@ -3,7 +3,7 @@ ghost use Rattle.std.specs.Prelude.{◌≡◌};
 ghost use Rattle.std.specs.Int.{w64};
 ghost use Rattle.pg_types.specs.declared.types.built_in.BuiltIn.TheVariants.{PgLsn as PgLsnRow};
 ghost use Rattle.pg_types.specs.Content.{is_row};
-ghost use Rattle.pg_base.proofs.LsnLaws.{lsn_grammar};
+ghost use Rattle.pg_base.proofs.FormatLaws.{unsigned8_grammar};
 ghost use Rattle.pg_base.specs.Numbers.{FormUnsigned, ReadsUnsigned, first_fault_number};
 ghost use Rattle.pg_base.proofs.SamenessLaws.{equal_equivalence};
 ghost use Rattle.pg_read.specs.Reading.{EveryCell};
@@ -29,7 +29,7 @@ impl<'a> FromSql<'a> for PgLsn {
 
     ghost equivalence = { equal_equivalence };
 
-    ghost single = { λ _ _. plain_single (λ v w. v ≡ w) (FormUnsigned w64) (first_fault_number 8) lsn_grammar };
+    ghost single = { λ _ _. plain_single (λ v w. v ≡ w) (FormUnsigned w64) (first_fault_number 8) unsigned8_grammar };
 
     fn from_sql(_alloc: Global, _ty: &PgType, raw: &'a [u8]) -> Result<PgLsn, Fault> {
         Ok(lsn_from_sql(raw)?.into())

@@ -3,10 +3,10 @@ ghost use Rattle.std.specs.Prelude.{◌≡◌};
 ghost use Rattle.std.specs.Int.{w8, w16, w32, w64};
 ghost use Rattle.pg_types.specs.declared.types.built_in.BuiltIn.TheVariants.{Bool, Char, Int2, Int4, Int8, Oid};
 ghost use Rattle.pg_types.specs.Content.{is_row};
-ghost use Rattle.pg_base.proofs.FormatLaws.{bool_grammar, char_grammar, int2_grammar, int4_grammar};
-ghost use Rattle.pg_base.proofs.FormatLaws.{int8_grammar, oid_grammar};
-ghost use Rattle.pg_base.specs.Numbers.{FormBool, FormSigned, FormUnsigned, first_fault_number, ReadsBool};
-ghost use Rattle.pg_base.specs.Numbers.{ReadsSigned, ReadsUnsigned};
+ghost use Rattle.pg_base.proofs.FormatLaws.{bool_grammar, char_grammar, int2_grammar, int4_grammar, int8_grammar};
+ghost use Rattle.pg_base.proofs.FormatLaws.{unsigned4_grammar};
+ghost use Rattle.pg_base.specs.Numbers.{FormBool, FormSigned, FormUnsigned, first_fault_number, ReadsBool, ReadsSigned};
+ghost use Rattle.pg_base.specs.Numbers.{ReadsUnsigned};
 ghost use Rattle.pg_base.proofs.SamenessLaws.{equal_equivalence};
 ghost use Rattle.pg_read.specs.Reading.{EveryCell};
 ghost use Rattle.pg_read.specs.Laws.Reading.{plain_single};
@@ -172,7 +172,7 @@ impl<'a> FromSql<'a> for u32 {
 
     ghost equivalence = { equal_equivalence };
 
-    ghost single = { λ _ _. plain_single (λ v w. v ≡ w) (FormUnsigned w32) (first_fault_number 4) oid_grammar };
+    ghost single = { λ _ _. plain_single (λ v w. v ≡ w) (FormUnsigned w32) (first_fault_number 4) unsigned4_grammar };
 
     fn from_sql(_alloc: Global, _ty: &PgType, raw: &'a [u8]) -> Result<u32, Fault> {
         oid_from_sql(raw)

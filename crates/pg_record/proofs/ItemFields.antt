@@ -14,7 +14,7 @@ use Rattle.pg_read.specs.FrameReading.{ReadsFirst}
 use Rattle.pg_read.specs.Reading.{EveryCell}
 use Rattle.pg_types.specs.Faults.{Refusal}
 use Rattle.postgres_types.proofs.RecordSteps.{counted}
-use Rattle.postgres_types.specs.CompositeFields.{both_true}
+use Rattle.postgres_types.specs.Laws.CompositeFields.{both_true}
 use Rattle.postgres_types.specs.Records.{ReadsNext, count_of, oid_fault}
 use Rattle.pg_record.specs.InventoryItems.{accepts_row}
 

@@ -6,8 +6,9 @@ ghost use Rattle.pg_types.specs.declared.types.built_in.BuiltIn.TheVariants.{Int
 ghost use Rattle.pg_base.specs.Appending.{KeepsCapacity};
 ghost use Rattle.pg_base.specs.Texts.{accepted_text};
 ghost use Rattle.pg_read.specs.Reading.{NullAlone};
-ghost use Rattle.pg_record.specs.InventoryItems.{SameItem, accepts_item, back_item, item_bytes, item_equivalence};
-ghost use Rattle.pg_record.specs.InventoryItems.{accepts_row, item_lawful, item_single, reads_item, wire_item};
+ghost use Rattle.pg_record.specs.InventoryItems.{SameItem, accepts_item, back_item, item_bytes, accepts_row};
+ghost use Rattle.pg_record.specs.InventoryItems.{reads_item, wire_item};
+ghost use Rattle.pg_record.specs.Laws.InventoryItems.{item_equivalence, item_lawful, item_single};
 ghost use Rattle.postgres_types.specs.Records.{AppendsBytes, AppendsBytesOrPart, fields_of_kind};
 
 use postgres_types::composite::{

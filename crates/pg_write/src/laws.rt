@@ -1,7 +1,13 @@
 //! What the library's own types promise beyond the contract of the trait.
-ghost use Rattle.std.specs.Prelude.{◌≤◌, IsTrue, length};
+ghost use Rattle.std.specs.Prelude.{◌≡◌, ◌≤◌, ℕ, IsTrue, List, length};
 ghost use Rattle.std.specs.Box.{boxed_slice_items};
+ghost use Rattle.std.specs.Cmp.Lexicographic.{slice_cmp};
+ghost use Rattle.std.specs.List.Sorted.{IsStrictlySortedBy};
+ghost use Rattle.std.specs.Map.{keys_of, lookup};
+ghost use Rattle.std.specs.Ordering.{nat_cmp};
+ghost use Rattle.std.specs.Str.{bytes_eq};
 ghost use Rattle.pg_base.specs.Cells.{max_length};
+ghost use Rattle.pg_base.specs.Hstore.{Entry, in_key_order};
 
 use crate::to_sql::ToSql;
 use jiff::civil;
@@ -94,3 +100,11 @@ pub fn types_refused_without_memory() {
     refuses_without_memory::<HashMap<String, Option<String>>>();
     refuses_without_memory::<Value>();
 }
+
+/// The entries of an hstore, as they are written: in the order of their keys' bytes, each key once,
+/// and with the value that a map of these entries has at each key.
+#[tactic(auto, using(crate::proofs::Insertion::in_order, crate::proofs::Insertion::in_order_lookup))]
+pub fn entries_are_written_in_key_order()
+    ensures order { (es : List Entry) → IsStrictlySortedBy (slice_cmp nat_cmp) (keys_of (in_key_order es)) }
+    ensures values { (q : List ℕ) (es : List Entry) → lookup (bytes_eq q) (in_key_order es) ≡ lookup (bytes_eq q) es }
+{}

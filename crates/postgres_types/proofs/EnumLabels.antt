@@ -57,7 +57,7 @@ pub not_a_label : (labels : List (List ℕ)) (b : List ℕ) → IsUtf8 b → has
 not_a_label labels b text none = rw (none, is_utf8-from_IsUtf8 b text) refl
 
 both_false : (utf8_test : Bool) (r : Refusal) → cond utf8_test None (Some utf8) ≡ Some r
-    → cond utf8_test (cond false None (Some no_label)) (Some utf8) ≡ Some r
+    → Some (cond utf8_test no_label utf8) ≡ Some r
 both_false true r h = let no : ⊥ = cc in absurd no
 both_false false r h = h
 

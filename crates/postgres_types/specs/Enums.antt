@@ -1,6 +1,6 @@
 -- Enumerated types, whose cells are labels (enum_send, enum_recv).
 use Rattle.std.specs.Prelude.{◌≡◌, ℕ, ◌==◌, ◌&&◌, ◌||◌, List, [], ◌∷◌, length, Bool, true, false, not, nat_le}
-use Rattle.std.specs.Prelude.{Option, Some, None, Ok, Err, codes, slice_get}
+use Rattle.std.specs.Prelude.{Option, Some, None, Ok, Err, codes, if◌then◌else◌, slice_get}
 use Rattle.std.specs.Cmp.Lexicographic.{pointwise}
 use Rattle.std.specs.List.{list_all, list_any}
 use Rattle.std.specs.Str.{is_utf8}
@@ -8,7 +8,7 @@ use Rattle.pg_types.specs.Content.{Content, KindContent, EnumKind, kind_of}
 use Rattle.pg_types.specs.Faults.{Outcome, Refusal, user, utf8}
 use Rattle.pg_base.specs.Appending.{Wire}
 use Rattle.pg_base.specs.Cells.{Cell}
-use Rattle.pg_base.specs.Formats.{ReadsPlain, first_fault_of}
+use Rattle.pg_base.specs.Formats.{ReadsPlain}
 use Rattle.pg_base.specs.Texts.{is_named}
 
 -- the label is among the labels
@@ -41,10 +41,9 @@ FormLabel labels b place = slice_get labels place ≡ Some b
 abbrev pub no_label : Refusal
 no_label = user (codes "invalid variant")
 
--- bytes that are not UTF-8 are Utf8, and a text that is not a label is that fault
+-- the fault of bytes that are not a label: Utf8 if they are not UTF-8
 abbrev pub first_fault_label : List (List ℕ) → List ℕ → Option Refusal
-first_fault_label labels b =
-    first_fault_of ((has_label labels b || is_utf8 b, utf8) ∷ (has_label labels b, no_label) ∷ [])
+first_fault_label labels b = if has_label labels b then None else Some (if is_utf8 b then no_label else utf8)
 
 -- what a cell reads as: the index of its label
 abbrev pub ReadsLabel : List (List ℕ) → Cell → Outcome ℕ → Type 0

@@ -3,6 +3,8 @@ pub mod ArrayBack
 pub mod Back
 pub mod BitBack
 pub mod BoxBack
+pub mod CompositeFields
+pub mod Composites
 pub mod Domain
 pub mod Enum
 pub mod FixedBytesBack

@@ -1,56 +1,12 @@
 //! The text of an interval.
 ghost use Rattle.std.specs.Prelude.{◌≡◌, ◌≤◌, ◌^◌, Some, int_div, int_rem, pos};
 ghost use Rattle.std.specs.Fmt.{WritesOnOk};
-ghost use Rattle.pg_base.specs.IntervalTexts.{after_part, hours_text, interval_text, last_text, part_text, parts_text};
-ghost use Rattle.pg_base.specs.IntervalTexts.{time_text};
-ghost use Rattle.pg_base.specs.IntervalTexts.{plus_after, sign_text, space_after};
+ghost use Rattle.pg_base.specs.IntervalTexts.{after_part, count_text, hours_text, interval_text, last_text, part_text};
+ghost use Rattle.pg_base.specs.IntervalTexts.{parts_text, time_text, sign_text};
 
 use super::Interval;
 use pg_calendar::{Clock, write_clock};
 use std::fmt;
-
-/// What precedes a part of an interval: no part, a positive one, or a negative one.
-#[derive(Debug, Clone, Copy, PartialEq, Eq)]
-enum Before {
-    Nothing,
-    Positive,
-    Negative,
-}
-
-impl Before {
-    /// Returns what precedes the part after `number`.
-    fn after(self, number: i32) -> Before
-        ensures { result ≡ after_part self number }
-    {
-        if number == 0 {
-            self
-        } else if number < 0 {
-            Before::Negative
-        } else {
-            Before::Positive
-        }
-    }
-
-    /// Returns the space that separates a part from the one before it.
-    fn space(self) -> &'static str
-        ensures { result.now ≡ space_after self }
-    {
-        match self {
-            Before::Nothing => "",
-            Before::Positive | Before::Negative => " ",
-        }
-    }
-
-    /// Returns the plus sign of a part, which is written after a negative part only.
-    fn plus(self) -> &'static str
-        ensures { result.now ≡ plus_after self }
-    {
-        match self {
-            Before::Nothing | Before::Positive => "",
-            Before::Negative => "+",
-        }
-    }
-}
 
 /// Writes the interval like `1 year 2 mons -3 days +04:05:06.5` (`interval_out`, with IntervalStyle
 /// `postgres`). Parts that are 0 are left out; an interval without parts is `00:00:00`. Each part
@@ -74,12 +30,20 @@ fn write_parts<W: fmt::Write>(
 {
     let years = whole_years(all_months);
     let months = months_of_year(all_months);
-    let after_years = Before::Nothing.after(years);
-    let after_months = after_years.after(months);
-    write_part(Before::Nothing, years, "year", f)?;
+    let after_years = after_part(0, years);
+    let after_months = after_part(after_years, months);
+    write_part(0, years, "year", f)?;
     write_part(after_years, months, "mon", f)?;
     write_part(after_months, days, "day", f)?;
-    write_last(after_months.after(days), micros, f)
+    write_last(after_part(after_months, days), micros, f)
+}
+
+/// Returns the part before the next one: this one, unless it is 0 and so left out. 0 stands for no
+/// part.
+fn after_part(before: i32, number: i32) -> i32
+    ensures { result ≡ after_part before number }
+{
+    if number == 0 { before } else { number }
 }
 
 /// Returns the whole years in a number of months.
@@ -98,7 +62,7 @@ fn months_of_year(months: i32) -> i32
 
 /// Writes the number and its unit, unless the number is 0.
 fn write_part<W: fmt::Write>(
-    before: Before,
+    before: i32,
     number: i32,
     unit: &str,
     f: &mut fmt::Formatter<W>,
@@ -109,6 +73,13 @@ fn write_part<W: fmt::Write>(
         return Ok(());
     }
     write_sign(before, number < 0, f)?;
+    write_count(number, unit, f)
+}
+
+/// Writes the number without its sign, and its unit.
+fn write_count<W: fmt::Write>(number: i32, unit: &str, f: &mut fmt::Formatter<W>) -> fmt::Result
+    ensures { WritesOnOk W.write_str_gives f.old result (count_text number unit.now) f.new }
+{
     let count = number.unsigned_abs();
     let plural = if number == 1 { "" } else { "s" };
     write!(f, "{count} {unit}{plural}")
@@ -116,28 +87,34 @@ fn write_part<W: fmt::Write>(
 
 /// Writes the space after the part before, and the sign.
 fn write_sign<W: fmt::Write>(
-    before: Before,
+    before: i32,
     is_negative: bool,
     f: &mut fmt::Formatter<W>,
 ) -> fmt::Result
     ensures { WritesOnOk W.write_str_gives f.old result (sign_text before is_negative) f.new }
 {
-    f.write_str(before.space())?;
-    f.write_str(if is_negative { "-" } else { before.plus() })
+    f.write_str(if before == 0 { "" } else { " " })?;
+    f.write_str(if is_negative {
+        "-"
+    } else if before < 0 {
+        "+"
+    } else {
+        ""
+    })
 }
 
 /// Writes the time, unless it is 0 and follows another part.
-fn write_last<W: fmt::Write>(before: Before, micros: i64, f: &mut fmt::Formatter<W>) -> fmt::Result
+fn write_last<W: fmt::Write>(before: i32, micros: i64, f: &mut fmt::Formatter<W>) -> fmt::Result
     ensures { WritesOnOk W.write_str_gives f.old result (last_text before micros) f.new }
 {
-    if before != Before::Nothing && micros == 0 {
+    if before != 0 && micros == 0 {
         return Ok(());
     }
     write_time(before, micros, f)
 }
 
 /// Writes the sign and the time.
-fn write_time<W: fmt::Write>(before: Before, micros: i64, f: &mut fmt::Formatter<W>) -> fmt::Result
+fn write_time<W: fmt::Write>(before: i32, micros: i64, f: &mut fmt::Formatter<W>) -> fmt::Result
     ensures { WritesOnOk W.write_str_gives f.old result (time_text before micros) f.new }
 {
     write_sign(before, micros < 0, f)?;

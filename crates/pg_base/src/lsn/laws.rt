@@ -31,7 +31,7 @@ pub fn position_text_parses()
 {}
 
 /// The format of PG_LSN is a grammar, whose checks are complete.
-#[tactic(auto, using(crate::proofs::LsnLaws::lsn_grammar, crate::proofs::Completeness::lsn_complete))]
+#[tactic(auto, using(crate::proofs::FormatLaws::unsigned8_grammar, crate::proofs::Completeness::lsn_complete))]
 pub fn lsn_format()
     ensures grammar { IsGrammar (λ v w. v ≡ w) (FormUnsigned w64) (first_fault_number 8) }
     ensures complete { IsComplete (FormUnsigned w64) (first_fault_number 8) }

@@ -54,7 +54,7 @@ pub fn int8_format()
 {}
 
 /// OID.
-#[tactic(auto, using(crate::proofs::FormatLaws::oid_grammar, crate::proofs::Completeness::oid_complete))]
+#[tactic(auto, using(crate::proofs::FormatLaws::unsigned4_grammar, crate::proofs::Completeness::oid_complete))]
 pub fn oid_format()
     ensures grammar { IsGrammar (λ v w. v ≡ w) (FormUnsigned w32) (first_fault_number 4) }
     ensures complete { IsComplete (FormUnsigned w32) (first_fault_number 4) }

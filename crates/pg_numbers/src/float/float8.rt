@@ -2,7 +2,7 @@
 ghost use Rattle.std.specs.Prelude.{◌≡◌, ℕ, from_bits, is_nan, to_bits, true};
 ghost use Rattle.std.specs.Float.{binary64};
 ghost use Rattle.std.specs.Int.{w64};
-ghost use Rattle.pg_base.proofs.LsnLaws.{lsn_grammar};
+ghost use Rattle.pg_base.proofs.FormatLaws.{unsigned8_grammar};
 ghost use Rattle.pg_base.specs.Numbers.{FormUnsigned, ReadsUnsigned, first_fault_number, wire_unsigned};
 ghost use Rattle.pg_numbers.specs.Floats.{is_float8, number_of};
 ghost use Rattle.postgres_types.specs.Conversion.{BackKept, EveryCell, codes, equal_equivalence, plain_single, refl};
@@ -10,7 +10,7 @@ ghost use Rattle.postgres_types.specs.Laws.NumberBack.{unsigned_lawful};
 
 use crate::catalog::has_oid;
 use postgres_types::private::BytesMut;
-use postgres_types::protocol::{lsn_from_sql, lsn_to_sql};
+use postgres_types::protocol::{lsn_from_sql as u64_from_sql, lsn_to_sql as u64_to_sql};
 use postgres_types::{Fault, Format, FromSql, IsNull, Paired, ToSql, Type, check_type};
 use std::alloc::Global;
 use std::marker::Model;
@@ -94,10 +94,10 @@ impl<'a> FromSql<'a> for Float8 {
 
     ghost equivalence = { equal_equivalence };
 
-    ghost single = { λ _ _. plain_single (λ v w. v ≡ w) (FormUnsigned w64) (first_fault_number 8) lsn_grammar };
+    ghost single = { λ _ _. plain_single (λ v w. v ≡ w) (FormUnsigned w64) (first_fault_number 8) unsigned8_grammar };
 
     fn from_sql(_alloc: Global, _ty: &Type, raw: &'a [u8]) -> Result<Float8, Fault> {
-        Ok(Float8(lsn_from_sql(raw)?))
+        Ok(Float8(u64_from_sql(raw)?))
     }
 
     fn from_sql_null(_alloc: Global, _ty: &Type) -> Result<Float8, Fault> {
@@ -122,7 +122,7 @@ impl ToSql for Float8 {
     ghost refuses_memory_free = { true };
 
     fn to_sql(&self, alloc: Global, _ty: &Type, out: &mut BytesMut) -> Result<IsNull, Fault> {
-        lsn_to_sql(alloc, self.0, out)?;
+        u64_to_sql(alloc, self.0, out)?;
         Ok(IsNull::No)
     }
 
@@ -151,5 +151,5 @@ impl<'a> Paired<'a> for Float8 {
 
     ghost types = { λ _. refl };
 
-    ghost lawful = { λ _ _. unsigned_lawful w64 lsn_grammar };
+    ghost lawful = { λ _ _. unsigned_lawful w64 unsigned8_grammar };
 }

@@ -4,8 +4,9 @@ ghost use Rattle.pg_types.specs.Content.{FieldsContent};
 ghost use Rattle.pg_base.proofs.SamenessLaws.{inside_equivalence};
 ghost use Rattle.pg_read.specs.Laws.Reading.{through_gives_single};
 ghost use Rattle.pg_read.specs.Views.{Through};
-ghost use Rattle.postgres_types.specs.CompositeFields.{and4, and_equivalence, and_lawful, and_single, and_types};
-ghost use Rattle.postgres_types.specs.CompositeFields.{and_width, in_turn4, through_are_lawful};
+ghost use Rattle.postgres_types.specs.CompositeFields.{and4, in_turn4};
+ghost use Rattle.postgres_types.specs.Laws.CompositeFields.{and_equivalence, and_lawful, and_single, and_types};
+ghost use Rattle.postgres_types.specs.Laws.CompositeFields.{and_width, through_are_lawful};
 
 use super::fields::{And, FieldRefs, FromFields, PairedFields, ToFields};
 use crate::paired::Paired;

@@ -5,10 +5,11 @@ ghost use Rattle.pg_types.specs.Faults.{Answers, NeverMemory, Outcome};
 ghost use Rattle.pg_base.specs.Appending.{KeepsCapacity};
 ghost use Rattle.pg_base.specs.Sameness.{IsEquivalence};
 ghost use Rattle.pg_read.specs.Reading.{GivesSingle};
-ghost use Rattle.postgres_types.specs.CompositeFields.{BackAnd, BackEnd, ReadsAnd, ReadsEnd, SameAnd, accepts_and};
-ghost use Rattle.postgres_types.specs.CompositeFields.{and, and_equivalence, and_lawful, and_single, bytes_and};
-ghost use Rattle.postgres_types.specs.CompositeFields.{no_fields_equivalence, no_fields_lawful, no_fields_single};
-ghost use Rattle.postgres_types.specs.CompositeFields.{and_width, no_fields, no_fields_width};
+ghost use Rattle.postgres_types.specs.CompositeFields.{BackAnd, BackEnd, ReadsAnd, ReadsEnd, SameAnd, accepts_and, and};
+ghost use Rattle.postgres_types.specs.CompositeFields.{bytes_and, no_fields};
+ghost use Rattle.postgres_types.specs.Laws.CompositeFields.{and_equivalence, and_lawful, and_single};
+ghost use Rattle.postgres_types.specs.Laws.CompositeFields.{no_fields_equivalence, no_fields_lawful, no_fields_single};
+ghost use Rattle.postgres_types.specs.Laws.CompositeFields.{and_width, no_fields_width};
 ghost use Rattle.postgres_types.specs.Laws.Record.{AreLawful};
 ghost use Rattle.postgres_types.specs.Records.{AppendsBytes, Bytes, FieldFree, RoomSuffices, count_of};
 
@@ -274,7 +275,7 @@ impl<'a, A: FieldRefs> FieldRefs for &'a A {
 }
 
 impl<'a, A: Paired<'a>, B: PairedFields<'a>> PairedFields<'a> for And<A, B> {
-    ghost use Rattle.postgres_types.specs.CompositeFields.{and_types};
+    ghost use Rattle.postgres_types.specs.Laws.CompositeFields.{and_types};
 
     ghost back = { BackAnd A.back B.back };
 

@@ -4,8 +4,9 @@ ghost use Rattle.pg_types.specs.Content.{content, fields_content, kind_of};
 ghost use Rattle.pg_base.proofs.SamenessLaws.{inside_equivalence};
 ghost use Rattle.pg_read.specs.Laws.Reading.{through_single};
 ghost use Rattle.pg_read.specs.Views.{ReadsThrough, Through};
-ghost use Rattle.postgres_types.specs.Composites.{accepts_record, are_named, composite_lawful, composite_single};
-ghost use Rattle.postgres_types.specs.Composites.{composite_types, is_composite, is_record, reads_record, record_cell};
+ghost use Rattle.postgres_types.specs.Composites.{accepts_record, are_named, is_composite, is_record, reads_record};
+ghost use Rattle.postgres_types.specs.Composites.{record_cell};
+ghost use Rattle.postgres_types.specs.Laws.Composites.{composite_lawful, composite_single, composite_types};
 ghost use Rattle.pg_base.specs.Appending.{KeepsCapacity};
 ghost use Rattle.pg_write.specs.Writing.{HasCell};
 ghost use Rattle.postgres_types.specs.Records.{AppendsBytes, RecordFree, RoomSuffices, fields_of_kind, record_bytes};
@@ -140,7 +141,7 @@ where
         (composite_single T.type_name T.names T.Fields.FromFields.accepted T.Fields.same T.Fields.reads T.Fields.single
         ty ok) };
 
-    #[tactic(auto, using(crate::specs::Composites::fields_accepted))]
+    #[tactic(auto, using(crate::specs::Laws::Composites::fields_accepted))]
     fn from_sql(alloc: Global, ty: &PgType, raw: &'a [u8]) -> Result<Composite<T>, Fault> {
         let fields = fields_of(ty);
         let mut buf = raw;
@@ -198,7 +199,7 @@ impl<T: Record> ToSql for Composite<T> {
 
     ghost refuses_memory_free = { true };
 
-    #[tactic(auto, using(crate::specs::Composites::fields_accepted))]
+    #[tactic(auto, using(crate::specs::Laws::Composites::fields_accepted))]
     fn to_sql(&self, alloc: Global, ty: &PgType, out: &mut BytesMut) -> Result<IsNull, Fault> {
         record_to_sql(alloc, &self.0, fields_of(ty), out)?;
         Ok(IsNull::No)

@@ -1,7 +1,7 @@
 //! Log sequence numbers are read back as themselves.
 ghost use Rattle.std.specs.Prelude.{◌≡◌, refl};
 ghost use Rattle.std.specs.Int.{w64};
-ghost use Rattle.pg_base.proofs.LsnLaws.{lsn_grammar};
+ghost use Rattle.pg_base.proofs.FormatLaws.{unsigned8_grammar};
 ghost use Rattle.postgres_types.specs.Laws.NumberBack.{unsigned_lawful};
 ghost use Rattle.postgres_types.specs.ReadingBack.{BackKept};
 
@@ -14,5 +14,5 @@ impl<'a> Paired<'a> for PgLsn {
 
     ghost types = { λ _. refl };
 
-    ghost lawful = { λ _ _. unsigned_lawful w64 lsn_grammar };
+    ghost lawful = { λ _ _. unsigned_lawful w64 unsigned8_grammar };
 }

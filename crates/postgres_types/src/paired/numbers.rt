@@ -1,7 +1,7 @@
 //! Integers and booleans are read back as themselves.
 ghost use Rattle.std.specs.Prelude.{◌≡◌, refl};
 ghost use Rattle.std.specs.Int.{w8, w16, w32, w64};
-ghost use Rattle.pg_base.proofs.FormatLaws.{char_grammar, int2_grammar, int4_grammar, int8_grammar, oid_grammar};
+ghost use Rattle.pg_base.proofs.FormatLaws.{char_grammar, int2_grammar, int4_grammar, int8_grammar, unsigned4_grammar};
 ghost use Rattle.postgres_types.specs.Laws.NumberBack.{bool_lawful, signed_lawful, unsigned_lawful};
 ghost use Rattle.postgres_types.specs.ReadingBack.{BackKept};
 
@@ -58,5 +58,5 @@ impl<'a> Paired<'a> for u32 {
 
     ghost types = { λ _. refl };
 
-    ghost lawful = { λ _ _. unsigned_lawful w32 oid_grammar };
+    ghost lawful = { λ _ _. unsigned_lawful w32 unsigned4_grammar };
 }

@@ -3,7 +3,7 @@ use Rattle.std.proofs.Common.{IsTrue, Some, sym, subst}
 use Rattle.std.specs.Prelude.{codes}
 use Rattle.pg_types.specs.Content.{content}
 use Rattle.pg_types.specs.Faults.{Answers}
-use Rattle.postgres_types.specs.Composites.{fields_accepted}
+use Rattle.postgres_types.specs.Laws.Composites.{fields_accepted}
 use Rattle.pg_record.specs.InventoryItems.{accepts_row, item_names, reads_item}
 use Rattle.pg_record.proofs.inventory_item.InventoryItemFromSql.from_sql.Goals as goal
 

@@ -2,7 +2,7 @@
 use Rattle.std.proofs.Common.{IsTrue, sym, subst}
 use Rattle.std.specs.Prelude.{codes}
 use Rattle.pg_types.specs.Content.{content}
-use Rattle.postgres_types.specs.Composites.{fields_accepted}
+use Rattle.postgres_types.specs.Laws.Composites.{fields_accepted}
 use Rattle.pg_record.specs.InventoryItems.{accepts_row, item_names}
 use Rattle.pg_record.proofs.inventory_item.InventoryItemToSql.to_sql.Goals as goal
 
