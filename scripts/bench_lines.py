@@ -1,12 +1,9 @@
 """The lines of pgcell that scripts/bench measures: cells of each base name that the Rust crate has."""
 import re
-import sys
 
 import real_crate
-from measuring import TOP, Program, Work, compare, least_times, said_of, table, times_of
-
-sys.path.append(f"{TOP}/.ci")
 from formats import FORMATS, array
+from measuring import TOP, Program, Work, compare, least_times, said_of, table, times_of
 
 # How many lines are measured in a run.
 LINES = 200_000

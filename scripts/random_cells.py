@@ -1,12 +1,7 @@
 """Random cells of pgcell's names: each by the grammar of its base name, and every other one damaged.
 
-The names and their faults stand in .ci/formats.py.
+The names and their faults stand in scripts/formats.py.
 """
-import sys
-
-from measuring import TOP
-
-sys.path.append(f"{TOP}/.ci")
 from formats import FORMATS, SIZE, array, array_format, framed
 
 # What texts are joined of: characters of one to four bytes, and sometimes bytes that are none.

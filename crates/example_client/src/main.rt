@@ -1,5 +1,9 @@
-//! Reads rows of nine columns, binds four parameters, and prints the faults of what is refused.
+//! Reads rows of nine columns, binds four parameters, and prints the faults of what is refused; then
+//! a row whose columns are known only at run time, and a binary COPY.
 #![tactic(auto)]
+
+mod columns;
+mod copy;
 
 use anyhow::Result;
 use jiff::Timestamp;
@@ -98,5 +102,6 @@ fn main(rt: HostRuntime) -> Result<()> {
     let mut out = BytesMut::new(alloc);
     bind_event(&read_event(alloc, &LATE, &event_columns())?, &mut out)?;
     println!(rt; "{:?}", out.as_slice())?;
-    Ok(())
+    columns::print_row(rt)?;
+    copy::print_ids(rt)
 }

@@ -1,5 +1,6 @@
 //! The tests, by program, and the streams that they share.
 
+mod client;
 mod copy;
 mod fake_streams;
 mod names;

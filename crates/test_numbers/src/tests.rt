@@ -1,4 +1,0 @@
-//! The tests, by type.
-
-mod floats;
-mod numeric;

@@ -1,0 +1,9 @@
+//! A client: rows, Bind messages and its catalog; what is refused, and the place of the fault.
+
+mod bind;
+mod catalog;
+mod copy_rows;
+mod places;
+mod row_ends;
+mod row_faults;
+mod rows;
