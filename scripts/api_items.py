@@ -12,7 +12,7 @@ ITEM = r"^{margin}(?:pub (?:const )?(?:fn|struct|enum|trait|type|const) |macro_r
 SIGNATURE_END = re.compile(r"\s*(?:\n\s*(?:where|requires|ensures|decreases)\b|\{\s*$|;$)", re.M)
 INHERENT = re.compile(r"^impl(?:<[^{\n]*?>)? (\w+)(?:<[^{\n]*>)?(?:\nwhere\n[^{]*?)? ?\{\n(.*?)^\}", re.M | re.S)
 TRAIT_ITEM = re.compile(r"^    (?:ghost (\w+)|fn (\w+)|type (\w+))", re.M)
-VARIANT = re.compile(r"^    ([A-Z]\w*(?:\(.*\)| \{.*\})?),$", re.M)
+VARIANT = re.compile(r"^    ([A-Z]\w*(?:\(.*\)| \{[^}]*\})?),$", re.M)
 PUBLIC_FIELD = re.compile(r"^    pub (\w+: .*),$", re.M)
 # What else a type implements that a caller would look for.
 IMPLEMENTED = re.compile(r"^impl(?:<[^{\n]*?>)? (?:\w+::)*((?:Display|FromStr|Ord|From<[^<>]*>)) for (\w+)", re.M)
@@ -61,7 +61,7 @@ def comment_above(text, at):
 
 def flat(signature):
     """Returns a signature on one line."""
-    signature = " ".join(signature.split()).replace("( ", "(").replace(", )", ")")
+    signature = " ".join(signature.split()).replace("( ", "(").replace(", )", ")").replace(", }", " }")
     return re.sub(r"\bpub |\b_(?=alloc: )", "", signature)
 
 
@@ -76,7 +76,7 @@ def signature_of(text, at):
         return flat(line.partition(" = ")[0] if line.startswith("pub const") else line.rstrip(";"))
     if line.startswith(("pub struct", "pub enum")) and line.endswith("{"):
         body = text[at : text.find("\n}", at)]
-        parts = (PUBLIC_FIELD if line.startswith("pub struct") else VARIANT).findall(body)
+        parts = (PUBLIC_FIELD if line.startswith("pub struct") else VARIANT).findall(re.sub(r"^ *///.*\n", "", body, flags=re.M))
         return flat(line[:-1] + ("{ " + ", ".join(parts) + " }" if parts else ""))
     if line.startswith("pub struct"):
         whole = text[at : text.find(";\n", at)]

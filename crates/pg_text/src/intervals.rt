@@ -1,8 +1,8 @@
 //! The texts of intervals.
 ghost use Rattle.std.specs.Prelude.{◌≡◌, ◌++◌, ◌+ℤ◌, ◌*ℤ◌, pos, IfSome, IsSome, MatchOption, None, Some};
 ghost use Rattle.pg_base.specs.IntervalTexts.{interval_text};
-ghost use Rattle.pg_text.specs.Intervals.{IsSumOf, SaysInterval, SetsField, TakesField, TakesMinutes, TakesPart};
-ghost use Rattle.pg_text.specs.Intervals.{TakesSign, field_name, signed};
+ghost use Rattle.pg_text.specs.Intervals.{IsSumOf, SaysInterval, TakesField, TakesMinutes, TakesPart, TakesSign};
+ghost use Rattle.pg_text.specs.Intervals.{field_name, signed};
 ghost use Rattle.pg_text.specs.Texts.{Shows};
 
 use crate::scanner::Scanner;
@@ -49,13 +49,7 @@ impl Parts {
             return set(&mut self.micros, signed(is_negative, time)?);
         }
         let field = take_field(scanner)?;
-        self.set_field(field, i32::try_from(signed(is_negative, number)?).ok()?)
-    }
-
-    /// Sets the part of the field; `None` if it is set already.
-    fn set_field(&mut self, field: Field, count: i32) -> Option<()>
-        ensures { IfSome result (λ _. SetsField self.old field count self.new) }
-    {
+        let count = i32::try_from(signed(is_negative, number)?).ok()?;
         match field {
             Field::Year => set(&mut self.years, count),
             Field::Month => set(&mut self.months, count),

@@ -1,9 +1,12 @@
-//! A client: rows, Bind messages and its catalog; what is refused, and the place of the fault.
+//! A client: messages, rows, Bind messages and its catalog; what is refused, and the place of the
+//! fault.
 
 mod bind;
 mod catalog;
 mod copy_rows;
 mod places;
+mod received_messages;
 mod row_ends;
 mod row_faults;
 mod rows;
+mod sent_messages;

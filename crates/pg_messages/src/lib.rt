@@ -1,0 +1,16 @@
+//! The messages of PostgreSQL's protocol, version 3 ("Message Formats" in its documentation), over
+//! bytes that the caller sends and receives.
+//!
+//! A call of [`frontend`] appends a message to a buffer. [`backend::take_message`] takes a message off
+//! the front of received bytes, and [`message::Message::parse`] reads its body. Nothing but the
+//! buffer is allocated.
+#![tactic(auto)]
+
+pub mod backend;
+pub mod column;
+mod field;
+pub mod frontend;
+pub mod laws;
+pub mod message;
+pub mod notice;
+pub mod split;
