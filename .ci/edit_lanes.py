@@ -52,7 +52,7 @@ class Lanes:
         said = try_round(tries, folder, read_sources(folder))
         seconds = time.monotonic() - begin
         with self.turn:
-            print(f"== {crate}: {len(tries)} edits in {seconds:.0f} s", *(f"{it}: {of}" for it, of in said.items()), sep="\n", flush=True)
+            print(f"== {crate}: {len(tries)} edits in {seconds:.0f} s", *(f"{edit}: {answer}" for edit, answer in said.items()), sep="\n", flush=True)
             self.records[crate].add(said, seconds)
             self.left[crate] -= 1
             if not self.left[crate]:

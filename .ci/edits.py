@@ -118,8 +118,8 @@ def block_name(head):
             if not depth:
                 head = head[at + 1 :]
                 break
-    trait, _, of = re.split(r"\swhere\s", head)[0].rpartition(" for ")
-    return camel(of) + camel(trait)
+    trait, _, implementor = re.split(r"\swhere\s", head)[0].rpartition(" for ")
+    return camel(implementor) + camel(trait)
 
 
 def bodies_of(text):

@@ -38,8 +38,8 @@ class Record:
     def __init__(self, crate, over, anew=False):
         self.path = f"{EDITS}/{over}"
         self.edits = {it.name: hashlib.sha256(repr(it).encode()).hexdigest() for it in read_edits(f"crates/{crate}")}
-        # the checksum of the crate's line
-        self.of = hashlib.sha256(repr((over, self.edits)).encode()).hexdigest()
+        # of the crate's line
+        self.checksum = hashlib.sha256(repr((over, self.edits)).encode()).hexdigest()
         if anew:
             with contextlib.suppress(FileNotFoundError):
                 os.remove(self.path)
@@ -51,7 +51,7 @@ class Record:
             return {}, 0
         with open(self.path, encoding="utf-8") as it:
             said, seconds = json.load(it)
-        return {name: of for name, (text, of) in said.items() if text == self.edits.get(name)}, seconds
+        return {name: answer for name, (text, answer) in said.items() if text == self.edits.get(name)}, seconds
 
     @property
     def missed(self):
@@ -79,9 +79,9 @@ class Record:
         """Returns the crate's line, and notes that it was written on this machine."""
         if self.said:
             os.makedirs(EDITS, exist_ok=True)
-            with open(f"{EDITS}/{self.of}", "w", encoding="utf-8") as it:
+            with open(f"{EDITS}/{self.checksum}", "w", encoding="utf-8") as it:
                 it.write(f"{self.refused} of {len(self.edits)}\n")
-        return self.of, self.refused, len(self.edits)
+        return self.checksum, self.refused, len(self.edits)
 
 
 class Lines:
@@ -90,16 +90,16 @@ class Lines:
     HEAD = "# The must-fail edits of each crate that a run of {} refused, and the checksum of what they were tried over.\n"
 
     def __init__(self):
-        self.kit, self.of = "", {}
+        self.kit, self.by_crate = "", {}
         with open(REFUSED, encoding="utf-8") as it:
             for line in map(str.split, it):
                 if line[0] == "#":
                     self.kit = next((word for word in line if word.startswith("rattle-kit")), "")
                 elif len(line) == 5:
-                    self.of[line[0]] = line[1], int(line[2]), int(line[4])
+                    self.by_crate[line[0]] = line[1], int(line[2]), int(line[4])
 
     def write(self, order):
         """Writes the lines, lowest crate first."""
         with open(REFUSED, "w", encoding="utf-8") as it:
             it.write(self.HEAD.format(kit_words()[0]))
-            it.writelines("{} {} {} of {}\n".format(crate, *self.of[crate]) for crate in order if crate in self.of)
+            it.writelines("{} {} {} of {}\n".format(crate, *self.by_crate[crate]) for crate in order if crate in self.by_crate)

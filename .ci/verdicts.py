@@ -29,9 +29,9 @@ def failures(lines):
     """Returns the paths of what is not proved by itself, and not only for what it calls, passes or waits for."""
     refused, failed = refused_in_proofs(lines), set()
     for line in lines:
-        of = re.match(r"(?:fn|impl) \w+::(\S+): ((?:not|no|could) .*)", line)
-        if of and (is_own(of[2]) or of[1] in refused):
-            failed.add(of[1])
+        verdict = re.match(r"(?:fn|impl) \w+::(\S+): ((?:not|no|could) .*)", line)
+        if verdict and (is_own(verdict[2]) or verdict[1] in refused):
+            failed.add(verdict[1])
     return failed
 
 

@@ -113,7 +113,7 @@ def cells_of(numbers):
     return [*(shown(it, 1) for it in numbers), f"{ours / min(others):.2f}"]
 
 
-def told(name, ratios):
+def summary(name, ratios):
     """The ratios in a sentence."""
     below, low = sum(it < 1 for it in ratios), sum(it <= LOW for it in ratios)
     return f"{name}: of {len(ratios)} cases {below} below 1, {low} at most {LOW}, median {median(ratios):.2f}"
@@ -135,8 +135,8 @@ def show_table(programs, cases, folder, passes):
     for name, kind in (("time", 0), ("instructions", 1)):
         of_kind = [it[kind] for it in found if it[kind]]
         if of_kind:
-            print(told(f"{name}, by the crate's one program", [ours / one for ours, one, _ in of_kind]))
-            print(told(f"{name}, by the better of its two", [ours / min(others) for ours, *others in of_kind]))
+            print(summary(f"{name}, by the crate's one program", [ours / one for ours, one, _ in of_kind]))
+            print(summary(f"{name}, by the better of its two", [ours / min(others) for ours, *others in of_kind]))
 
 
 def smoke(programs, cases):

@@ -55,8 +55,8 @@ class Program:
     def instructions(self, work):
         """Returns how many instructions valgrind counts in the work."""
         cachegrind = ["--tool=cachegrind", "--cache-sim=no", "--cachegrind-out-file=/dev/null"]
-        told = said_of(["valgrind", *cachegrind, *self.command(work)], source=work.source)
-        return number(r"I\s+refs:\s+([\d,]+)", told)
+        report = said_of(["valgrind", *cachegrind, *self.command(work)], source=work.source)
+        return number(r"I\s+refs:\s+([\d,]+)", report)
 
 
 def timed(command):
@@ -66,9 +66,9 @@ def timed(command):
     return ["/usr/bin/time", "-f", "%U %S %M", *command]
 
 
-def used(told):
-    """Returns the processor seconds and the most resident bytes that `time` told at the end."""
-    user, system, kilobytes = told.split()[-3:]
+def used(report):
+    """Returns the processor seconds and the most resident bytes that `time` reports at the end."""
+    user, system, kilobytes = report.split()[-3:]
     return float(user) + float(system), int(kilobytes) * 1024
 
 

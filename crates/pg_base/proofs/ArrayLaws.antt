@@ -23,7 +23,7 @@ after_dimensions (suc d) s = record { left = count_or_zero (number_in s); bytes 
 abbrev after_head : List ℕ → ToRead
 after_head b = after_dimensions (count_or_zero (number_in b)) (drop pair_width (after_number b))
 
-drop_part : (k : ℕ) (x s : List ℕ) → length x ≡ k → drop k (x ++ s) ≡ s
+pub drop_part : (k : ℕ) (x s : List ℕ) → length x ≡ k → drop k (x ++ s) ≡ s
 drop_part k x s e = ap (λ n. drop n (x ++ s)) (sym e) ∙ drop-append_seam x s
 
 long_whole : (s l x rest : List ℕ) (n : ℕ) → s ≡ l ++ (x ++ rest) → IsCount l n → length x ≡ number_width

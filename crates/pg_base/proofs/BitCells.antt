@@ -31,7 +31,7 @@ spells_first_bits b head rest n e is whole =
 
 -- ---- writing
 -- the bytes of a cell
-cell_within : (n : ℕ) (p : List ℕ) → n ≤ max_length → bits_cell (first_bits n p)
+pub cell_within : (n : ℕ) (p : List ℕ) → n ≤ max_length → bits_cell (first_bits n p)
     ≡ Some (be w32 (pos n) ++ packed (first_bits n p))
 cell_within n p h =
     let within : fits_prefix n ≡ true = grind (arith, nat_tests) in

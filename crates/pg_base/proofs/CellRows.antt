@@ -2,26 +2,24 @@
 use Rattle.std.proofs.Common.{◌≡◌, ℕ, zero, suc, ◌<◌, ◌≤◌, ℤ, pos, negsuc, List, [], ◌++◌, ◌∷◌, length, take, drop}
 use Rattle.std.proofs.Common.{get_or, Some, None, refl, sym, ◌∙◌, ap, arith, subst, inl, inr, take-append-drop}
 use Rattle.std.proofs.Common.{to_z, length-take, Fits, get_or-take}
-use Rattle.std.specs.Prelude.{◌⊎◌, ◌+◌, false, nat_le}
+use Rattle.std.specs.Prelude.{◌⊎◌, ◌+◌, false, nat_le, ◌||◌, is_none}
 use Rattle.std.specs.Int.{w32, from_be_bytes, to_be_bytes}
 use Rattle.std.proofs.lemmas.Bool.Decides.{nat_tests}
 use Rattle.std.proofs.lemmas.List.{get_or-append-add, get_or_past}
 use Rattle.std.proofs.lemmas.Nat.{be_bytes_4}
 use Rattle.std.proofs.Math.Facts.{of_z-to_z, sfits_to_z}
-use Rattle.pg_base.specs.Arrays.{SpellsDimensions, SpellsHead}
+use Rattle.pg_base.specs.Arrays.{SpellsDimensions, SpellsHead, has_null}
 use Rattle.pg_base.proofs.CellLaws.{no_cell}
 use Rattle.pg_base.specs.Cells.{AreBytes, Cell, IsBe, SpellsNone, SpellsAll, CellsInRow}
 use Rattle.pg_base.proofs.CountLaws.{number_then}
 use Rattle.pg_base.specs.Counts.{ToRead, after_number, has_number, number_width}
 use Rattle.pg_types.specs.Faults.{size}
 use Rattle.pg_base.proofs.FrameLaws.{cell_after_length}
+use Rattle.std.proofs.lemmas.Bool.{cases_lt}
 
 -- the first cell is whole, or it is truncated
 abbrev Next : List ℕ → Type 0
 Next s = ((c : Cell) × (rest : List ℕ) × SpellsAll s (c ∷ []) rest) ⊎ SpellsNone s
-
-less_or_not : (a b : ℕ) → (a < b) ⊎ (b ≤ a)
-less_or_not a b = grind arith
 
 -- any four bytes are those of a number
 pub four_bytes : (h : List ℕ) → AreBytes h → length h ≡ number_width → (z : ℤ) × IsBe w32 h z
@@ -51,7 +49,7 @@ truncated_cell s h m n e p l =
 next_at : (s h m : List ℕ) (z : ℤ) → s ≡ h ++ m → IsBe w32 h z → Next s
 next_at s h m (negsuc k) e p =
     inl (None, m, record { front = h; rest = m; is = e; spells = (k, p); rest_spells = refl })
-next_at s h m (pos n) e p = elim (less_or_not (length m) n) [
+next_at s h m (pos n) e p = elim (cases_lt (length m) n) [
   | inl q ↦ inr (truncated_cell s h m n e p q)
   | inr q ↦
       let l : length (take n m) ≡ n = simp length-take (omega arith) in
@@ -66,13 +64,13 @@ trailing_bytes s h m e b i = subst (λ x. x < 256) (ap (λ x. get_or x (length h
     (b (length h + i))
 
 pub bytes_before : (s : List ℕ) (n : ℕ) → AreBytes s → AreBytes (take n s)
-bytes_before s n b i = elim (less_or_not i n) [
+bytes_before s n b i = elim (cases_lt i n) [
   | inl q ↦ subst (λ x. x < 256) (sym (get_or-take n s i 0 q)) (b i)
   | inr q ↦ subst (λ x. x < 256) (sym (get_or_past (take n s) i 0 (omega (arith, length-take n s)))) (omega arith)
 ]
 
 next : (s : List ℕ) → AreBytes s → Next s
-next s b = elim (less_or_not (length s) number_width) [
+next s b = elim (cases_lt (length s) number_width) [
   | inl q ↦ inr (truncated_length s q)
   | inr q ↦
       let f = four_bytes (take number_width s) (bytes_before s number_width b) (simp length-take (omega arith)) in
@@ -117,3 +115,22 @@ pub row_bytes : (s u : List ℕ) (cs : List Cell) → SpellsAll s cs u → AreBy
 row_bytes s u [] e b = subst AreBytes e b
 row_bytes s u (c ∷ cs) p b =
     row_bytes p.rest u cs p.rest_spells (trailing_bytes s p.front p.rest p.is b)
+
+-- cells after cells
+pub spelled_more : (s u rest : List ℕ) (cs ds : List Cell) → SpellsAll s cs u → SpellsAll u ds rest
+    → SpellsAll s (cs ++ ds) rest
+spelled_more s u rest [] ds e r = subst (λ x. SpellsAll x ds rest) (sym e) r
+spelled_more s u rest (c ∷ cs) ds p r = record {
+  front = p.front;
+  rest = p.rest;
+  is = p.is;
+  spells = p.spells;
+  rest_spells = spelled_more p.rest u rest cs ds p.rest_spells r;
+}
+
+-- whether a cell is NULL, of one cell more
+pub null_append : (cs : List Cell) (c : Cell) → has_null (cs ++ c ∷ []) ≡ (has_null cs || is_none c)
+null_append [] None = refl
+null_append [] (Some b) = refl
+null_append (None ∷ cs) c = refl
+null_append (Some b ∷ cs) c = null_append cs c

@@ -15,6 +15,7 @@ use Rattle.pg_base.specs.Cells.{be, concat, fits_prefix, frame, frames, max_leng
 use Rattle.pg_base.specs.Counts.{count_bytes, number_width}
 use Rattle.pg_base.proofs.Concat.{Bytes, concat-assoc, cond_passes, extends_both, room_for_first}
 use Rattle.pg_base.proofs.Concat.{room_for_second, short_frame}
+use Rattle.std.proofs.lemmas.Bool.{or_parts}
 
 pub null_by_length : (bytes : List ℕ) (lens : List (Option ℕ)) → has_null (cells_of bytes lens) ≡ has_none lens
 null_by_length bytes [] = refl
@@ -42,10 +43,6 @@ none_long (Some n ∷ lens) h =
     let fits : fits_prefix n ≡ true = grind (arith, nat_tests) in
     rw (fits, none_long lens (omega (arith, h))) refl
 
-neither : (a b : Bool) → (a || b) ≡ false → (a ≡ false) × (b ≡ false)
-neither true b e = let no : ⊥ = cc in absurd no
-neither false b e = (refl, e)
-
 not_not : (a : Bool) → not a ≡ false → a ≡ true
 not_not true e = refl
 not_not false e = let no : ⊥ = cc in absurd no
@@ -67,7 +64,7 @@ framed_by_length bytes (None ∷ lens) e h =
     let p = framed_by_length bytes lens e h in
     (be w32 (negsuc 0) ++ p.0, rw p.1 refl, omega (arith, p.2, length-append (be w32 (negsuc 0)) p.0))
 framed_by_length bytes (Some n ∷ lens) e h =
-    let short = neither (not (fits_prefix n)) (has_long lens) h in
+    let short = or_parts (not (fits_prefix n)) (has_long lens) h in
     let le = fits_le n (not_not (fits_prefix n) short.0) in
     let len = length-take-le n bytes (omega (arith, e)) in
     let f = short_frame (take n bytes) (omega (arith, len, le)) in

@@ -68,7 +68,7 @@ bits_complete b h e =
     )
 
 -- ---- documents
-no_from_not : (t : Bool) → not t ≡ true → t ≡ false
+pub no_from_not : (t : Bool) → not t ≡ true → t ≡ false
 no_from_not true e = let no : ⊥ = cc in absurd no
 no_from_not false e = refl
 

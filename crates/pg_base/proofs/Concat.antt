@@ -11,6 +11,7 @@ use Rattle.pg_types.specs.declared.fault.Fault.{Fault}
 use Rattle.pg_base.specs.Appending.{Appends, Extends, HasRoomFor}
 use Rattle.pg_base.specs.Cells.{Cell, be, frame, frames, concat, fits_prefix, max_length}
 use Rattle.pg_base.specs.Counts.{count_bytes, number_width}
+use Rattle.std.specs.Prelude.{◌<◌}
 
 abbrev pub Bytes : Type 0
 Bytes = Option (List ℕ)
@@ -105,3 +106,15 @@ pub appends_reserved : {u : ⊤} (w : Bytes) (old mid new : Filled) → mid.item
     → Extends w mid new → Appends w old new (Ok u)
 appends_reserved None old mid new is more h = absurd h
 appends_reserved (Some b) old mid new is more h = (h.0 ∙ ap (λ s. s ++ b) is, omega (arith, more, h.1))
+
+-- the frames of cells, and of one more
+pub next_frames : (cells : List Cell) (cell : Cell) (bytes more : List ℕ) → frames cells ≡ Some bytes
+    → frame cell ≡ Some more → frames (cells ++ cell ∷ []) ≡ Some (bytes ++ more)
+next_frames cells cell bytes more so_far next =
+    frames-append cells (cell ∷ []) ∙ ap (concat (frames cells)) (concat-nil (frame cell)) ∙ rw (so_far, next) refl
+
+-- bytes that are too many have no frame
+pub long_frame : (b : List ℕ) → max_length < length b → frame (Some b) ≡ None
+long_frame b h =
+    let t : fits_prefix (length b) ≡ false = grind (arith, nat_tests) in
+    ap (λ t. cond t (Some (be w32 (pos (length b)) ++ b)) None) t

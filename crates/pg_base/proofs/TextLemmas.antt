@@ -7,7 +7,7 @@ use Rattle.pg_types.specs.Faults.{utf8, transmit}
 use Rattle.pg_base.specs.Cells.{versioned_cell}
 use Rattle.pg_base.specs.Texts.{first_fault_text, wire_text}
 
-not_utf8 : (b : List ℕ) (t : Bool) → is_utf8 b ≡ t → (IsUtf8 b → ⊥) → is_utf8 b ≡ false
+pub not_utf8 : (b : List ℕ) (t : Bool) → is_utf8 b ≡ t → (IsUtf8 b → ⊥) → is_utf8 b ≡ false
 not_utf8 b true e h = absurd (h (IsUtf8-from_is_utf8 b e))
 not_utf8 b false e h = e
 

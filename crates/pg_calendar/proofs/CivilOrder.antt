@@ -1,5 +1,6 @@
 -- Each day has one number, and is the day that is found for it.
-use Rattle.std.proofs.Common.{◌≡◌, ℕ, zero, suc, ◌+◌, ◌-◌, ◌<◌, ◌≤◌, Bool, true, false, true≢false, arith, refl, sym, ap, ap₂}
+use Rattle.std.proofs.Common.{◌≡◌, ℕ, zero, suc, ◌+◌, ◌-◌, ◌<◌, ◌≤◌, Bool, true, false, true≢false}
+use Rattle.std.proofs.Common.{arith, refl, sym, ap, ap₂}
 use Rattle.std.proofs.Common.{◌∙◌, eq-zero-or-pos, inl, inr, ℤ, pos, negsuc, ◌+ℤ◌, ◌-ℤ◌, ◌*ℤ◌, if◌then◌else◌}
 use Rattle.std.proofs.lemmas.Int.{ints}
 use Rattle.std.specs.Prelude.{◌≤ℤ◌, ◌<ℤ◌, int_lt, unsigned_abs}
@@ -141,7 +142,8 @@ module _ (c : ℤ) (n m d : ℕ) (small : n < 400) (day : IsDay (pos n) m d) (nu
 
   year_in_cycle : last_begun (λ year. day_number (c *ℤ pos 400 +ℤ pos year) 1 1) number 399 ≡ n
   year_in_cycle = last_begun-is (λ year. day_number (c *ℤ pos 400 +ℤ pos year) 1 1) number n
-      (λ some. not_before _ _ _ refl year_begun) 399 (omega arith) (λ j more within. before _ _ _ refl (year_later j more within))
+      (λ some. not_before _ _ _ refl year_begun) 399 (omega arith)
+      (λ j more within. before _ _ _ refl (year_later j more within))
 
   month_in_year : last_begun (λ month. day_number (c *ℤ pos 400 +ℤ pos n) month 1) number 12 ≡ m
   month_in_year = last_begun-is (λ month. day_number (c *ℤ pos 400 +ℤ pos n) month 1) number m

@@ -5,7 +5,7 @@ use Rattle.std.proofs.Common.{arith, ap, sym, refl, subst, ◌∙◌, append_ass
 use Rattle.std.proofs.lemmas.Bool.Decides.{nat_tests}
 use Rattle.pg_base.specs.Bits.{bits_cell, bytes_for, first_bits, packed, pad_of, without_low}
 use Rattle.pg_base.specs.Cells.{be, fits_prefix, max_length}
-use Rattle.pg_base.proofs.BitCells.{cell_past}
+use Rattle.pg_base.proofs.BitCells.{cell_past, cell_within}
 use Rattle.pg_base.proofs.BitLemmas.{first_bits_len}
 use Rattle.pg_base.proofs.PadLemmas.{packed_none, packed_parts}
 use Rattle.pg_cells_c.specs.Writings.{WritesCell, WritesInto, no_cell, wire_first_bits}
@@ -23,13 +23,6 @@ pub many_bits : (n : ℕ) (p old new : List ℕ) (len : ℕ) → length p ≡ by
 unfolding WritesCell
 many_bits n p old new len whole past is count =
     let same : (length p == bytes_for n) ≡ true = grind (arith, nat_tests) in rw (same, cell_past n p past) (is, count)
-
--- the cell of bits
-pub cell_within : (n : ℕ) (p : List ℕ) → n ≤ max_length → bits_cell (first_bits n p)
-    ≡ Some (be w32 (pos n) ++ packed (first_bits n p))
-cell_within n p h =
-    let within : fits_prefix n ≡ true = grind (arith, nat_tests) in
-    rw (first_bits_len n p, within) refl
 
 bits_written : (n : ℕ) (p old new : List ℕ) (len : ℕ) → length p ≡ bytes_for n → n ≤ max_length
     → WritesInto (be w32 (pos n) ++ packed (first_bits n p)) old new len

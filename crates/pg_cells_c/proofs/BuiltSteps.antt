@@ -13,6 +13,7 @@ use Rattle.pg_cells_c.specs.Builders.{Pushes, PutsItem, has_room, with_item}
 use Rattle.pg_cells_c.specs.Built.{Builds, OpensEmpty, PushesLast, PushesWrittenLast, and_item, items_bytes, was_pushed}
 use Rattle.pg_cells_c.specs.Writings.{no_cell}
 use Rattle.pg_cells_c.specs.declared.builders.Builder.{Builder}
+use Rattle.std.proofs.lemmas.Bool.{and_right}
 
 -- no items, in a buffer that has room for the head
 pub opened_builds : {A : Type 0} (spell : A → Option (List ℕ)) (null : A → Bool) (width : ℕ)
@@ -98,12 +99,8 @@ pushed_true : (n : ℕ) (b : Builder) (old : List ℕ) → n < no_cell → has_r
     → was_pushed n b old ≡ true
 pushed_true n b old few room = let other : (n == no_cell) ≡ false = grind (arith, nat_tests) in rw (other, room) refl
 
-and_false : (t : Bool) → (t && false) ≡ false
-and_false true = refl
-and_false false = refl
-
 pushed_false : (n : ℕ) (b : Builder) (old : List ℕ) → has_room b.len n (length old) ≡ false → was_pushed n b old ≡ false
-pushed_false n b old room = rw room (and_false (not (n == no_cell)))
+pushed_false n b old room = rw room (and_right (not (n == no_cell)) false refl)
 
 some_by : {A : Type 0} (spell : A → Option (List ℕ)) (null : A → Bool) (width : ℕ) (b c : Builder) (old new : List ℕ)
     (items : List A) (x : A) (s : List ℕ) (n : ℕ) (room : Bool) → has_room b.len (length s) (length old) ≡ room

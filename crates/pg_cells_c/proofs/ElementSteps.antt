@@ -31,6 +31,8 @@ use Rattle.pg_cells_c.specs.declared.rewrite.kinds.Kind.{Kind}
 use Rattle.pg_cells_c.specs.declared.rewrite.kinds.Kind.TheVariants as kind
 use Rattle.pg_types.specs.Faults.{Outcome, Refusal, code_of, number_of, refusal_of, size, was_null}
 use Rattle.pg_types.specs.declared.fault.Fault.{Fault}
+use Rattle.pg_base.proofs.Concat.{next_frames}
+use Rattle.pg_base.proofs.CellRows.{null_append}
 
 -- ---- a new cell is as long as the old one
 or_ok : (fault : Option Refusal) (x c : List ℕ) → or_fault fault x ≡ Ok c → (fault ≡ None) × (c ≡ x)
@@ -197,27 +199,6 @@ prepend_more : (ds : List Cell) (d : Cell) (o : Outcome (List Cell))
 prepend_more ds d (Ok es) = ap Ok (sym (append_assoc ds (d ∷ []) es))
 prepend_more ds d (Err r) = refl
 
--- the frame of one more cell comes after the others
-frames_more : (ds : List Cell) (d : Cell) (s f : List ℕ) → frames ds ≡ Some s → frame d ≡ Some f
-    → frames (ds ++ d ∷ []) ≡ Some (s ++ f)
-frames_more [] d s f e g = let none : s ≡ [] = cc in rw (g, none) (ap Some (append-nil f))
-frames_more (c ∷ ds) d s f e g =
-    let p = parts_of (frame c) (frames ds) s e in
-    rw (p.first_is, frames_more ds d p.second f p.second_is g)
-    (ap Some (sym (append_assoc p.first p.second f) ∙ ap (λ x. x ++ f) (sym p.whole)))
-
-or_or : (p q r : Bool) → (p || (q || r)) ≡ ((p || q) || r)
-or_or true q r = refl
-or_or false q r = refl
-
-or_false : (p : Bool) → (p || false) ≡ p
-or_false true = refl
-or_false false = refl
-
-null_more : (ds : List Cell) (d : Cell) → has_null (ds ++ d ∷ []) ≡ (has_null ds || is_none d)
-null_more [] d = or_false (is_none d)
-null_more (c ∷ ds) d = ap (λ t. is_none c || t) (null_more ds d) ∙ or_or (is_none c) (has_null ds) (is_none d)
-
 -- NULL stays NULL, and no other cell becomes it
 some_kept : (o : Outcome (List ℕ)) (d : Cell) → some_cell o ≡ Ok d → (c : List ℕ) × (o ≡ Ok c) × (d ≡ Some c)
 some_kept (Ok c) d e = (c, refl, cc)
@@ -358,10 +339,10 @@ module _ (k : Kind) (nullable : Bool) (start : ToRead) (old : List ℕ) (now : T
         record {
           cells = h.cells ++ d ∷ [];
           bytes = h.bytes ++ w.0;
-          are = frames_more h.cells d h.bytes w.0 h.are w.1;
+          are = next_frames h.cells d h.bytes w.0 h.are w.1;
           is_len = sum ∙ (let both = length-append h.bytes w.0 in omega (arith, both, h.is_len, w.2));
           is_null = null_is ∙ ap (λ p. p || is_none c) h.is_null
-              ∙ ap (λ p. has_null h.cells || p) (sym (none_kept k nullable c d e)) ∙ sym (null_more h.cells d);
+              ∙ ap (λ p. has_null h.cells || p) (sym (none_kept k nullable c d e)) ∙ sym (null_append h.cells d);
           many = let both = length-append h.cells (d ∷ []) in omega (arith, both, h.many, fewer);
           rest = after ∙ ap (λ o. prepend h.cells (cons_cell o (rewritten_cells k nullable next.left next.bytes))) e
               ∙ prepend_more h.cells d (rewritten_cells k nullable next.left next.bytes);

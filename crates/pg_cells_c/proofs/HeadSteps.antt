@@ -10,31 +10,28 @@ use Rattle.pg_base.specs.Arrays.{SpellsDimension, SpellsDimensions, SpellsHead}
 use Rattle.pg_base.specs.Cells.{IsBeUnsigned}
 use Rattle.pg_base.specs.Counts.{IsCount, ToRead}
 use Rattle.pg_cells_c.specs.Arrays.{SpellsArray}
+use Rattle.pg_base.proofs.ArrayLaws.{drop_part}
 
 -- the bytes of no dimensions
 abbrev pub zeros : List ℕ
 zeros = 0 ∷ 0 ∷ 0 ∷ 0 ∷ []
 
--- what comes after so many bytes
-skip : (n : ℕ) (x m : List ℕ) → length x ≡ n → drop n (x ++ m) ≡ m
-skip n x m w = ap (λ k. drop k (x ++ m)) (sym w) ∙ drop-append_seam x m
-
 -- the elements come after a dimension
 after_dimension : (m : List ℕ) (r : ToRead) → SpellsDimension m r → drop 8 m ≡ r.bytes
 after_dimension m r d =
     ap (drop 8) d.is ∙ sym (drop-drop 4 4 (d.length_bytes ++ (d.lower_bound_bytes ++ r.bytes)))
-    ∙ ap (drop 4) (skip 4 d.length_bytes (d.lower_bound_bytes ++ r.bytes) (ap length d.counts.1))
-    ∙ skip 4 d.lower_bound_bytes r.bytes d.width
+    ∙ ap (drop 4) (drop_part 4 d.length_bytes (d.lower_bound_bytes ++ r.bytes) (ap length d.counts.1))
+    ∙ drop_part 4 d.lower_bound_bytes r.bytes d.width
 
 by_count : (b : List ℕ) (r : ToRead) (d : ℕ) (p x m : List ℕ) → b ≡ p ++ (x ++ m) → IsCount p d → length x ≡ 8
     → SpellsDimensions d m r → (test : Bool) → starts_with ◌==◌ b zeros ≡ test
     → drop (if test then 12 else 20) b ≡ r.bytes
 by_count b r zero p x m e is w spells true h =
-    ap (drop 12) (e ∙ ap (λ q. q ++ (x ++ m)) is.1) ∙ skip 8 x m w ∙ spells.1
+    ap (drop 12) (e ∙ ap (λ q. q ++ (x ++ m)) is.1) ∙ drop_part 8 x m w ∙ spells.1
 by_count b r zero p x m e is w spells false h =
     let other = ap (λ q. starts_with ◌==◌ q zeros) (e ∙ ap (λ q. q ++ (x ++ m)) is.1) in absurd (cc)
 by_count b r (suc zero) p x m e is w spells false h =
-    ap (drop 20) (e ∙ ap (λ q. q ++ (x ++ m)) is.1) ∙ sym (drop-drop 8 8 (x ++ m)) ∙ ap (drop 8) (skip 8 x m w)
+    ap (drop 20) (e ∙ ap (λ q. q ++ (x ++ m)) is.1) ∙ sym (drop-drop 8 8 (x ++ m)) ∙ ap (drop 8) (drop_part 8 x m w)
     ∙ after_dimension m r spells
 by_count b r (suc zero) p x m e is w spells true h =
     let other = ap (λ q. starts_with ◌==◌ q zeros) (e ∙ ap (λ q. q ++ (x ++ m)) is.1) in absurd (cc)

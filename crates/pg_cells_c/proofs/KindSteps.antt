@@ -16,7 +16,7 @@ use Rattle.pg_base.specs.Counts.{after_number}
 use Rattle.pg_base.specs.Formats.{Decodes}
 use Rattle.pg_base.specs.Network.{FormInet, Network}
 use Rattle.pg_base.specs.Numbers.{FormBool}
-use Rattle.pg_cells_c.proofs.BitWriting.{cell_within}
+use Rattle.pg_base.proofs.BitCells.{cell_within}
 use Rattle.pg_cells_c.specs.Kinds.{WritesOutcome, bit_count, bytes_of_kind, fault_of_kind, rewritten}
 use Rattle.pg_cells_c.specs.Readings.{ReadsInto}
 use Rattle.pg_cells_c.specs.Writings.{WritesCell, WritesInto, wire_first_bits}

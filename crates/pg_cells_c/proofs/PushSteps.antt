@@ -20,6 +20,7 @@ use Rattle.pg_cells_c.specs.Builders.{array_head_in, array_width, count_width, e
 use Rattle.pg_cells_c.specs.Builders.{has_room, params_head, params_width, text_frame, with_bytes_at}
 use Rattle.pg_cells_c.specs.Writings.{WritesInto, no_cell}
 use Rattle.pg_cells_c.specs.declared.builders.Builder.{Builder}
+use Rattle.pg_base.proofs.Concat.{long_frame}
 
 counts : (b : Builder) → b.count < max_length → nat_lt b.count max_length ≡ true
 counts b few = grind (arith, nat_tests)
@@ -200,9 +201,6 @@ no_written spelled prefix n b old long none =
     let cell = cell_at (b.len + prefix) n old in
     let is : max_length < length cell.0 = omega (arith, cell.1.0) in
     (cell.0, cell.1, not_pushed (spelled cell.0) false b old (none cell.0 is))
-
-pub long_frame : (cell : List ℕ) → max_length < length cell → frame (Some cell) ≡ None
-long_frame cell long = rw (too_long (length cell) long) refl
 
 pub long_field : (oid : ℕ) (cell : List ℕ) → max_length < length cell → field_bytes (oid, Some cell) ≡ None
 long_field oid cell long = rw (too_long (length cell) long) refl

@@ -9,7 +9,7 @@ use Rattle.pg_base.specs.Appending.{wire_of}
 use Rattle.pg_base.specs.Interval.{interval_bytes}
 use Rattle.pg_base.specs.Network.{family_len}
 use Rattle.pg_base.specs.Texts.{wire_text}
-use Rattle.pg_base.proofs.TextLemmas.{wire_utf8}
+use Rattle.pg_base.proofs.TextLemmas.{wire_utf8, not_utf8}
 use Rattle.std.proofs.Common.{arith, ap, sym, subst, ◌∙◌, append_assoc}
 use Rattle.std.proofs.lemmas.List.{append-nil, drop-drop, length-append}
 use Rattle.std.proofs.lemmas.Bool.Decides.{nat_tests}
@@ -31,14 +31,9 @@ unfolding WritesInto
 not_written b old new len is no_room count =
     let long : nat_le (length b) (length old) ≡ false = grind (arith, nat_tests) in (rw long is, count)
 
--- what is no UTF-8 is not taken for it
-no_utf8_by : (text : List ℕ) (is : Bool) → is_utf8 text ≡ is → (IsUtf8 text → ⊥) → is_utf8 text ≡ false
-no_utf8_by text true e not_text = absurd (not_text (IsUtf8-from_is_utf8 text e))
-no_utf8_by text false e not_text = e
-
 -- bytes that are no text are not UTF-8
 pub no_utf8 : (text : List ℕ) → (IsUtf8 text → ⊥) → is_utf8 text ≡ false
-no_utf8 text = no_utf8_by text (is_utf8 text) refl
+no_utf8 text = not_utf8 text (is_utf8 text) refl
 
 -- how many bytes three parts have
 parts_len : (a b c : List ℕ) → length (a ++ b ++ c) ≡ length a + length b + length c

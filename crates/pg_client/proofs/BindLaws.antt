@@ -1,25 +1,19 @@
 -- Laws of a Bind message: one more parameter, and its end.
-use Rattle.std.proofs.Common.{◌≡◌, ◌+◌, ◌++◌, ◌∷◌, [], ℕ, List, Some, Ok, Err, Result, length, take, drop, ap, sym, ◌∙◌}
-use Rattle.std.proofs.Common.{arith, refl}
+use Rattle.std.proofs.Common.{◌≡◌, ◌+◌, ◌++◌, ◌∷◌, [], ℕ, List, Ok, Err, Result, length, take, drop, ap, sym, ◌∙◌}
+use Rattle.std.proofs.Common.{arith}
 use Rattle.std.proofs.Common.{append_assoc, length-append}
 use Rattle.std.proofs.Math.Seq.{take-append_seam}
 use Rattle.std.proofs.lemmas.List.{drop_at}
 use Rattle.std.specs.Int.{to_be_bytes, w16}
 use Rattle.std.specs.Prelude.{OnOk, option_map, ⊤}
-use Rattle.pg_base.proofs.Concat.{concat-nil, frames-append}
+use Rattle.pg_base.proofs.Concat.{next_frames}
 use Rattle.pg_base.specs.Appending.{Wire}
-use Rattle.pg_base.specs.Cells.{Cell, concat, frame, frames}
+use Rattle.pg_base.specs.Cells.{Cell}
 use Rattle.postgres_types.specs.ParamWriting.{FrameFollows}
 use Rattle.pg_client.specs.BindBytes.{all_binary, with_count}
 use Rattle.pg_client.specs.Binding.{Binds, HoldsBind}
 use Rattle.pg_client.specs.declared.bind.Bind.{Bind}
 use Rattle.pg_client.specs.declared.placed_fault.PlacedFault.{PlacedFault}
-
--- the frames of cells, and of one more
-next_frames : (cells : List Cell) (cell : Cell) (bytes more : List ℕ) → frames cells ≡ Some bytes
-    → frame cell ≡ Some more → frames (cells ++ cell ∷ []) ≡ Some (bytes ++ more)
-next_frames cells cell bytes more so_far next =
-    frames-append cells (cell ∷ []) ∙ ap (concat (frames cells)) (concat-nil (frame cell)) ∙ rw (so_far, next) refl
 
 -- one more parameter is bound
 pub binds_more : (w : Wire) (before : List ℕ) (cells : List Cell) (old new : Bind) → Binds before cells old

@@ -10,6 +10,7 @@ use Rattle.pg_client.specs.Rows.{ReadsCell, ReadsColumn}
 use Rattle.pg_client.specs.declared.column.Column.{Column}
 use Rattle.pg_client.specs.declared.placed_fault.Place.TheVariants as place
 use Rattle.pg_client.specs.declared.placed_fault.PlacedFault.{PlacedFault}
+use Rattle.pg_base.proofs.CellRows.{spelled_more}
 
 -- what holds of the value that is there
 pub if_some : {A : Type 0} (o : Option A) (x : A) (P : A → Type 0) → o ≡ Some x → P x → IfSome o P
@@ -23,18 +24,6 @@ if_none o x P e = subst (λ o. IfNone o P) (sym e) tt
 pub place_at : (columns : List Column) (n : ℕ) (column : Column) → slice_get columns n ≡ Some column
     → column_place columns n ≡ place.Column n column.name
 place_at columns n column e = ap (λ o. place.Column n (name_of_column o)) e
-
--- cells after cells
-pub spelled_more : (s u rest : List ℕ) (cs ds : List Cell) → SpellsAll s cs u → SpellsAll u ds rest
-    → SpellsAll s (cs ++ ds) rest
-spelled_more s u rest [] ds e r = subst (λ x. SpellsAll x ds rest) (sym e) r
-spelled_more s u rest (c ∷ cs) ds p r = record {
-  front = p.front;
-  rest = p.rest;
-  is = p.is;
-  spells = p.spells;
-  rest_spells = spelled_more p.rest u rest cs ds p.rest_spells r;
-}
 
 -- one cell after so many
 pub one_more : (s u t rest : List ℕ) (cs : List Cell) (c : Cell) → SpellsAll s cs u → u ≡ t ++ rest → Spells t c

@@ -2,7 +2,7 @@
 use Rattle.std.proofs.Common.{◌≡◌, ℕ, zero, suc, ◌<◌, Bool, true, false, ◌&&◌, get_or, List, Option, Some, None}
 use Rattle.std.proofs.Common.{refl, ap, arith, inl, inr, sym, ◌∙◌, bit_or, ◌+◌, length, take}
 use Rattle.std.specs.Prelude.{◌==◌, if◌then◌else◌, is_none}
-use Rattle.std.proofs.lemmas.Bool.{cases_eq, eqb-true, ne_eqb}
+use Rattle.std.proofs.lemmas.Bool.{cases_eq, eqb-true, ne_eqb, and_parts}
 use Rattle.std.specs.List.{list_all}
 use Rattle.std.proofs.lemmas.List.Folds.{list_all_more}
 use Rattle.std.proofs.lemmas.Nat.{le_or_l, le_or_r}
@@ -27,16 +27,11 @@ agree_below : (ℕ → Option ℕ) → (ℕ → Option ℕ) → ℕ → Bool
 agree_below f g zero = true
 agree_below f g (suc n) = same (f n) (g n) && agree_below f g n
 
-both_of : (x y : Bool) → (x && y) ≡ true → (x ≡ true) × (y ≡ true)
-both_of true true h = (refl, refl)
-both_of true false h = cc
-both_of false y h = cc
-
 agree_at : (f g : ℕ → Option ℕ) (n : ℕ) → agree_below f g n ≡ true → (b : ℕ) → b < n → f b ≡ g b
 unfolding agree_below
 agree_at f g zero h b lt = absurd (omega arith)
 agree_at f g (suc n) h b lt =
-    let both = both_of (same (f n) (g n)) (agree_below f g n) h in
+    let both = and_parts (same (f n) (g n)) (agree_below f g n) h in
     elim (cases_eq b n) [
       | inl e ↦ rw e (same_is (f n) (g n) both.0)
       | inr other ↦ agree_at f g n both.1 b (omega arith)

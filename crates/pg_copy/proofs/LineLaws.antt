@@ -1,6 +1,6 @@
 -- Laws of lines.
 use Rattle.std.proofs.Common.{◌≡◌, ℕ, suc, List, [], ◌∷◌, ◌++◌, length, refl, ap, sym, ◌∙◌}
-use Rattle.std.proofs.Common.{append_assoc, append-nil, subst}
+use Rattle.std.proofs.Common.{append_assoc, append-nil}
 use Rattle.std.specs.List.{join_with_byte}
 use Rattle.pg_base.specs.Cells.{Cell, SpellsAll}
 use Rattle.pg_copy.specs.Lines.{AreFieldsOf, AreLinesOf, FieldOf, IsLineOf}
@@ -9,18 +9,7 @@ use Rattle.pg_copy.specs.ReadingSteps.{TakesField, TakesRow}
 use Rattle.pg_copy.specs.declared.columns.Column.{Column}
 use Rattle.pg_text.proofs.Joins.{join_push}
 use Rattle.pg_text.specs.Lists.{separator}
-
--- cells after cells are cells in a row
-spelled_more : (s u rest : List ℕ) (cs ds : List Cell) → SpellsAll s cs u → SpellsAll u ds rest
-    → SpellsAll s (cs ++ ds) rest
-spelled_more s u rest [] ds e r = subst (λ x. SpellsAll x ds rest) (sym e) r
-spelled_more s u rest (c ∷ cs) ds p r = record {
-  front = p.front;
-  rest = p.rest;
-  is = p.is;
-  spells = p.spells;
-  rest_spells = spelled_more p.rest u rest cs ds p.rest_spells r;
-}
+use Rattle.pg_base.proofs.CellRows.{spelled_more}
 
 -- fields are as many as columns, and so are cells
 pub fields_width : (columns : List Column) (cells : List Cell) (fields : List (List ℕ))

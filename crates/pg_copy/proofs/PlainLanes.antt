@@ -2,7 +2,7 @@
 use Rattle.std.proofs.Common.{◌≡◌, ℕ, zero, suc, ◌+◌, ◌-◌, ◌*◌, ◌%◌, ◌^◌, ◌<◌, ◌≤◌, Bool, true, false, cond, eqb, ltb}
 use Rattle.std.proofs.Common.{List, [], ◌∷◌, get_or, length, map, replicate, refl, ap, sym, ◌∙◌, arith, w8}
 use Rattle.std.proofs.Common.{eq-zero-or-pos, inl, inr, ◌==◌}
-use Rattle.std.proofs.lemmas.Bool.{eqb-true, ltb-false, ne_eqb}
+use Rattle.std.proofs.lemmas.Bool.{eqb-true, ltb-false, ne_eqb, OnTrue_from}
 use Rattle.std.proofs.lemmas.Simd.{bitmask_splat, get_or-chunk, length-chunk}
 use Rattle.std.specs.Bool.{OnTrue}
 use Rattle.std.specs.List.{list_all}
@@ -47,10 +47,6 @@ plain_byte byte printed other =
       other,
     ) refl
 
-on_true : (b : Bool) (P : Type 0) → (b ≡ true → P) → OnTrue b P
-on_true true P f = f refl
-on_true false P f = tt
-
 -- the two tests of the lanes, as the code makes them
 pub plain_lanes : (n : ℕ) (text : List ℕ) (at : ℕ) → n ≤ 64 → at + n ≤ length text
     → mask_l (map (top 7) (zip2 (λ a b. cond (ltb a b) 255 0) (chunk at n text) (replicate n 32))) % 2 ^ 64 ≡ 0
@@ -58,7 +54,7 @@ pub plain_lanes : (n : ℕ) (text : List ℕ) (at : ℕ) → n ≤ 64 → at + n
     (mask_l (map (top 7) (zip2 (λ a b. cond (eqb a b) 255 0) (chunk at n text) (replicate n 92))) % 2 ^ 64 == 0)
     (PlainBetween text at (at + n))
 plain_lanes n text at few room printed =
-    on_true _ (PlainBetween text at (at + n)) (λ e k from to. plain_byte (get_or text k 0)
+    OnTrue_from _ (PlainBetween text at (at + n)) (λ e k from to. plain_byte (get_or text k 0)
     (none_passes_at n ltb 32 text at few room printed k from to)
     (none_passes_at n eqb 92 text at few room (eqb-true _ 0 e) k from to))
 

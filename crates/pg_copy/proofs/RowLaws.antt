@@ -9,7 +9,8 @@ use Rattle.std.specs.Prelude.{◌==◌}
 use Rattle.std.specs.List.{AllByRecursion}
 use Rattle.pg_base.specs.Cells.{Cell, be, frames}
 use Rattle.std.specs.Int.{w16}
-use Rattle.pg_tuples.proofs.TupleLaws.{counted_below, next_frames, tuple_counted}
+use Rattle.pg_base.proofs.Concat.{next_frames}
+use Rattle.pg_tuples.proofs.TupleLaws.{counted_below, tuple_counted}
 use Rattle.pg_copy.specs.Outputs.{Extends, Gains}
 use Rattle.pg_copy.specs.TextLines.{LacksEscapes, Says, fields_left, fields_of}
 use Rattle.pg_copy.proofs.TextLaws.{plain_fields}

@@ -12,6 +12,7 @@ use Rattle.streams.specs.Lines.{Lacks}
 use Rattle.memchr.specs.Find.{IsFirstByte, is_byte2}
 use Rattle.pg_copy.specs.TextLines.{LacksEscapes, Says, fields_of}
 use Rattle.pg_copy.specs.TextLines.{Unescapes, is_refused_byte, letter_byte, prepend, unescaped, unescaped_after}
+use Rattle.std.proofs.lemmas.Bool.{or_parts, false_from_ne_true}
 
 -- these bytes and then a text, where that is one
 abbrev joined : List ℕ → Option (List ℕ) → Option (List ℕ)
@@ -113,16 +114,11 @@ last_field (x ∷ field) p =
     ap (λ (b : Bool). cond b ([] ∷ fields_of field) (onto_first x (fields_of field))) p.0
     ∙ ap (onto_first x) (last_field field p.1)
 
-both_false : (a b : Bool) → (a || b) ≡ false → (a ≡ false) × (b ≡ false)
-both_false false false e = (refl, refl)
-both_false false true e = let bad : ⊥ = cc in absurd bad
-both_false true b e = let bad : ⊥ = cc in absurd bad
-
 -- a text without a backslash and a carriage return is what it says
 plain_text : (text : List ℕ) → LacksEscapes text → unescaped text ≡ Some text
 plain_text [] h = refl
 plain_text (byte ∷ text) h =
-    let first = both_false (byte == 92) (byte == 13) h.0 in
+    let first = or_parts (byte == 92) (byte == 13) h.0 in
     let rest : unescaped text ≡ Some text = plain_text text h.1 in
     ap (λ (b : Bool). if b then unescaped_after true text
     else (if byte == 13 then None else prepend byte (unescaped text)))
@@ -132,16 +128,12 @@ plain_text (byte ∷ text) h =
 pub says_plain : (field : List ℕ) → (field ≡ 92 ∷ 78 ∷ [] → ⊥) → LacksEscapes field → Says field (Some field)
 says_plain field not_null h = (not_null, plain_text field h)
 
-not_true : (b : Bool) → (b ≡ true → ⊥) → b ≡ false
-not_true false h = refl
-not_true true h = absurd (h refl)
-
 nowhere : (text : List ℕ) → ((k : ℕ) → k < length text → is_byte2 92 13 (get_or text k 0) ≡ true → ⊥)
     → LacksEscapes text
 nowhere [] h = tt
 nowhere (byte ∷ text) h =
     let rest = nowhere text (λ k below. h (suc k) (omega (arith, below))) in
-    (not_true (byte == 92 || byte == 13) (h 0 (omega arith)), rest)
+    (false_from_ne_true (byte == 92 || byte == 13) (h 0 (omega arith)), rest)
 
 -- a text in which none of them was found
 pub none_found : (text : List ℕ) (place : Option ℕ) → IsFirstByte (is_byte2 92 13) text place → is_some place ≡ false

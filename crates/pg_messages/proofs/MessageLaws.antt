@@ -1,6 +1,6 @@
 -- The laws of messages.
 use Rattle.std.proofs.Common.{◌≡◌, ◌+◌, ◌-◌, ◌++◌, ℕ, pos, Bool, true, false, List, [], ◌∷◌, Ok, Err, length, take, drop, get_or}
-use Rattle.std.proofs.Common.{◌==◌, ◌||◌, codes, ap, refl, sym, ◌∙◌, arith, append_assoc, length-append, if◌then◌else◌}
+use Rattle.std.proofs.Common.{◌==◌, codes, ap, refl, sym, ◌∙◌, arith, append_assoc, length-append, if◌then◌else◌}
 use Rattle.std.proofs.lemmas.Bool.Decides.{nat_tests}
 use Rattle.std.proofs.lemmas.List.{drop_at}
 use Rattle.std.proofs.Math.Seq.{take-append_seam}
@@ -15,6 +15,7 @@ use Rattle.pg_messages.specs.Laws.{EndedIsMessage, OneMessage, SentIsTaken, Stri
 use Rattle.pg_messages.specs.Reading.{text_of}
 use Rattle.pg_messages.proofs.Strings.{found, plain}
 use Rattle.streams.specs.Lines.{Lacks}
+use Rattle.std.proofs.lemmas.Bool.{or_parts}
 
 pub one_message : OneMessage
 one_message s tag other len more rest left a b =
@@ -53,15 +54,11 @@ sent_is_taken tag fields bytes more is =
       ),
     )
 
-neither : (a b : Bool) → (a || b) ≡ false → (a ≡ false) × (b ≡ false)
-neither true b is = let no : ⊥ = cc in absurd no
-neither false b is = (refl, is)
-
 -- a text of which no byte is zero
 lacks_zero : (text : List ℕ) → list_any (λ byte. byte == 0) text ≡ false → Lacks 0 text
 lacks_zero [] none = tt
 lacks_zero (byte ∷ text) none =
-    let both = neither (byte == 0) (list_any (λ byte. byte == 0) text) none in (both.0, lacks_zero text both.1)
+    let both = or_parts (byte == 0) (list_any (λ byte. byte == 0) text) none in (both.0, lacks_zero text both.1)
 
 -- a text that has a form
 formed : (any : Bool) (text bytes : List ℕ)

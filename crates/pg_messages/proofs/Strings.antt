@@ -1,11 +1,11 @@
 -- Texts that end with a zero byte.
 use Rattle.std.proofs.Common.{◌≡◌, ◌++◌, ℕ, List, [], ◌∷◌, Some, None, ap, refl, ◌∙◌, if◌then◌else◌, option_map}
-use Rattle.std.proofs.Common.{Bool, true, false}
 use Rattle.std.specs.Prelude.{IsUtf8}
 use Rattle.std.specs.Str.{is_utf8}
-use Rattle.std.proofs.lemmas.Str.{is_utf8-from_IsUtf8, IsUtf8-from_is_utf8}
+use Rattle.std.proofs.lemmas.Str.{is_utf8-from_IsUtf8}
 use Rattle.streams.specs.Lines.{Lacks}
 use Rattle.pg_messages.specs.Reading.{onto, text_of, until_zero}
+use Rattle.pg_base.proofs.TextLemmas.{not_utf8}
 
 -- up to the first zero byte
 until_found : (text rest : List ℕ) → Lacks 0 text → until_zero (text ++ 0 ∷ rest) ≡ Some (text, rest)
@@ -29,10 +29,6 @@ none (byte ∷ s) lacks =
 -- a text
 pub plain : (text rest : List ℕ) → IsUtf8 text → text_of (Some (text, rest)) ≡ Some (text, rest)
 plain text rest utf8 = ap (λ b. if b then Some (text, rest) else None) (is_utf8-from_IsUtf8 text utf8)
-
-not_utf8 : (s : List ℕ) (b : Bool) → is_utf8 s ≡ b → (IsUtf8 s → ⊥) → is_utf8 s ≡ false
-not_utf8 s true is other = absurd (other (IsUtf8-from_is_utf8 s is))
-not_utf8 s false is other = is
 
 -- and bytes that are none
 pub refused : (text rest : List ℕ) → (IsUtf8 text → ⊥) → text_of (Some (text, rest)) ≡ None

@@ -3,7 +3,7 @@ use Rattle.std.specs.Prelude.{◌≡◌, ◌≢◌, ℕ, suc, ◌+◌, ◌*◌, 
 use Rattle.std.specs.Prelude.{negsuc, ◌-ℤ◌, ◌≤ℤ◌, List, [], ◌∷◌, length, Bool, true, false, not, refl, FitsSigned}
 use Rattle.std.proofs.Common.{sym, ◌∙◌, ap, subst, arith, cond, drop, inl, inr}
 use Rattle.std.proofs.Math.Nat.{div-mul-le_self, mul-div_cancel, one-le-pow}
-use Rattle.std.proofs.lemmas.Bool.{and_parts, eq-eqb, ltb-true, lt-ltb, le-leb}
+use Rattle.std.proofs.lemmas.Bool.{and_parts, eq-eqb, ltb-true, lt-ltb, le-leb, and_from}
 use Rattle.std.proofs.lemmas.Bool.Decides.{nat_tests, leb_tells, eqb_tells, Decides-int_eq}
 use Rattle.std.specs.Bool.{beq}
 use Rattle.std.specs.Cmp.{booleans_Decides}
@@ -148,25 +148,21 @@ canonical_left negative weight scale digits h k some =
     from_first_other negative weight scale left (first_of_left weight scale digits h k)
     ∙ ap (from_digits negative weight scale) same ∙ from_some negative weight scale left some
 
--- ---- ranges
-both_true : (x y : Bool) → x ≡ true → y ≡ true → (x && y) ≡ true
-both_true x y h k = rw (h, k) refl
-
 -- parts are the same as themselves
 pub same_parts_same : (p : Parts) → same_parts p p ≡ true
 same_parts_same p =
-    both_true (beq p.negative p.negative && int_eq p.weight p.weight && p.scale == p.scale)
+    and_from (beq p.negative p.negative && int_eq p.weight p.weight && p.scale == p.scale)
     (pointwise ◌==◌ p.digits p.digits)
-    (both_true (beq p.negative p.negative && int_eq p.weight p.weight) (p.scale == p.scale)
-    (both_true (beq p.negative p.negative) (int_eq p.weight p.weight) ((booleans_Decides p.negative p.negative).1 refl)
+    (and_from (beq p.negative p.negative && int_eq p.weight p.weight) (p.scale == p.scale)
+    (and_from (beq p.negative p.negative) (int_eq p.weight p.weight) ((booleans_Decides p.negative p.negative).1 refl)
     ((Decides-int_eq p.weight p.weight).1 refl))
     (eq-eqb p.scale p.scale refl)) ((bytes_decides p.digits p.digits).1 refl)
 
 digits_before : (x : ℕ) (ds : List ℕ) → x < base → are_digits ds ≡ true → are_digits (before x ds) ≡ true
 digits_before x [] h k =
     last_or_none (x == 0) x (λ ys. are_digits ys
-    ≡ true) refl (λ _. both_true (nat_lt x base) true (lt-ltb x base h) refl)
-digits_before x (d ∷ ds) h k = both_true (nat_lt x base) (are_digits (d ∷ ds)) (lt-ltb x base h) k
+    ≡ true) refl (λ _. and_from (nat_lt x base) true (lt-ltb x base h) refl)
+digits_before x (d ∷ ds) h k = and_from (nat_lt x base) (are_digits (d ∷ ds)) (lt-ltb x base h) k
 
 pub digits_left : (weight : ℤ) (scale : ℕ) (digits : List ℕ) → are_digits digits ≡ true
     → are_digits (without_trailing (shown weight scale digits)) ≡ true
@@ -209,11 +205,11 @@ number_left negative weight scale digits h k many high top some =
     (same_parts_same p) in
     let fit : fits_signed w16 weight ≡ true =
     fits w16 weight (weight_fits weight scale (first_shows weight scale digits h some) high top) in
-    both_true (same_parts (canonical p) p && fits_signed w16 weight && nat_le scale max_scale && are_digits left)
+    and_from (same_parts (canonical p) p && fits_signed w16 weight && nat_le scale max_scale && are_digits left)
     (nat_le (length left) max_digits)
-    (both_true (same_parts (canonical p) p && fits_signed w16 weight && nat_le scale max_scale) (are_digits left)
-    (both_true (same_parts (canonical p) p && fits_signed w16 weight) (nat_le scale max_scale)
-    (both_true (same_parts (canonical p) p) (fits_signed w16 weight) same fit)
+    (and_from (same_parts (canonical p) p && fits_signed w16 weight && nat_le scale max_scale) (are_digits left)
+    (and_from (same_parts (canonical p) p && fits_signed w16 weight) (nat_le scale max_scale)
+    (and_from (same_parts (canonical p) p) (fits_signed w16 weight) same fit)
     (le-leb scale max_scale high)) (digits_left weight scale digits h))
     (le-leb (length left) max_digits (omega (arith, many, length_left weight scale digits)))
 

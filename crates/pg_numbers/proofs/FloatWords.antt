@@ -8,7 +8,7 @@ use Rattle.std.specs.Float.Parse.{parse_float, without_sign}
 use Rattle.std.specs.Prelude.{T, List, ℤ}
 use Rattle.std.proofs.Common.{arith, sym, ◌∙◌}
 use mathlib.Core.Bool.{true≢false}
-use Rattle.std.proofs.lemmas.Bool.{and_parts, eqb-true}
+use Rattle.std.proofs.lemmas.Bool.{and_parts, eqb-true, and_right}
 use native.Mathlib.Nat.{mul-pos, pow-suc, zero-lt-suc, zero-mul}
 use lib.Ieee.Bits.{is_true}
 use Rattle.std.proofs.lemmas.Float.Parse.{parse_float_on_literals}
@@ -82,14 +82,10 @@ pub zero_is : (f : Format) (bits : ℕ) → eq (from_bits f bits) float_zero ≡
     → fin (is_sign_negative (from_bits f bits)) 0 (pos 0) ≡ from_bits f bits
 zero_is f bits = zero_value f (from_bits f bits) (of_bits-fits f bits)
 
-and_false : (b : Bool) → (b && false) ≡ false
-and_false true = refl
-and_false false = refl
-
 -- what is neither an infinity nor zero is in range
 pub in_range : (f : Format) (x : Float) (text : List ℕ) → parse_float f text ≡ Some x
     → float_is_infinite x ≡ false → eq x float_zero ≡ false → float_of f text ≡ Some x
-in_range f x text h k l = rw h (rw k (rw l (rw (and_false (has_digits (scan_numeral (without_sign text)))) refl)))
+in_range f x text h k l = rw h (rw k (rw l (rw (and_right (has_digits (scan_numeral (without_sign text))) false refl) refl)))
 
 -- and no word
 pub no_word : (x : Float) → float_is_finite x ≡ true → eq x float_zero ≡ false → word_of x ≡ None

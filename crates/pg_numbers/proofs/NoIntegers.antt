@@ -4,6 +4,7 @@ use Rattle.std.specs.Prelude.{Bool, FitsSigned, MatchOption, None, Option, Some,
 use Rattle.std.specs.Int.{Width}
 use Rattle.std.specs.Result.{OkIff, result_ok}
 use Rattle.std.proofs.Common.{sym, ◌∙◌, ap, arith, inl, inr, subst}
+use native.Mathlib.Nat.{eq_of_mul-eq-mul_right}
 use Rattle.std.proofs.Math.Nat.{le_of_mul-le-mul_right, le-mul_of_pos_right, mul_assoc, one-le-pow}
 use Rattle.std.proofs.lemmas.Bool.{cases_lt}
 use Rattle.std.proofs.lemmas.Nat.{pow-add}
@@ -48,14 +49,8 @@ not_below x bound h = elim (cases_lt x bound) [
 -- the only integer that a number is
 only_integer : (p : Parts) (m : ℕ) (n : ℤ) → units_of p ≡ m * 10 ^ p.scale → IsInteger p n → n ≡ signed p.negative m
 only_integer p m n e i =
-    i.is ∙ ap (signed p.negative) (same_factor i.magnitude m (10 ^ p.scale)
-    (one-le-pow p.scale 10 (omega arith)) (sym i.counts ∙ e))
-  where
-    same_factor : (x y r : ℕ) → 0 < r → x * r ≡ y * r → x ≡ y
-    same_factor x y r some h =
-        let le : x * r ≤ y * r = omega (arith, h) in
-        let ge : y * r ≤ x * r = omega (arith, h) in
-        omega (arith, le_of_mul-le-mul_right le some, le_of_mul-le-mul_right ge some)
+    i.is ∙ ap (signed p.negative) (eq_of_mul-eq-mul_right (10 ^ p.scale) (one-le-pow p.scale 10 (omega arith))
+    i.magnitude m (sym i.counts ∙ e))
 
 -- the answer of a number of that magnitude
 pub integer_answer : (w : Width) (p : Parts) (m : ℕ) (negative : Bool) (o : Option ℤ) → units_of p ≡ m * 10 ^ p.scale

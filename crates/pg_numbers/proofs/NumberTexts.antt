@@ -7,7 +7,7 @@ use Rattle.std.specs.List.{list_all}
 use Rattle.std.specs.Str.Parse.{AllDigits, digits_value, digits_value_after}
 use Rattle.std.proofs.Common.{sym, ◌∙◌, ap, arith, get_or, inl, inr, length-append}
 use Rattle.std.proofs.Math.Nat.{div-eq_of_lt, one-le-pow}
-use Rattle.std.proofs.lemmas.Bool.{and_parts, cases_lt, le-leb, ltb-true}
+use Rattle.std.proofs.lemmas.Bool.{and_parts, cases_lt, le-leb, ltb-true, and_from}
 use Rattle.std.proofs.lemmas.Fmt.{decimal_is_IsNumeral, length-decimal-le}
 use Rattle.std.proofs.lemmas.Int.{ints}
 use Rattle.std.proofs.lemmas.List.{get_or_past}
@@ -230,29 +230,26 @@ text_units p e h =
 
 -- ---- the bytes of texts
 
-both_true : (x y : Bool) → x ≡ true → y ≡ true → (x && y) ≡ true
-both_true x y h k = rw (h, k) refl
-
 pub all_append : (a b : List ℕ) → list_all is_ascii_digit a ≡ true → list_all is_ascii_digit b ≡ true
     → list_all is_ascii_digit (a ++ b) ≡ true
-all_append a b h k = list_all-append is_ascii_digit a b ∙ both_true _ _ h k
+all_append a b h k = list_all-append is_ascii_digit a b ∙ and_from _ _ h k
 
 glyph_is_digit : (d : ℕ) → d < 10 → is_ascii_digit (48 + d) ≡ true
-glyph_is_digit d h = both_true _ _ (le-leb 48 (48 + d) (omega arith)) (le-leb (48 + d) 57 (omega arith))
+glyph_is_digit d h = and_from _ _ (le-leb 48 (48 + d) (omega arith)) (le-leb (48 + d) 57 (omega arith))
 
 all_digits : (ds : List ℕ) → AllDigits 10 ds → list_all is_ascii_digit ds ≡ true
 all_digits [] h = refl
 all_digits (c ∷ cs) h =
     let range = digit_from_value c h.0 in
-    both_true (is_ascii_digit c) (list_all is_ascii_digit cs)
-    (both_true _ _ (le-leb 48 c range.0) (le-leb c 57 range.1)) (all_digits cs h.1)
+    and_from (is_ascii_digit c) (list_all is_ascii_digit cs)
+    (and_from _ _ (le-leb 48 c range.0) (le-leb c 57 range.1)) (all_digits cs h.1)
 
 padded_digits : (w n : ℕ) → n < 10 ^ suc w → n < 2 ^ 64
     → (list_all is_ascii_digit (padded_text (suc w) n) ≡ true) × (length (padded_text (suc w) n) ≡ suc w)
 padded_digits zero n h k =
     let one : padded_text 1 n ≡ (48 + n) ∷ [] = one_digit n (omega (arith, h)) in
     let glyph : list_all is_ascii_digit ((48 + n) ∷ []) ≡ true =
-    both_true (is_ascii_digit (48 + n)) true (glyph_is_digit n (omega (arith, h))) refl in
+    and_from (is_ascii_digit (48 + n)) true (glyph_is_digit n (omega (arith, h))) refl in
     (ap (list_all is_ascii_digit) one ∙ glyph, ap length one)
 padded_digits (suc w) n h k =
     let more : suc w + 1 ≡ suc (suc w) = omega arith in
@@ -263,7 +260,7 @@ padded_digits (suc w) n h k =
     ap (λ v. padded_text v n) (sym more) ∙ last_digit (suc w) n (omega arith) k in
     let others = padded_digits w (n / 10) front (omega (arith, k)) in
     let glyph : list_all is_ascii_digit ((48 + n % 10) ∷ []) ≡ true =
-    both_true (is_ascii_digit (48 + n % 10)) true (glyph_is_digit (n % 10) (omega arith)) refl in (
+    and_from (is_ascii_digit (48 + n % 10)) true (glyph_is_digit (n % 10) (omega arith)) refl in (
       ap (list_all is_ascii_digit) step ∙ all_append (padded_text (suc w) (n / 10)) ((48 + n % 10) ∷ []) others.0 glyph,
       ap length step ∙ length-append (padded_text (suc w) (n / 10)) ((48 + n % 10) ∷ []) ∙ ap (λ l. l + 1) others.1
           ∙ more,

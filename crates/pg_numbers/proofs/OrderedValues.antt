@@ -7,7 +7,8 @@ use Rattle.std.specs.Ordering.{MatchOrdering, int_cmp, nat_cmp, ordering_then}
 use Rattle.std.specs.declared.cmp.Ordering.{Ordering}
 use Rattle.std.specs.declared.cmp.Ordering.TheVariants.{Less, Equal, Greater}
 use Rattle.std.proofs.Common.{sym, ◌∙◌, ap, subst, arith, inl, inr}
-use Rattle.std.proofs.Math.Nat.{lt_of_mul-lt-mul_right, le_of_mul-le-mul_right, mul-pos, mul_assoc, one-le-pow, pow-le-pow_right}
+use native.Mathlib.Nat.{eq_of_mul-eq-mul_right}
+use Rattle.std.proofs.Math.Nat.{lt_of_mul-lt-mul_right, mul-pos, mul_assoc, one-le-pow, pow-le-pow_right}
 use Rattle.std.proofs.lemmas.Bool.{cases_order}
 use Rattle.std.proofs.lemmas.Bool.Decides.{eqb_tells}
 use Rattle.std.proofs.lemmas.Int.{ints}
@@ -44,13 +45,7 @@ without_factor : (o : Ordering) (x y r : ℕ) → 0 < r → MatchOrdering o (x *
     → MatchOrdering o (x < y) (x ≡ y) (y < x)
 without_factor o x y r some m =
     match_map o (x * r < y * r) (x * r ≡ y * r) (y * r < x * r) (x < y) (x ≡ y) (y < x)
-    (λ h. lt_of_mul-lt-mul_right r h) (λ h. same_factor x y r some h) (λ h. lt_of_mul-lt-mul_right r h) m
-  where
-    same_factor : (x y r : ℕ) → 0 < r → x * r ≡ y * r → x ≡ y
-    same_factor x y r some h =
-        let le : x * r ≤ y * r = omega (arith, h) in
-        let ge : y * r ≤ x * r = omega (arith, h) in
-        omega (arith, le_of_mul-le-mul_right le some, le_of_mul-le-mul_right ge some)
+    (λ h. lt_of_mul-lt-mul_right r h) (eq_of_mul-eq-mul_right r some x y) (λ h. lt_of_mul-lt-mul_right r h) m
 
 -- the units at a common scale, in units of the last place
 common_units : (u s t k c : ℕ) → s + t ≤ 4 * k → u * 10 ^ (4 * k - s) ≡ c

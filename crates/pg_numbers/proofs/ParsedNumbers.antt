@@ -11,7 +11,7 @@ use Rattle.std.specs.Int.{w16, w32}
 use Rattle.std.proofs.lemmas.Int.{ints, to_z-of_z, to_z_pos}
 use Rattle.pg_base.specs.Formats.{first_fault_of}
 use Rattle.pg_numbers.specs.Laws.Numeric.{number_facts}
-use Rattle.std.proofs.lemmas.Bool.{and_parts, le-leb, lt-ltb}
+use Rattle.std.proofs.lemmas.Bool.{and_parts, le-leb, lt-ltb, and_from, and_right}
 use Rattle.std.proofs.lemmas.Bool.Decides.{eqb_tells}
 use Rattle.std.proofs.lemmas.List.{nil_from_length}
 use Rattle.pg_numbers.specs.Numeric.{Parts, are_digits, canonical, from_digits, from_first, parts, shown, units_of}
@@ -51,10 +51,6 @@ first_sign negative weight scale (d ∷ ds) h = elim (eqb_tells d 0) [
       ∙ digits_sign negative weight scale left (omega (arith, h, ap (λ q. length q.digits) step))
 ]
 
-and_false : (b : Bool) → (b && false) ≡ false
-and_false true = refl
-and_false false = refl
-
 and_true : (b : Bool) → (b && true) ≡ b
 and_true true = refl
 and_true false = refl
@@ -65,7 +61,7 @@ signed_number q p e same digits = elim (none_or_some p.digits) [
   | inl none ↦
       let zero_units : units_of p ≡ 0 = ap (λ ds. units_of (parts p.negative p.weight p.scale ds)) none in
       let nothing : nat_lt 0 (units_of p) ≡ false = ap (nat_lt 0) zero_units in
-      (zero_is p same none).0 ∙ sym (and_false q.negative) ∙ ap (λ b. q.negative && b) (sym nothing)
+      (zero_is p same none).0 ∙ sym (and_right q.negative false refl) ∙ ap (λ b. q.negative && b) (sym nothing)
   | inr some ↦
       let something : nat_lt 0 (units_of p) ≡ true = lt-ltb 0 (units_of p) (some_units p same digits some) in
       ap (λ x. x.negative) e
@@ -204,9 +200,6 @@ weight_of n h =
     ∙ ap (λ x. to_z w16 (of_z w16 x)) (to_z-of_z w32 (pos n -ℤ pos 1) fits.0)
     ∙ to_z-of_z w16 (pos n -ℤ pos 1) fits.1
 
-pub both_true : (x y : Bool) → x ≡ true → y ≡ true → (x && y) ≡ true
-both_true x y h k = rw (h, k) refl
-
 pub passes : (a b : Bool) → a ≡ true → b ≡ true
     → (if a then (if b then None else Some too_long) else Some invalid_text) ≡ None
 passes a b h k = rw (h, k) refl
@@ -234,7 +227,7 @@ parsed negative text p z count integer decimals front ds i d f b e w low high nu
     let right : is_numeral whole last ≡ true =
     ap (λ xs. is_numeral xs last) (sym i) ∙ ap (is_numeral integer) (sym d) ∙ numeral in
     let fits : fits_numeral whole last ≡ true =
-    both_true (nat_le (length head) max_integer) (nat_le (length last) max_scale)
+    and_from (nat_le (length head) max_integer) (nat_le (length last) max_scale)
     (le-leb (length head) max_integer (omega (arith, many, few)))
     (le-leb (length last) max_scale (omega (arith, ap length d, short))) in (
       passes (is_numeral whole last) (fits_numeral whole last) right fits,

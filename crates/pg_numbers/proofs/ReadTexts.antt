@@ -5,8 +5,9 @@ use Rattle.std.specs.Char.{digit_value, is_ascii_digit}
 use Rattle.std.specs.List.{list_all, prefix_len}
 use Rattle.std.specs.Str.Parse.{digits_value, digits_value_after}
 use Rattle.std.proofs.Common.{sym, ◌∙◌, ap, subst, arith, get_or, inl, inr, append_assoc, length-append}
-use Rattle.std.proofs.Math.Nat.{le_of_mul-le-mul_right, mul-div_cancel, one-le-pow}
-use Rattle.std.proofs.lemmas.Bool.{and_parts, leb-true, lt-ltb}
+use native.Mathlib.Nat.{eq_of_mul-eq-mul_right}
+use Rattle.std.proofs.Math.Nat.{mul-div_cancel, one-le-pow}
+use Rattle.std.proofs.lemmas.Bool.{and_parts, leb-true, lt-ltb, and_from}
 use Rattle.std.proofs.lemmas.Bool.Decides.{eqb_tells}
 use Rattle.std.proofs.lemmas.Int.{ints}
 use Rattle.std.proofs.lemmas.List.{length-drop, length-take-le, take-append-drop}
@@ -191,9 +192,6 @@ decimal_drop zero ds h = h
 decimal_drop (suc n) [] h = refl
 decimal_drop (suc n) (d ∷ ds) h = decimal_drop n ds (and_parts _ _ h).1
 
-both_true : (x y : Bool) → x ≡ true → y ≡ true → (x && y) ≡ true
-both_true x y h k = rw (h, k) refl
-
 zero_value : digit_value 48 < 10
 zero_value = omega arith
 
@@ -202,7 +200,7 @@ four_below : (a b c d : ℕ) → digit_value a < 10 → digit_value b < 10 → d
 four_below a b c d h k l m = omega (arith, h, k, l, m)
 
 one_digit_more : (n : ℕ) (ns : List ℕ) → n < base → are_digits ns ≡ true → are_digits (n ∷ ns) ≡ true
-one_digit_more n ns h k = both_true _ _ (lt-ltb n base h) k
+one_digit_more n ns h k = and_from _ _ (lt-ltb n base h) k
 
 pub grouped_digits : (ds : List ℕ) → list_all is_ascii_digit ds ≡ true → are_digits (grouped ds) ≡ true
 grouped_digits [] h = refl
@@ -305,7 +303,7 @@ front_digits (a ∷ b ∷ c ∷ []) h k =
 front_digits (a ∷ b ∷ c ∷ d ∷ ds) h k = absurd (omega (arith, h))
 
 digits_append : (a b : List ℕ) → are_digits a ≡ true → are_digits b ≡ true → are_digits (a ++ b) ≡ true
-digits_append a b h k = list_all-append (λ digit. nat_lt digit base) a b ∙ both_true _ _ h k
+digits_append a b h k = list_all-append (λ digit. nat_lt digit base) a b ∙ and_from _ _ h k
 
 -- the groups of the digits before the point
 abbrev pub integer_groups : List ℕ → List ℕ
@@ -421,14 +419,8 @@ base_units integer decimals weight count at low high =
     (10 ^ (4 * k - s)) (10 ^ (4 * k)) (one-le-pow (4 * k - s) 10 (omega arith)) power (counts ∙ value)
     ∙ sym whole
   where
-    cancel : (x y r : ℕ) → 0 < r → x * r ≡ y * r → x ≡ y
-    cancel x y r some h =
-        let le : x * r ≤ y * r = omega (arith, h) in
-        let ge : y * r ≤ x * r = omega (arith, h) in
-        omega (arith, le_of_mul-le-mul_right le some, le_of_mul-le-mul_right ge some)
-
     same_factor : (u i d p r q : ℕ) → 0 < r → q ≡ p * r → u * r ≡ i * q + d * r → u ≡ i * p + d
-    same_factor u i d p r q some e h = cancel u (i * p + d) r some (h ∙ rw e (omega arith))
+    same_factor u i d p r q some e h = eq_of_mul-eq-mul_right r some u (i * p + d) (h ∙ rw e (omega arith))
 
 pub decimal_take : (n : ℕ) (ds : List ℕ) → list_all is_ascii_digit ds ≡ true
     → list_all is_ascii_digit (take n ds) ≡ true
@@ -436,7 +428,7 @@ decimal_take zero ds h = refl
 decimal_take (suc n) [] h = refl
 decimal_take (suc n) (d ∷ ds) h =
     let both = and_parts _ _ h in
-    both_true (is_ascii_digit d) (list_all is_ascii_digit (take n ds)) both.0 (decimal_take n ds both.1)
+    and_from (is_ascii_digit d) (list_all is_ascii_digit (take n ds)) both.0 (decimal_take n ds both.1)
 
 -- what the loops over decimal digits are proved by
 pub ruleset group_steps = (grouped_more, grouped_three, grouped_two, grouped_one, grouped_none, decimal_at, decimal_drop)

@@ -9,7 +9,7 @@ use Rattle.std.specs.List.{list_all, prefix_len, suffix_len}
 use Rattle.std.specs.Str.Parse.{digits_value, starts_with_minus, without_leading_sign}
 use Rattle.std.proofs.Common.{sym, ◌∙◌, ap, subst, arith, get_or, inl, inr}
 use Rattle.std.proofs.Math.Seq.{take-length}
-use Rattle.std.proofs.lemmas.Bool.{and_parts, le-leb, leb-true}
+use Rattle.std.proofs.lemmas.Bool.{and_parts, le-leb, leb-true, and_from}
 use Rattle.std.proofs.lemmas.Bool.Decides.{eqb_tells, nat_tests}
 use Rattle.std.proofs.lemmas.Int.{ints}
 use Rattle.std.proofs.lemmas.List.{length-drop}
@@ -28,8 +28,9 @@ use Rattle.pg_numbers.specs.declared.numeric.Numeric.{Numeric}
 use Rattle.pg_numbers.specs.declared.numeric.Numeric.TheVariants.{NaN, Infinity, NegativeInfinity, Finite}
 use Rattle.pg_numbers.proofs.NumberTexts.{decimals_are_digits, integer_is_digits, text_units}
 use Rattle.pg_numbers.proofs.OrderedValues.{known_by_units}
-use Rattle.pg_numbers.proofs.ParsedNumbers.{both_true, fraction_text, passes, signed_number, text_parts, text_sign}
+use Rattle.pg_numbers.proofs.ParsedNumbers.{fraction_text, passes, signed_number, text_parts, text_sign}
 use Rattle.pg_numbers.proofs.WrittenDigits.{first_below}
+use Rattle.pg_base.proofs.CompletenessBits.{no_from_not}
 
 -- ---- what the text of a number spells
 
@@ -43,7 +44,7 @@ some_numeral integer decimals some h k = elim (eqb_tells (length integer) 0) [
 short_numeral : (integer decimals : List ℕ) → length integer ≤ max_integer → length decimals ≤ max_scale
     → fits_numeral integer decimals ≡ true
 short_numeral integer decimals few short =
-    both_true (nat_le (length (without_leading_zeros integer)) max_integer) (nat_le (length decimals) max_scale)
+    and_from (nat_le (length (without_leading_zeros integer)) max_integer) (nat_le (length decimals) max_scale)
     (le-leb _ _ (omega (arith, few, length-drop (decimal_zeros integer) integer)))
     (le-leb _ _ short)
 
@@ -110,15 +111,11 @@ number_once text (Err r) (Err s) h k =
 abbrev has_no_space : List ℕ → Bool
 has_no_space = list_all (λ byte. not (is_space byte))
 
-not_true : (b : Bool) → not b ≡ true → b ≡ false
-not_true true h = absurd cc
-not_true false h = refl
-
 trimmed_same : (text : List ℕ) → has_no_space text ≡ true → trimmed text ≡ text
 trimmed_same text h =
     let last = length text - 1 in
     let none : (i : ℕ) → i < length text → is_space (get_or text i 0) ≡ false =
-    λ i k. not_true _ (AllPass-from_list_all (λ byte. not (is_space byte)) text h i 0 k) in
+    λ i k. no_from_not _ (AllPass-from_list_all (λ byte. not (is_space byte)) text h i 0 k) in
     let start : prefix_len is_space text ≡ 0 =
     prefix_len_is is_space text 0 0 (omega arith) (λ k l. absurd (omega arith)) (λ l. none 0 l) in
     let end : suffix_len is_space text ≡ length text - length text =
@@ -135,10 +132,10 @@ digits_no_space : (xs : List ℕ) → list_all is_ascii_digit xs ≡ true → ha
 digits_no_space [] h = refl
 digits_no_space (c ∷ cs) h =
     let both = and_parts _ _ h in
-    both_true (not (is_space c)) (has_no_space cs) (digit_no_space c both.0) (digits_no_space cs both.1)
+    and_from (not (is_space c)) (has_no_space cs) (digit_no_space c both.0) (digits_no_space cs both.1)
 
 append_no_space : (xs ys : List ℕ) → has_no_space xs ≡ true → has_no_space ys ≡ true → has_no_space (xs ++ ys) ≡ true
-append_no_space xs ys h k = list_all-append (λ byte. not (is_space byte)) xs ys ∙ both_true _ _ h k
+append_no_space xs ys h k = list_all-append (λ byte. not (is_space byte)) xs ys ∙ and_from _ _ h k
 
 fraction_no_space : (scale : ℕ) (ds : List ℕ) → has_no_space ds ≡ true
     → has_no_space (if scale == 0 then [] else 46 ∷ ds) ≡ true

@@ -11,24 +11,13 @@ use Rattle.pg_types.specs.Content.{Content}
 use Rattle.pg_base.specs.Counts.{checks_of_next, next_checks, cell_checks, ToRead, has_cell, has_number, nothing}
 use Rattle.pg_types.specs.Faults.{Refusal, Outcome, size}
 use Rattle.pg_base.specs.Formats.{first_fault_of}
-use Rattle.pg_base.proofs.CellRows.{cells_exist, head_bytes, row_bytes}
+use Rattle.pg_base.proofs.CellRows.{cells_exist, head_bytes, row_bytes, spelled_more}
 use Rattle.pg_read.specs.ArrayReading.{ReadsAll, ReadsElements, ReadsList, ReadsByElement, end_checks}
 
 -- between the start and now these cells were taken
 pub record HaveBeenTaken (start : ToRead) (cs : List Cell) (now : ToRead) : Type 0 where
   pub so_many : length cs + now.left ≡ start.left
   pub spelled : SpellsAll start.bytes cs now.bytes
-
-pub spelled_more : (s u rest : List ℕ) (cs ds : List Cell) → SpellsAll s cs u → SpellsAll u ds rest
-    → SpellsAll s (cs ++ ds) rest
-spelled_more s u rest [] ds e r = subst (λ x. SpellsAll x ds rest) (sym e) r
-spelled_more s u rest (c ∷ cs) ds p r = record {
-  front = p.front;
-  rest = p.rest;
-  is = p.is;
-  spells = p.spells;
-  rest_spells = spelled_more p.rest u rest cs ds p.rest_spells r;
-}
 
 -- the next cell is one more
 pub taken_next : (start now next : ToRead) (cs : List Cell) (c : Cell) (t : List ℕ) → HaveBeenTaken start cs now

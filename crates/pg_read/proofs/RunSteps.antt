@@ -6,7 +6,8 @@ use Rattle.pg_base.proofs.CellRows.{row_bytes}
 use Rattle.pg_base.specs.Cells.{AreBytes, Cell, Spells, SpellsNone, SpellsAll}
 use Rattle.pg_types.specs.Faults.{Refusal, Outcome, refusal_of, size}
 use Rattle.pg_types.specs.declared.fault.Fault.{Fault}
-use Rattle.pg_read.proofs.ArrayCellSteps.{remaining_cells, spelled_more, value_next}
+use Rattle.pg_base.proofs.CellRows.{spelled_more}
+use Rattle.pg_read.proofs.ArrayCellSteps.{remaining_cells, value_next}
 use Rattle.pg_read.specs.FrameReading.{after_truncated}
 use Rattle.pg_read.specs.RunReading.{HaveBeenRead, ReadsRun, RunStops}
 

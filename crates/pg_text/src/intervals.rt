@@ -1,8 +1,8 @@
 //! The texts of intervals.
 ghost use Rattle.std.specs.Prelude.{◌≡◌, ◌++◌, ◌+ℤ◌, ◌*ℤ◌, pos, IfSome, IsSome, MatchOption, None, Some};
 ghost use Rattle.pg_base.specs.IntervalTexts.{interval_text};
-ghost use Rattle.pg_text.specs.Intervals.{IsSumOf, SaysInterval, TakesField, TakesMinutes, TakesPart, TakesSign};
-ghost use Rattle.pg_text.specs.Intervals.{field_name, signed};
+ghost use Rattle.pg_text.specs.Intervals.{IsSumOf, SaysInterval, SetsField, TakesField, TakesMinutes};
+ghost use Rattle.pg_text.specs.Intervals.{TakesPart, TakesSign, field_name, signed};
 ghost use Rattle.pg_text.specs.Texts.{Shows};
 
 use crate::scanner::Scanner;
@@ -50,6 +50,13 @@ impl Parts {
         }
         let field = take_field(scanner)?;
         let count = i32::try_from(signed(is_negative, number)?).ok()?;
+        self.set_field(field, count)
+    }
+
+    /// Sets the count of a field; `None` if it has one already.
+    fn set_field(&mut self, field: Field, count: i32) -> Option<()>
+        ensures { IfSome result (λ _. SetsField self.old field count self.new) }
+    {
         match field {
             Field::Year => set(&mut self.years, count),
             Field::Month => set(&mut self.months, count),

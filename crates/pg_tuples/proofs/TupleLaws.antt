@@ -3,14 +3,9 @@ use Rattle.std.proofs.Common.{◌≡◌, ℕ, ◌+◌, ◌<◌, pos, List, [], �
 use Rattle.std.proofs.Common.{append_assoc, arith, length, length-append, if◌then◌else◌}
 use Rattle.std.proofs.lemmas.Bool.{lt-ltb}
 use Rattle.std.specs.Int.{w16}
-use Rattle.pg_base.proofs.Concat.{concat-assoc, concat-nil, frames-append, nil-concat}
+use Rattle.pg_base.proofs.Concat.{concat-assoc, concat-nil, nil-concat, next_frames}
 use Rattle.pg_base.specs.Cells.{Cell, be, concat, frame, frames}
 use Rattle.pg_tuples.specs.Tuples.{BeginsCopy, FrameThen, FramesThen, column_count, tuple, tuples}
-
-pub next_frames : (cells : List Cell) (cell : Cell) (bytes more : List ℕ) → frames cells ≡ Some bytes
-    → frame cell ≡ Some more → frames (cells ++ cell ∷ []) ≡ Some (bytes ++ more)
-next_frames cells cell bytes more so_far next =
-    frames-append cells (cell ∷ []) ∙ ap (concat (frames cells)) (concat-nil (frame cell)) ∙ rw (so_far, next) refl
 
 -- a frame after so many is one more
 pub frames_next : (s mid rest : List ℕ) (n : ℕ) → FramesThen s n mid → FrameThen mid rest → FramesThen s (n + 1) rest

@@ -21,18 +21,12 @@ use Rattle.pg_write.specs.ArrayWriting.{element_cells, element_frame_cell, wire_
 use Rattle.pg_write.specs.ParamWriting.{AppendsElement, AppendsFrames}
 use Rattle.pg_write.proofs.ElementCells.{in_front_ok, next_refusal}
 use Rattle.pg_write.proofs.ParamLists.{one_more}
+use Rattle.pg_base.proofs.CellRows.{null_append}
 
 -- what is not NULL
 pub not_null : (n : IsNull) → (n ≡ Yes → ⊥) → n ≡ No
 not_null Yes h = absurd (h refl)
 not_null No h = refl
-
--- whether a cell is NULL, of one cell more
-null_append : (cs : List Cell) (c : Cell) → has_null (cs ++ c ∷ []) ≡ (has_null cs || is_none c)
-null_append [] None = refl
-null_append [] (Some b) = refl
-null_append (None ∷ cs) c = refl
-null_append (Some b ∷ cs) c = null_append cs c
 
 -- the flags, by whether a cell is NULL
 flags_number : (cs : List Cell) (t : Bool) → has_null cs ≡ t → to_be_bytes w32 (bool_byte t) ≡ be w32 (flags_of cs)

@@ -16,27 +16,18 @@ use Rattle.pg_types.specs.declared.format.IsNull.TheVariants.{No}
 use Rattle.pg_write.specs.ArrayWriting.{element_frame_cell, with_frame}
 use Rattle.pg_write.specs.ParamWriting.{AppendsFrameOrPart, FrameFollows, FramesFrom}
 use Rattle.pg_write.specs.Writing.{Writes}
+use Rattle.pg_base.proofs.Concat.{cond_passes, long_frame}
 
 cond_fails : (t : Bool) (b : List ℕ) → t ≡ false → cond t (Some b) None ≡ None
 cond_fails true b e = let no : ⊥ = cc in absurd no
 cond_fails false b e = refl
-
-cond_holds : (t : Bool) (b : List ℕ) → t ≡ true → cond t (Some b) None ≡ Some b
-cond_holds true b e = refl
-cond_holds false b e = let no : ⊥ = cc in absurd no
-
--- bytes that are too many have no frame
-pub long_frame : (b : List ℕ) → max_length < length b → frame (Some b) ≡ None
-long_frame b h =
-    let t : fits_prefix (length b) ≡ false = grind (arith, nat_tests) in
-    cond_fails (fits_prefix (length b)) (be w32 (pos (length b)) ++ b) t
 
 -- and fewer have their number and themselves as their frame
 pub frame_bytes : (b : List ℕ) (n : ℕ) → length b ≤ max_length → n ≡ length b → frame (Some b)
     ≡ Some (to_be_bytes w32 n ++ b)
 frame_bytes b n h e =
     let t : fits_prefix (length b) ≡ true = grind (arith, nat_tests) in
-    cond_holds (fits_prefix (length b)) (be w32 (pos (length b)) ++ b) t
+    cond_passes (fits_prefix (length b)) (be w32 (pos (length b)) ++ b) t
     ∙ ap (λ y. Some (to_be_bytes w32 y ++ b)) (sym e)
 
 module _ (old head b written : List ℕ) (four : length head ≡ number_width) (is : written ≡ (old ++ head) ++ b) where

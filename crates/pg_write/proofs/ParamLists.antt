@@ -12,18 +12,12 @@ use Rattle.pg_base.specs.Appending.{KeepsCapacity, Wire}
 use Rattle.pg_base.specs.Cells.{Cell, frame, frames, concat}
 use Rattle.pg_types.specs.Faults.{Outcome, Refusal}
 use Rattle.pg_types.specs.declared.fault.Fault.{Fault}
-use Rattle.pg_base.proofs.Concat.{frames-append}
+use Rattle.pg_base.proofs.Concat.{frames-append, next_frames}
 use Rattle.pg_base.proofs.Concat.{concat-nil}
 use Rattle.pg_write.proofs.ElementCells.{next_cell}
 use Rattle.pg_write.specs.ArrayWriting.{element_cells, element_frame_cell, with_frame}
 use Rattle.pg_write.proofs.ParamRoom.{each_at, frames_before, frames_take, if_none_then, same_frames_len}
 use Rattle.pg_write.specs.ParamWriting.{AppendsFrameOrPart, Binds, FrameFollows, FramesFollow, frame_len, frames_len}
-
--- one frame more
-next_frame : (cs : List Cell) (c : Cell) (bs b : List ℕ) → frames cs ≡ Some bs → frame c ≡ Some b
-    → frames (cs ++ c ∷ []) ≡ Some (bs ++ b)
-next_frame cs c bs b so_far next = frames-append cs (c ∷ []) ∙ ap (concat (frames cs)) (concat-nil (frame c))
-    ∙ rw (so_far, next) refl
 
 module _ {A : Type 0} (f : A → Wire) (vs : List A) (i : ℕ) (v : A) (h : i < length vs) (is : v ≡ get_or vs i v) where
   -- the frame of one more value was appended
@@ -36,7 +30,7 @@ module _ {A : Type 0} (f : A → Wire) (vs : List A) (i : ℕ) (v : A) (h : i < 
           cells = so_far.cells ++ next.cell ∷ [];
           bytes = so_far.bytes ++ next.bytes;
           cells_are = next_cell f vs i v h is so_far.cells next.cell so_far.cells_are has;
-          frames_are = next_frame so_far.cells next.cell so_far.bytes next.bytes so_far.frames_are next.frame_is;
+          frames_are = next_frames so_far.cells next.cell so_far.bytes next.bytes so_far.frames_are next.frame_is;
           is = next.is ∙ ap (λ s. s ++ next.bytes) so_far.is ∙ append_assoc old so_far.bytes next.bytes;
         },
         refl,

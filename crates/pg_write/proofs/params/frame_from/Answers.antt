@@ -1,6 +1,7 @@
 -- What the proof of `frame_from` answers by hand.
 use Rattle.std.proofs.Common.{◌≡◌, ◌<◌, ◌≤◌, ◌-◌, ◌+◌, drop, length, arith, refl, length-drop}
-use Rattle.pg_write.proofs.ParamFrames.{long_frame, frame_bytes}
+use Rattle.pg_base.proofs.Concat.{long_frame}
+use Rattle.pg_write.proofs.ParamFrames.{frame_bytes}
 use Rattle.pg_base.specs.Cells.{max_length}
 use Rattle.pg_base.specs.Counts.{number_width}
 use Rattle.pg_write.proofs.params.frame_from.Goals as goal
