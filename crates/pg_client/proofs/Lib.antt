@@ -6,3 +6,4 @@ pub mod FirstRows
 pub mod RefusedReasons
 pub mod RefusedRows
 mod RowLaws
+pub mod Turns

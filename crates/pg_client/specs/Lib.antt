@@ -4,6 +4,7 @@ pub mod Binding
 pub mod CatalogRows
 pub mod CatalogTypes
 pub mod CopyReading
+pub mod Descriptions
 pub mod Places
 pub mod RowPlaces
 pub mod Rows

@@ -18,6 +18,7 @@ mod order;
 mod refused;
 
 use firsts::{first_places, is_first};
+pub(crate) use kinds::part;
 use left::{Left, all_places, places_of};
 use order::Order;
 pub use refused::{RefusedType, TypeFault};

@@ -11,6 +11,7 @@ mod bind;
 pub mod catalog;
 mod column;
 mod copy_rows;
+mod described;
 pub mod laws;
 mod placed_fault;
 mod row;
@@ -18,6 +19,9 @@ mod row;
 pub use bind::{Bind, MAX_PARAMS};
 pub use column::{Column, ColumnName, NAME_LEN};
 pub use copy_rows::{CopyFault, CopyRows};
+pub use described::{
+    DescriptionFault, RefusedDescription, columns, parameter_types, statement_columns,
+};
 pub use pg_tuples::{HeaderFault, TupleFault};
 pub use placed_fault::{Place, PlacedFault};
 pub use row::Row;

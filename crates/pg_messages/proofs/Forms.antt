@@ -1,6 +1,7 @@
 -- Forms one after another: how long their bytes are, and what a buffer gains by them.
 use Rattle.std.proofs.Common.{◌≡◌, ◌≤◌, ◌<◌, ◌+◌, ◌-◌, ◌^◌, ◌++◌, ℕ, List, [], ◌∷◌, length, map, min, drop, get_or, Ok, Err}
-use Rattle.std.proofs.Common.{◌==◌, ◌*◌, pos, nat_le, true, false, cond, codes, refl, sym, ap, ◌∙◌, subst, append_assoc, append-nil, arith, length-append}
+use Rattle.std.proofs.Common.{◌==◌, ◌*◌, pos, nat_le, true, false, cond, if◌then◌else◌, codes, refl, sym, ap, ◌∙◌}
+use Rattle.std.proofs.Common.{Bool, subst, append_assoc, append-nil, arith, length-append}
 use Rattle.std.proofs.lemmas.List.{drop_all, drop_more}
 use Rattle.std.proofs.lemmas.Bool.Decides.{nat_tests}
 use Rattle.std.specs.Int.{to_be_bytes, w16, w32}
@@ -8,7 +9,8 @@ use Rattle.bytes.specs.Filled.{Filled}
 use Rattle.std.specs.List.{list_any}
 use Rattle.pg_base.specs.Cells.{be, fits_prefix}
 use Rattle.pg_types.specs.Faults.{Refusal, user}
-use Rattle.pg_messages.specs.Fields.{Extends, Form, HasRoomFor, Measures, after, joined, oid_form, oids_form, sized, string, sum}
+use Rattle.pg_messages.specs.Fields.{Extends, Form, HasRoomFor, Measures, after, joined, name_form, oid_form}
+use Rattle.pg_messages.specs.Fields.{oids_form, sized, string, sum}
 
 after-after : (a b : List ℕ) (f : Form) → after a (after b f) ≡ after (a ++ b) f
 after-after a b (Ok c) = ap Ok (sym (append_assoc a b c))
@@ -120,6 +122,16 @@ module _ {X : Type 0} (form : X → Form) (xs : List X) where
 pub plain_string : (text : List ℕ) → list_any (λ byte. byte == 0) text ≡ false → string text ≡ Ok (text ++ 0 ∷ [])
 plain_string text plain =
     ap (λ b. cond b (Err (user (codes "zero byte in a text"))) (Ok (text ++ 0 ∷ []))) plain
+
+-- the name of a parameter, where it is not empty
+named_if : (empty : Bool) (name : List ℕ) (room : ℕ)
+    → HasRoomFor (if empty then Err (user (codes "empty name of a parameter")) else string name) room
+    → (if empty then Err (user (codes "empty name of a parameter")) else string name) ≡ string name
+named_if true name room h = absurd h
+named_if false name room h = refl
+
+pub named : (name : List ℕ) (room : ℕ) → HasRoomFor (name_form name) room → name_form name ≡ string name
+named name room h = named_if (length name == 0) name room h
 
 -- two forms are as long as both
 pub pair_counted : (f g : Form) (m n : ℕ) → Measures f (Ok m) → Measures g (Ok n)

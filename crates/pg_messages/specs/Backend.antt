@@ -1,6 +1,7 @@
 -- The messages that a server sends ("Message Formats" in PostgreSQL's documentation): of each kind the fields, as a
 -- list of what they are, and what the bytes of a body give of them.
-use Rattle.std.specs.Prelude.{◌≡◌, ◌==◌, ℕ, ℤ, pos, List, [], ◌∷◌, Option, Some, None, Result, Ok, Err, option_map, MatchOption, if◌then◌else◌}
+use Rattle.std.specs.Prelude.{◌≡◌, ◌==◌, ℕ, ℤ, pos, List, [], ◌∷◌, Option, Some, None, Result, Ok, Err}
+use Rattle.std.specs.Prelude.{option_map, MatchOption, if◌then◌else◌}
 use Rattle.pg_messages.specs.Reading.{Split, byte_at, count_at, int2_at, int4_at, oid_at, string_at}
 use Rattle.pg_messages.specs.declared.backend.MessageFault.{MessageFault}
 use Rattle.pg_messages.specs.declared.backend.MessageFault.TheVariants.{Length, Kind, Body}
@@ -9,8 +10,8 @@ use Rattle.pg_messages.specs.declared.message.CopyFormats.{CopyFormats}
 use Rattle.pg_messages.specs.declared.message.Message.{Message}
 use Rattle.pg_messages.specs.declared.message.Message.TheVariants as m
 
--- what a field is: a byte, an unsigned integer in two bytes, an integer in two or four, an OID in four, a text that ends
--- with a zero byte, or all bytes that are left
+-- what a field is: a byte, an unsigned integer in two bytes, an integer in two or four, an OID in four, a text that
+-- ends with a zero byte, or all bytes that are left
 pub data FieldKind : Type 0 where
   byte_field : FieldKind
   count_field : FieldKind

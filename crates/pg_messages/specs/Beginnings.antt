@@ -30,6 +30,7 @@ abbrev pub Ends : ℕ → Filled → Filled → Result ⊤ Fault → Type 0
 Ends at old new (Ok done) =
     (at + 5 ≤ length old.items)
     × (length old.items - at - 1 ≤ max_length)
-    × (new.items ≡ take (at + 1) old.items ++ (to_be_bytes w32 (length old.items - at - 1) ++ drop (at + 1 + 4) old.items))
+    × (new.items
+    ≡ take (at + 1) old.items ++ (to_be_bytes w32 (length old.items - at - 1) ++ drop (at + 1 + 4) old.items))
     × (new.spare ≡ old.spare)
 Ends at old new (Err f) = (new ≡ old) × IsSomeAnd (refusal_of f) (IsNoEnd at old.items)

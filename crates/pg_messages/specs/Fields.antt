@@ -1,7 +1,8 @@
 -- The fields of messages ("Message Data Types" in PostgreSQL's documentation), messages of a tag, a length and fields,
 -- and what a buffer gains by a message.
 use Rattle.std.specs.Prelude.{◌≡◌, ◌==◌, ◌+◌, ◌<◌, ◌≤◌, ◌++◌, ℕ, pos, List, [], ◌∷◌, length, map, min, ◌^◌, ◌-◌}
-use Rattle.std.specs.Prelude.{Some, Result, Ok, Err, MatchOption, IsSomeAnd, codes, if◌then◌else◌, nat_le, ⊤}
+use Rattle.std.specs.Prelude.{Result, Ok, Err, MatchOption, IsSomeAnd, codes, if◌then◌else◌, nat_le, ⊤}
+use Rattle.std.specs.Result.{result_ok}
 use Rattle.std.specs.List.{list_any}
 use Rattle.std.specs.Borrow.{Bor}
 use Rattle.std.specs.Int.{to_be_bytes, w16, w32}
@@ -37,9 +38,13 @@ abbrev pub string : List ℕ → Form
 string text =
     if list_any (λ byte. byte == 0) text then Err (user (codes "zero byte in a text")) else Ok (text ++ 0 ∷ [])
 
+-- the name of a parameter, which is not empty, since an empty one would end the list
+abbrev pub name_form : List ℕ → Form
+name_form name = if length name == 0 then Err (user (codes "empty name of a parameter")) else string name
+
 -- the strings of a name and a value
 abbrev pub pair_form : Bor (List ℕ) × Bor (List ℕ) → Form
-pair_form pair = joined (string pair.0.now) (string pair.1.now)
+pair_form pair = joined (name_form pair.0.now) (string pair.1.now)
 
 -- an OID in four bytes
 abbrev pub oid_form : ℕ → Form
@@ -76,8 +81,8 @@ framed (Ok b) = with_length b
 framed (Err r) = Err r
 
 -- a message: its tag, if it has one, its length, and its fields
-abbrev pub message : List ℕ → List Field → Form
-message tag fields = after tag (framed (body fields))
+abbrev pub message : List ℕ → List Form → Form
+message tag fields = after tag (framed (sum fields))
 
 -- the length of a form's bytes, as a number of 8 bytes has it; or the refusal
 abbrev pub Measures : Form → Result ℕ Fault → Type 0
@@ -86,13 +91,11 @@ Measures form (Err f) = IsSomeAnd (refusal_of f) (λ r. form ≡ Err r)
 
 -- there are bytes, and room for them
 abbrev pub HasRoomFor : Form → ℕ → Type 0
-HasRoomFor (Ok b) room = length b ≤ room
-HasRoomFor (Err r) room = ⊥
+HasRoomFor form = appending.HasRoomFor (result_ok form)
 
 -- the bytes were appended, and took no more room than they have bytes
 abbrev pub Extends : Form → Filled → Filled → Type 0
-Extends (Ok b) old new = appending.Extends (Some b) old new
-Extends (Err r) old new = ⊥
+Extends form = appending.Extends (result_ok form)
 
 -- memory runs out only where the bytes have no room
 abbrev pub Lacks : Form → ℕ → Type 0
@@ -103,4 +106,5 @@ Lacks (Err r) room = ⊥
 abbrev pub Sends : Form → Filled → Filled → Result ⊤ Fault → Type 0
 Sends form old new (Ok done) = Extends form old new
 Sends form old new (Err f) =
-    (new.items ≡ old.items) × (old.spare ≤ new.spare) × MatchOption (refusal_of f) (Lacks form old.spare) (λ r. form ≡ Err r)
+    (new.items ≡ old.items) × (old.spare ≤ new.spare)
+    × MatchOption (refusal_of f) (Lacks form old.spare) (λ r. form ≡ Err r)

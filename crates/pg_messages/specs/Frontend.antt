@@ -3,15 +3,15 @@ use Rattle.std.specs.Prelude.{ℕ, ℤ, pos, List, [], ◌∷◌, Ok, map}
 use Rattle.std.specs.Borrow.{Bor}
 use Rattle.pg_base.specs.Cells.{be}
 use Rattle.std.specs.Int.{w32}
-use Rattle.pg_messages.specs.Fields.{Form, after, framed, oids_form, pair_form, sized, string, sum}
+use Rattle.pg_messages.specs.Fields.{Form, message, oids_form, pair_form, sized, string, sum}
 
--- a message: its tag, its length and its fields
+-- a message of this tag
 abbrev pub tagged : ℕ → List Form → Form
-tagged tag fields = after (tag ∷ []) (framed (sum fields))
+tagged tag = message (tag ∷ [])
 
 -- a message without a tag, as the first of a connection is
 abbrev pub untagged : List Form → Form
-untagged fields = after [] (framed (sum fields))
+untagged = message []
 
 -- an integer in four bytes
 abbrev pub int4 : ℤ → Form

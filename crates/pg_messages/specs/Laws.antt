@@ -17,7 +17,8 @@ OneMessage =
 abbrev pub SentIsTaken : Type 0
 SentIsTaken =
     (tag : ℕ) (fields : List Form) (bytes after : List ℕ) → tagged tag fields ≡ Ok bytes
-    → (body : List ℕ) × (sum fields ≡ Ok body) × BeginsMessage (bytes ++ after) tag (pos (4 + length body)) (body ++ after)
+    → (body : List ℕ) × (sum fields ≡ Ok body)
+    × BeginsMessage (bytes ++ after) tag (pos (4 + length body)) (body ++ after)
 
 -- a text that is sent is read, and so are the bytes after it
 abbrev pub StringIsRead : Type 0

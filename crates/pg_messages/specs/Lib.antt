@@ -7,3 +7,4 @@ pub mod Frontend
 pub mod Laws
 pub mod Notices
 pub mod Reading
+pub mod Receiving

@@ -1,4 +1,5 @@
--- The fields of ErrorResponse and NoticeResponse: for each a code, a text and a zero byte, and after the last a zero byte.
+-- The fields of ErrorResponse and NoticeResponse: for each a code, a text and a zero byte, and after the last a zero
+-- byte.
 use Rattle.std.specs.Prelude.{◌==◌, ℕ, Bool, true, false, List, [], ◌∷◌, Option, None, option_map, if◌then◌else◌}
 use Rattle.pg_messages.specs.Reading.{until_zero}
 

@@ -1,7 +1,9 @@
 //! The messages that a server sends.
 ghost use Rattle.std.specs.Prelude.{◌≡◌, ◌+◌, ◌≤◌, MatchOption, pos};
 ghost use Rattle.pg_messages.specs.Framing.{IsRefusedLength, Takes};
+ghost use Rattle.pg_messages.specs.Receiving.{Receives};
 
+use crate::message::Message;
 use crate::split::split_int4;
 use thiserror::Error;
 
@@ -21,18 +23,43 @@ pub enum MessageFault {
 
 /// What is at the front of the bytes that a server sent.
 #[derive(Debug, Clone, Copy)]
-pub enum Front<'a> {
-    /// A message: its tag and its body.
-    Message(u8, &'a [u8]),
+pub enum Received<'a> {
+    /// A message.
+    Message(Message<'a>),
     /// A truncated message, of which so many bytes are missing. Before its length is there, these
     /// are the bytes up to the end of the length.
     Part(usize),
 }
 
-/// Takes the message at the front of the bytes. A truncated one, and an error, leave the bytes as
-/// they were. A message of which the body has more than `most` bytes is refused with `Length`, as
-/// soon as its length is there.
-pub fn take_message<'a>(bytes: &mut &'a [u8], most: usize) -> Result<Front<'a>, MessageFault>
+/// What is at the front of the bytes that a server sent, before the body of a message is read.
+#[derive(Debug, Clone, Copy)]
+pub enum Front<'a> {
+    /// A message: its tag and its body.
+    Message(u8, &'a [u8]),
+    /// A truncated message, of which so many bytes are missing, as in [`Received`].
+    Part(usize),
+}
+
+/// Takes the message at the front of the bytes, and reads it. A truncated one, and an error, leave
+/// the bytes as they were. A message of which the body has more than `most` bytes is refused with
+/// `Length`, as soon as its length is there, and a damaged one as by [`Message::parse`].
+pub fn take_message<'a>(bytes: &mut &'a [u8], most: usize) -> Result<Received<'a>, MessageFault>
+    ensures { Receives most bytes.old.now result bytes.new.now }
+{
+    let mut rest = *bytes;
+    match take_front(&mut rest, most)? {
+        Front::Message(tag, body) => {
+            let message = Message::parse(tag, body)?;
+            *bytes = rest;
+            Ok(Received::Message(message))
+        }
+        Front::Part(missing) => Ok(Received::Part(missing)),
+    }
+}
+
+/// Takes the message at the front of the bytes as [`take_message`] does, and does not read its body,
+/// so that a message of any kind is taken.
+pub fn take_front<'a>(bytes: &mut &'a [u8], most: usize) -> Result<Front<'a>, MessageFault>
     ensures { Takes most bytes.old.now result bytes.new.now }
 {
     let [tag, after @ ..] = *bytes else {

@@ -1,14 +1,12 @@
 //! The fields of messages, and messages of a tag, a length and fields.
 ghost use Rattle.std.specs.Prelude.{◌≤◌, length, map};
 ghost use Rattle.pg_messages.specs.Fields.{Extends, HasRoomFor, Measures, Sends, body, field_form, message};
-ghost use Rattle.pg_messages.specs.Fields.{oid_form, pair_form, string, sum};
+ghost use Rattle.pg_messages.specs.Fields.{name_form, oid_form, pair_form, string, sum};
 
 use bytes::BytesMut;
+use pg_base::protocol::MAX_LEN;
 use pg_types::fault::Fault;
 use pg_types::types::Oid;
-
-/// The greatest length of a message, which counts itself and not the tag: `i32::MAX`.
-pub const MAX_LEN: usize = 2_147_483_647;
 
 /// The greatest number of types of a Parse message.
 const MAX_COUNT: usize = 65_535;
@@ -36,7 +34,7 @@ pub enum Field<'a> {
 /// fields.
 pub fn append(tag: &[u8], fields: &[Field<'_>], out: &mut BytesMut) -> Result<(), Fault>
     requires { length tag.now ≤ 1 }
-    ensures { Sends (message tag.now fields.now) out.old out.new result }
+    ensures { Sends (message tag.now (map field_form fields.now)) out.old out.new result }
 {
     let len = body_len(fields)?;
     if len > MAX_LEN - 4 {
@@ -96,13 +94,24 @@ fn string_len(text: &str) -> Result<usize, Fault>
     Ok(text.len().saturating_add(1))
 }
 
+/// Returns the length of the name of a parameter as a string. An empty name is refused, since an
+/// empty string would end the list of the parameters.
+fn name_len(name: &str) -> Result<usize, Fault>
+    ensures { Measures (name_form name.now) result }
+{
+    if name.is_empty() {
+        return Err(Fault::user("empty name of a parameter"));
+    }
+    string_len(name)
+}
+
 /// Returns the length of the strings of the pairs, at most `usize::MAX`.
 fn pairs_len(pairs: &[(&str, &str)]) -> Result<usize, Fault>
     ensures { Measures (sum (map pair_form pairs.now)) result }
 {
     let mut len: usize = 0;
     for (name, value) in pairs {
-        let pair = string_len(name)?.saturating_add(string_len(value)?);
+        let pair = name_len(name)?.saturating_add(string_len(value)?);
         len = len.saturating_add(pair);
     }
     Ok(len)

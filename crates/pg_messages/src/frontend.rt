@@ -6,11 +6,13 @@
 ghost use Rattle.std.specs.Prelude.{[]};
 ghost use Rattle.pg_messages.specs.Fields.{Sends};
 ghost use Rattle.pg_messages.specs.Beginnings.{Begins, Ends, begun_bind};
-ghost use Rattle.pg_messages.specs.Frontend.{cancel_request, close, copy_data, copy_fail, describe, empty, execute, gssenc_request, parse, password_message, query, sasl_initial_response, sasl_response, ssl_request, startup};
+ghost use Rattle.pg_messages.specs.Frontend.{cancel_request, close, copy_data, copy_fail, describe, empty};
+ghost use Rattle.pg_messages.specs.Frontend.{execute, gssenc_request, parse, password_message, query};
+ghost use Rattle.pg_messages.specs.Frontend.{sasl_initial_response, sasl_response, ssl_request, startup};
 
-use crate::field::{Field, MAX_LEN, append};
+use crate::field::{Field, append};
 use bytes::BytesMut;
-use pg_base::protocol::set_number;
+use pg_base::protocol::{MAX_LEN, set_number};
 use pg_types::fault::Fault;
 use pg_types::types::Oid;
 
@@ -18,7 +20,8 @@ use pg_types::types::Oid;
 const VERSION: i32 = 196_608;
 
 /// Appends a StartupMessage, the first message of a connection: the version 3.0 of the protocol, and
-/// the names and values of parameters, of which `user` is required.
+/// the names and values of parameters, of which `user` is required. An empty name, which would end
+/// the list, is refused with `User`, with the text `empty name of a parameter`.
 pub fn startup_message(parameters: &[(&str, &str)], out: &mut BytesMut) -> Result<(), Fault>
     ensures { Sends (startup parameters.now) out.old out.new result }
 {

@@ -2,8 +2,7 @@
 //! bytes that the caller sends and receives.
 //!
 //! A call of [`frontend`] appends a message to a buffer. [`backend::take_message`] takes a message off
-//! the front of received bytes, and [`message::Message::parse`] reads its body. Nothing but the
-//! buffer is allocated.
+//! the front of received bytes. Nothing but the buffer is allocated.
 #![tactic(auto)]
 
 pub mod backend;

@@ -85,7 +85,7 @@ pub(super) fn kind_of(
 }
 
 /// Returns a part of a type: the type with this OID.
-fn part(catalog: &Catalog, oid: Oid) -> Result<Type, TypeFault>
+pub(crate) fn part(catalog: &Catalog, oid: Oid) -> Result<Type, TypeFault>
     ensures part { IfOk result (λ ty. IsTypeOf (table_of catalog.now) oid (content ty)) }
     ensures why { IfErr result (IsWhyNoPart (table_of catalog.now) oid) }
 {

@@ -4,6 +4,7 @@
 mod bind;
 mod catalog;
 mod copy_rows;
+mod described;
 mod places;
 mod received_messages;
 mod row_ends;

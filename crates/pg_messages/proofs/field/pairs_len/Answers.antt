@@ -10,5 +10,5 @@ pub loop-name-preserved : goal.loop-name-preserved
 loop-name-preserved c =
     rw (c.saturating_add-len.ensures, c.saturating_add-pair.ensures) (
     one_counted pair_form c.args.pairs.now c.loop-name.name-index c.loop-name.len _ _ c.loop-name-test.true
-    (pair_counted _ _ _ _ c.in_ok-string_len.ensures c.in_ok-string_len-2.ensures) c.loop-name.invariant
+    (pair_counted _ _ _ _ c.in_ok-name_len.ensures c.in_ok-string_len.ensures) c.loop-name.invariant
     )

@@ -1,92 +1,145 @@
 //! The messages that a server sends: how their bytes are taken, and what their bodies say.
 
-use pg_messages::backend::{Front, MessageFault, take_message};
+use pg_messages::backend::{MessageFault, Received, take_front, take_message};
 use pg_messages::column::split_column;
 use pg_messages::message::Message;
 use pg_messages::notice::notice_field;
+use postgres_types::BytesMut;
 use std::test::Fail;
 use test_support::{debugs, displays, holds, same};
 
-/// Of each kind a body, and the text of `Debug` of what it says.
-const BODIES: [(u8, &[u8], &str); 24] = [
-    (b'1', b"", "ParseComplete"),
-    (b'2', b"", "BindComplete"),
-    (b'3', b"", "CloseComplete"),
+/// Of each kind a body, the least length at which a body cut short is not refused, and the text of
+/// `Debug` of what the whole one says.
+const BODIES: [(u8, &[u8], usize, &str); 24] = [
+    (b'1', b"", 0, "ParseComplete"),
+    (b'2', b"", 0, "BindComplete"),
+    (b'3', b"", 0, "CloseComplete"),
     (
         b'A',
         b"\0\0\0\x07news\0hello\0",
+        15,
         "NotificationResponse { process: 7, channel: \"news\", payload: \"hello\" }",
     ),
-    (b'C', b"INSERT 0 1\0", "CommandComplete(\"INSERT 0 1\")"),
+    (b'C', b"INSERT 0 1\0", 11, "CommandComplete(\"INSERT 0 1\")"),
     (
         b'D',
         b"\0\x01\xff\xff\xff\xff",
+        0,
         "DataRow([0, 1, 255, 255, 255, 255])",
     ),
     (
         b'E',
         b"SERROR\0\0",
+        0,
         "ErrorResponse([83, 69, 82, 82, 79, 82, 0, 0])",
     ),
     (
         b'G',
         b"\x01\0\x01\0\x01",
+        3,
         "CopyInResponse(CopyFormats { format: 1, count: 1, formats: [0, 1] })",
     ),
     (
         b'H',
         b"\0\0\0",
+        3,
         "CopyOutResponse(CopyFormats { format: 0, count: 0, formats: [] })",
     ),
-    (b'I', b"", "EmptyQueryResponse"),
+    (b'I', b"", 0, "EmptyQueryResponse"),
     (
         b'K',
         b"\0\0\0\x02\xff\0\0\x01",
+        4,
         "BackendKeyData { process: 2, key: [255, 0, 0, 1] }",
     ),
-    (b'N', b"\0", "NoticeResponse([0])"),
+    (b'N', b"\0", 0, "NoticeResponse([0])"),
     (
         b'R',
         b"\0\0\0\x05salt",
+        4,
         "Authentication { code: 5, parameters: [115, 97, 108, 116] }",
     ),
     (
         b'S',
         b"TimeZone\0UTC\0",
+        13,
         "ParameterStatus { name: \"TimeZone\", value: \"UTC\" }",
     ),
-    (b'T', b"\0\0", "RowDescription { count: 0, columns: [] }"),
+    (b'T', b"\0\0", 2, "RowDescription { count: 0, columns: [] }"),
     (
         b'V',
         b"\xff\xff\xff\xff",
+        0,
         "FunctionCallResponse([255, 255, 255, 255])",
     ),
     (
         b'W',
         b"\x01\x01\x02",
+        3,
         "CopyBothResponse(CopyFormats { format: 1, count: 258, formats: [] })",
     ),
-    (b'Z', b"I", "ReadyForQuery(73)"),
-    (b'c', b"", "CopyDone"),
-    (b'd', b"\x07", "CopyData([7])"),
-    (b'n', b"", "NoData"),
-    (b's', b"", "PortalSuspended"),
+    (b'Z', b"I", 1, "ReadyForQuery(73)"),
+    (b'c', b"", 0, "CopyDone"),
+    (b'd', b"\x07", 0, "CopyData([7])"),
+    (b'n', b"", 0, "NoData"),
+    (b's', b"", 0, "PortalSuspended"),
     (
         b't',
         b"\0\x01\0\0\0\x17",
+        2,
         "ParameterDescription { count: 1, oids: [0, 0, 0, 23] }",
     ),
     (
         b'v',
         b"\0\x03\0\0\0\0\0\x01_pq_.x\0",
+        8,
         "NegotiateProtocolVersion { newest: 196608, count: 1, options: [95, 112, 113, 95, 46, 120, 0] }",
     ),
 ];
 
 #[test]
 fn each_kind_is_read(rt: HostRuntime) -> Result<(), Fail> {
-    for (tag, body, text) in BODIES {
+    for (tag, body, _, text) in BODIES {
         debugs(rt.alloc(), &Message::parse(tag, body)?, text)?;
+    }
+    Ok(())
+}
+
+/// Tests that fronts of this body are refused if they have fewer bytes than `least`.
+fn is_refused_below(least: usize, tag: u8, body: &[u8]) -> Result<(), Fail> {
+    for len in 0..body.len() {
+        let is_refused = Message::parse(tag, &body[..len]).is_err();
+        holds(is_refused == (len < least), "another length")?;
+    }
+    Ok(())
+}
+
+#[test]
+fn each_body_is_cut_short(_rt: HostRuntime) -> Result<(), Fail> {
+    for (tag, body, least, _) in BODIES {
+        is_refused_below(least, tag, body)?;
+    }
+    Ok(())
+}
+
+/// Tests how many bytes are missing of each front of this message.
+fn is_truncated(message: &[u8]) -> Result<(), Fail> {
+    for len in 0..message.len() {
+        let whole = if len < 5 { 5 } else { message.len() };
+        is_part(&message[..len], whole - len)?;
+    }
+    Ok(())
+}
+
+#[test]
+fn each_message_is_truncated(rt: HostRuntime) -> Result<(), Fail> {
+    for (tag, body, _, _) in BODIES {
+        let Ok(len) = u8::try_from(body.len().saturating_add(4)) else {
+            return Err(Fail::from("a long body"));
+        };
+        let mut message = BytesMut::copy_from_slice(rt.alloc(), &[tag, 0, 0, 0, len])?;
+        message.extend_from_slice(body)?;
+        is_truncated(message.as_slice())?;
     }
     Ok(())
 }
@@ -142,8 +195,8 @@ const STREAM: &[u8] = b"C\0\0\0\x0dSELECT 1\0Z\0\0\0\x05T";
 fn is_part(bytes: &[u8], missing: usize) -> Result<(), Fail> {
     let mut left = bytes;
     match take_message(&mut left, 100)? {
-        Front::Part(found) => same(found, missing)?,
-        Front::Message(..) => return Err(Fail::from("a message")),
+        Received::Part(found) => same(found, missing)?,
+        Received::Message(_) => return Err(Fail::from("a message")),
     }
     same(left, bytes)
 }
@@ -155,11 +208,33 @@ fn messages_are_taken_one_by_one(rt: HostRuntime) -> Result<(), Fail> {
     debugs(
         alloc,
         &take_message(&mut left, 9)?,
-        "Message(67, [83, 69, 76, 69, 67, 84, 32, 49, 0])",
+        "Message(CommandComplete(\"SELECT 1\"))",
     )?;
     same(left, b"Z\0\0\0\x05T".as_slice())?;
-    debugs(alloc, &take_message(&mut left, 1)?, "Message(90, [84])")?;
+    debugs(
+        alloc,
+        &take_message(&mut left, 1)?,
+        "Message(ReadyForQuery(84))",
+    )?;
     is_part(left, 5)
+}
+
+#[test]
+fn a_damaged_message_is_left(rt: HostRuntime) -> Result<(), Fail> {
+    let damaged: &[u8] = b"Z\0\0\0\x06IIZ";
+    let mut left = damaged;
+    same(
+        take_message(&mut left, 9).err(),
+        Some(MessageFault::Body(b'Z')),
+    )?;
+    same(left, damaged)?;
+    debugs(
+        rt.alloc(),
+        &take_front(&mut left, 9)?,
+        "Message(90, [73, 73])",
+    )?;
+    same(left, b"Z".as_slice())?;
+    debugs(rt.alloc(), &take_front(&mut left, 9)?, "Part(4)")
 }
 
 #[test]

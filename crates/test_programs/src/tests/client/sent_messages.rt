@@ -100,6 +100,8 @@ fn refused_messages_leave_the_buffer(rt: HostRuntime) -> Result<(), Fail> {
     refused(sent, USER, &out)?;
     let sent = startup_message(&[("user", "me"), ("a", "b\0")], &mut out);
     refused(sent, USER, &out)?;
+    let sent = startup_message(&[("user", "me"), ("", "b")], &mut out);
+    refused(sent, USER, &out)?;
     let mut types = Vec::new(alloc);
     types.resize(65_536, 23)?;
     let sent = parse("", "", types.as_slice(), &mut out);

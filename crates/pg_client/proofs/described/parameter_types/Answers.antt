@@ -1,0 +1,36 @@
+-- What the proof of `parameter_types` answers by hand.
+use Rattle.std.proofs.Common.{◌≡◌, ◌∷◌, ◌++◌, ◌∙◌, [], true, arith, inl, inr, length-append, refl, rules, subst, sym}
+use Rattle.std.specs.Result.{is_ok}
+use Rattle.std.proofs.lemmas.Result.{err_from_is_err_and}
+use Rattle.pg_client.specs.CatalogTypes.{table_of}
+use Rattle.pg_client.specs.Descriptions.{IsType, IsWhyNoType}
+use Rattle.pg_client.proofs.Turns.{one_more}
+use Rattle.pg_client.proofs.described.parameter_types.Goals as goal
+
+pub returns-in_err-ty : goal.returns-in_err-ty
+returns-in_err-ty c =
+    let p = err_from_is_err_and c.from_residual.result c.from_residual.ensures.1 in
+    let so_far = c.loop-place.invariant in
+    let rest = c.loop-place.rest.now in
+    rw (p.1, p.2) (inr (
+      c.loop-place.types.items,
+      rest,
+      so_far.1,
+      inl (
+        omega (arith, so_far.0, c.loop-place-test.true, c.from-place-end.ensures),
+        subst (λ n. IsWhyNoType (table_of c.args.catalog.now) n rest c.in_err-ty.field-0.0) (sym so_far.0)
+            c.in_err-ty.ensures.why.0,
+      ),
+    ))
+
+pub loop-place-preserved : goal.loop-place-preserved
+loop-place-preserved c =
+    let so_far = c.loop-place.invariant in
+    let kept : is_ok c.push.result ≡ true = search rules in
+    let items : c.push.new.self.items ≡ c.loop-place.types.items ++ c.in_ok-ty.ty ∷ [] =
+    c.push.ensures.items ∙ rw kept refl in
+    rw items (
+      omega (arith, so_far.0, length-append c.loop-place.types.items (c.in_ok-ty.ty ∷ [])),
+      one_more (IsType (table_of c.args.catalog.now)) c.loop-place.types.items c.in_ok-ty.ty
+          c.args.oids.now c.loop-place.rest.now c.take_type.new.rest.now so_far.1 c.in_ok-ty.ensures.ty,
+    )
