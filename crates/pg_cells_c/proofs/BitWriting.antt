@@ -1,12 +1,11 @@
 -- Steps of writing bits.
-use Rattle.std.specs.Prelude.{◌≡◌, ◌≢◌, ◌==◌, ◌∷◌, [], ◌++◌, ℕ, ◌<◌, ◌≤◌, List, length, pos, true, false, Some}
+use Rattle.std.specs.Prelude.{◌≡◌, ◌≢◌, ◌==◌, ◌∷◌, [], ◌++◌, ℕ, ◌<◌, ◌≤◌, List, length, pos, true, false}
 use Rattle.std.specs.Int.{w32}
-use Rattle.std.proofs.Common.{arith, ap, sym, refl, subst, ◌∙◌, append_assoc, get_or}
+use Rattle.std.proofs.Common.{arith, ap, sym, subst, ◌∙◌, append_assoc, get_or}
 use Rattle.std.proofs.lemmas.Bool.Decides.{nat_tests}
-use Rattle.pg_base.specs.Bits.{bits_cell, bytes_for, first_bits, packed, pad_of, without_low}
-use Rattle.pg_base.specs.Cells.{be, fits_prefix, max_length}
+use Rattle.pg_base.specs.Bits.{bytes_for, first_bits, packed, pad_of, without_low}
+use Rattle.pg_base.specs.Cells.{be, max_length}
 use Rattle.pg_base.proofs.BitCells.{cell_past, cell_within}
-use Rattle.pg_base.proofs.BitLemmas.{first_bits_len}
 use Rattle.pg_base.proofs.PadLemmas.{packed_none, packed_parts}
 use Rattle.pg_cells_c.specs.Writings.{WritesCell, WritesInto, no_cell, wire_first_bits}
 

@@ -1,5 +1,5 @@
 -- Steps of what builders are for.
-use Rattle.std.specs.Prelude.{◌≡◌, ◌==◌, ◌&&◌, ◌||◌, ℕ, ◌+◌, ◌<◌, ◌≤◌, List, [], ◌∷◌, ◌++◌, length, take, drop, Bool}
+use Rattle.std.specs.Prelude.{◌≡◌, ◌==◌, ◌||◌, ℕ, ◌+◌, ◌<◌, ◌≤◌, List, [], ◌∷◌, ◌++◌, length, take, drop, Bool}
 use Rattle.std.specs.Prelude.{true}
 use Rattle.std.specs.Prelude.{false, not, if◌then◌else◌, nat_lt, Option, Some, None, option_map, refl}
 use Rattle.std.specs.List.{list_any}

@@ -14,7 +14,7 @@ use Rattle.std.proofs.lemmas.List.{drop-drop, length-append}
 use Rattle.pg_base.proofs.BitLemmas.{first_bits_len, packed_len}
 use Rattle.pg_base.proofs.CellLaws.{cell_by as law_cell_by, cell_then}
 use Rattle.pg_base.proofs.Completeness.{both_pass, first_passes, right_length}
-use Rattle.pg_base.proofs.FrameLaws.{bytes-frame, fits_length, frame-bytes, parts_of}
+use Rattle.pg_base.proofs.FrameLaws.{bytes-frame, fits_length, frame-bytes}
 use Rattle.pg_base.specs.Arrays.{has_null}
 use Rattle.pg_base.specs.Bits.{bytes_for, first_bits, packed}
 use Rattle.pg_base.specs.Cells.{Cell, Spells, be, cell_of, frame, frames, max_length}

@@ -4,7 +4,6 @@ use Rattle.std.specs.Prelude.{if◌then◌else◌, ◌==◌}
 use Rattle.std.specs.Int.{w32}
 use Rattle.std.specs.List.{starts_with}
 use Rattle.std.proofs.Common.{arith, ap, sym, subst, ◌∙◌}
-use Rattle.std.proofs.Math.Seq.{drop-append_seam}
 use Rattle.std.proofs.lemmas.List.{drop-append-le, drop-drop, drop_at, length-append, length-drop, take_at}
 use Rattle.pg_base.specs.Arrays.{SpellsDimension, SpellsDimensions, SpellsHead}
 use Rattle.pg_base.specs.Cells.{IsBeUnsigned}

@@ -3,7 +3,6 @@ use Rattle.std.specs.Prelude.{◌≡◌, ℕ, ◌+◌, ◌<◌, ◌≤◌, List,
 use Rattle.std.specs.Prelude.{Bool, IsUtf8, Some, ℤ, pos}
 use Rattle.std.specs.Int.{w32, w64}
 use Rattle.std.specs.Str.{is_utf8}
-use Rattle.std.proofs.lemmas.Str.{IsUtf8-from_is_utf8}
 use Rattle.pg_base.specs.Cells.{be, fits_prefix, frame, max_length, versioned_cell}
 use Rattle.pg_base.specs.Appending.{wire_of}
 use Rattle.pg_base.specs.Interval.{interval_bytes}

@@ -4,7 +4,8 @@
 //! [`Row`] reads columns one after another or in any order, [`CopyRows`] gives the rows of a COPY,
 //! and [`Bind`] appends parameters to a buffer. A fault names the column or the parameter
 //! ([`PlacedFault`]), or the row of a COPY ([`CopyFault`]). [`catalog`] makes types from the system
-//! catalogs of the server.
+//! catalogs of the server. [`columns`] and [`statement_columns`] make the columns of a
+//! RowDescription message, and [`parameter_types`] the types of a ParameterDescription.
 #![tactic(auto)]
 
 mod bind;

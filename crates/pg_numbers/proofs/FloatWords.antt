@@ -1,5 +1,5 @@
 -- Words that are read as a value that is no finite number, and texts of numbers that are in range.
-use Rattle.std.specs.Prelude.{◌≡◌, ◌++◌, ◌*◌, ◌<◌, ◌^◌, ◌&&◌, ℕ, suc, Some, None, Bool, true, false, codes, pos, negsuc, refl, from_bits}
+use Rattle.std.specs.Prelude.{◌≡◌, ◌++◌, ◌*◌, ◌<◌, ◌^◌, ℕ, suc, Some, None, Bool, true, false, codes, pos, negsuc, refl, from_bits}
 use Rattle.std.specs.Float.Ieee.{eq, fits, is_nan, up, down}
 use Rattle.std.specs.Float.{Float, Format, binary32, binary64, nan, inf, fin, float_is_finite, float_is_infinite, float_zero, is_sign_negative}
 use Rattle.std.specs.Float.Numeral.{has_digits, scan_numeral}

@@ -1,6 +1,6 @@
 -- The frames of elements, one after another, after an array's head.
 use Rattle.std.proofs.Common.{◌≡◌, ◌<◌, ◌≤◌, ◌+◌, ◌++◌, ℕ, ℤ, pos, List, [], ◌∷◌, length, take, drop, get_or}
-use Rattle.std.proofs.Common.{Some, None, Bool, true, false, cond, is_none, ◌||◌, option_map, Ok, Err, refl, sym, ap, ap₂}
+use Rattle.std.proofs.Common.{Some, Bool, true, false, cond, ◌||◌, option_map, Ok, Err, refl, sym, ap, ap₂}
 use Rattle.std.proofs.Common.{◌∙◌, subst, arith, append_assoc, length-append}
 use mir.Val.{bool_byte}
 use Rattle.std.specs.Int.{w32, to_be_bytes}

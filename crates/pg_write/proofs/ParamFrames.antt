@@ -16,7 +16,7 @@ use Rattle.pg_types.specs.declared.format.IsNull.TheVariants.{No}
 use Rattle.pg_write.specs.ArrayWriting.{element_frame_cell, with_frame}
 use Rattle.pg_write.specs.ParamWriting.{AppendsFrameOrPart, FrameFollows, FramesFrom}
 use Rattle.pg_write.specs.Writing.{Writes}
-use Rattle.pg_base.proofs.Concat.{cond_passes, long_frame}
+use Rattle.pg_base.proofs.Concat.{cond_passes}
 
 cond_fails : (t : Bool) (b : List ℕ) → t ≡ false → cond t (Some b) None ≡ None
 cond_fails true b e = let no : ⊥ = cc in absurd no

@@ -1,5 +1,5 @@
 -- The frames of parameters, one after another.
-use Rattle.std.proofs.Common.{◌≡◌, ◌<◌, ◌≤◌, ◌+◌, ◌++◌, ℕ, List, [], ◌∷◌, length, take, drop, get_or, zip, Some, Ok}
+use Rattle.std.proofs.Common.{◌≡◌, ◌<◌, ◌≤◌, ◌+◌, ◌++◌, ℕ, List, [], ◌∷◌, length, take, drop, get_or, zip, Ok}
 use Rattle.std.proofs.Common.{Err, IfNone, IsOk, Option, refl, ap, sym, ◌∙◌, subst, arith, append_assoc, length-append}
 use Rattle.bytes.specs.Filled.{Filled}
 use Rattle.std.specs.Bool.{⊤}
@@ -9,11 +9,10 @@ use Rattle.std.proofs.lemmas.List.{take-append-drop, take_all}
 use Rattle.std.proofs.lemmas.Option.{slice_get_read}
 use Rattle.std.proofs.lemmas.Slice.Zip.{get_or-zip, length-zip}
 use Rattle.pg_base.specs.Appending.{KeepsCapacity, Wire}
-use Rattle.pg_base.specs.Cells.{Cell, frame, frames, concat}
+use Rattle.pg_base.specs.Cells.{frame, frames}
 use Rattle.pg_types.specs.Faults.{Outcome, Refusal}
 use Rattle.pg_types.specs.declared.fault.Fault.{Fault}
-use Rattle.pg_base.proofs.Concat.{frames-append, next_frames}
-use Rattle.pg_base.proofs.Concat.{concat-nil}
+use Rattle.pg_base.proofs.Concat.{next_frames}
 use Rattle.pg_write.proofs.ElementCells.{next_cell}
 use Rattle.pg_write.specs.ArrayWriting.{element_cells, element_frame_cell, with_frame}
 use Rattle.pg_write.proofs.ParamRoom.{each_at, frames_before, frames_take, if_none_then, same_frames_len}
