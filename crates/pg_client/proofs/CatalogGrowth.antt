@@ -1,6 +1,6 @@
 -- A table that takes one more type has what it had, and what rows describe there they still describe.
 use Rattle.std.proofs.Common.{◌≡◌, ◌≢◌, ◌∙◌, sym, ap, ℕ, List, [], ◌∷◌, Option, Some, None, inl, inr, ⊎_elim, refl}
-use Rattle.std.proofs.Common.{IsSome}
+use Rattle.std.proofs.Common.{IsSome, IfNone, is_some, false}
 use Rattle.std.proofs.lemmas.Bool.{cases_eq}
 use Rattle.std.specs.Option.{IsSomeAnd}
 use Rattle.std.specs.List.{AllZip, slice_get}
@@ -38,6 +38,11 @@ some_at P (Some y) x e h = let f : y ≡ x = cc in rw (sym f) h
 pub some_weaker : {A : Type 0} (P Q : A → Type 0) (o : Option A) → ((x : A) → P x → Q x) → IsSomeAnd o P → IsSomeAnd o Q
 some_weaker P Q None f h = h
 some_weaker P Q (Some x) f h = f x h
+
+-- where no value is there, what holds then
+pub where_none : {A : Type 0} {P : Type 0} (o : Option A) → is_some o ≡ false → IfNone o P → P
+where_none None none h = h
+where_none (Some x) none h = absurd cc
 
 -- the same of pairs
 all_weaker : {A B : Type 0} (R S : A → B → Type 0) (xs : List A) (ys : List B) → ((x : A) (y : B) → R x y → S x y)

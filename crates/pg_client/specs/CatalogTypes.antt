@@ -1,11 +1,12 @@
 -- The types of a catalog, and what its rows describe.
-use Rattle.std.specs.Prelude.{◌≡◌, ◌≢◌, ℕ, List, map, length, None, IsSome}
+use Rattle.std.specs.Prelude.{◌≡◌, ◌≢◌, ℕ, List, map, length, None, Some, IsSome}
 use Rattle.std.specs.Option.{IsSomeAnd, MatchOption}
 use Rattle.std.specs.List.{AllZip, Contains, zip}
 use Rattle.std.specs.Ordering.{nat_cmp}
 use Rattle.std.specs.BTreeMap.{get}
 use mathlib.Core.Logic.{◌⊎◌}
 use denote.Ref.{Bor}
+use Rattle.pg_types.specs.declared.types.PgType.{PgType}
 use Rattle.pg_types.specs.declared.types.kind.Field.{Field}
 use Rattle.pg_types.specs.BuiltInRows.{row_oid}
 use Rattle.pg_types.specs.Content.{Content, IsBuiltIn, KindContent, SimpleKind, EnumKind, PseudoKind, ArrayKind}
@@ -128,3 +129,16 @@ abbrev pub IsWhyNotAdded : Table → TypeRow → TypeFault → Type 0
 IsWhyNotAdded table row Memory = Unit {0}
 IsWhyNotAdded table row Duplicate = IsSome (get nat_cmp table row.oid)
 IsWhyNotAdded table row fault = IsWhy table row fault
+
+-- the second table has this type besides those of the first
+abbrev pub Inserts : Table → PgType → Table → Type 0
+Inserts table ty after =
+    IsUnknown table (oid_of (content ty))
+    × (get nat_cmp after (oid_of (content ty)) ≡ Some ty)
+    × ((oid : ℕ) → oid ≢ oid_of (content ty) → get nat_cmp after oid ≡ get nat_cmp table oid)
+
+-- the fault says why a type with this OID is not inserted: there is one
+abbrev pub IsWhyNotInserted : Table → ℕ → TypeFault → Type 0
+IsWhyNotInserted table oid Memory = Unit {0}
+IsWhyNotInserted table oid Duplicate = IsUnknown table oid → ⊥
+IsWhyNotInserted table oid _ = ⊥

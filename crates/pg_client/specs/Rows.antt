@@ -4,6 +4,9 @@ use Rattle.std.specs.Prelude.{◌≡◌, ◌≢◌, ◌⊎◌, ◌<◌, ◌≤�
 use Rattle.std.specs.Prelude.{drop}
 use Rattle.std.specs.Prelude.{Option, Some, None, Result, Ok, Err, codes, slice_get, ⊤}
 use Rattle.std.specs.Int.{w16}
+use Rattle.std.specs.List.{position}
+use Rattle.std.specs.Str.{bytes_eq}
+use Rattle.arrayvec.specs.ArrayString.{ArrayString}
 use Rattle.pg_base.specs.Cells.{Cell, IsBe, SpellsAll, SpellsNone}
 use Rattle.pg_types.specs.Content.{Content, IsBuiltIn}
 use Rattle.pg_types.specs.Faults.{Outcome, field_count, size, user, wrong_type}
@@ -98,6 +101,18 @@ abbrev pub ReadsNext : {A : Type 0} → (Cell → Outcome A → Type 0) → (Cel
     → Type 0
 ReadsNext reads free old result new =
     BeginsWithCells (λ cs rest. ReadsNextCell reads free old cs rest result new) (rest_of old) 1
+
+-- whether a column has this name
+abbrev pub is_name : List ℕ → Option ArrayString → Bool
+is_name name None = false
+is_name name (Some own) = bytes_eq own.bytes name
+
+abbrev pub has_name : List ℕ → Column → Bool
+has_name name column = is_name name column.name
+
+-- the index of the first column with this name
+abbrev pub place_named : List ℕ → List Column → Option ℕ
+place_named name = position (has_name name)
 
 -- n cells were skipped; or the one after the first k is truncated
 abbrev pub PassesCells : ℕ → List ℕ → Result ⊤ ℕ → List ℕ → Type 0

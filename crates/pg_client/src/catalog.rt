@@ -82,7 +82,8 @@ pub struct Catalog {
 }
 
 impl Catalog {
-    ghost use Rattle.pg_client.specs.CatalogTypes.{AddsOrHas, IsTypeOf, IsUnknown, IsWhyNotAdded, NotBuiltIn};
+    ghost use Rattle.pg_client.specs.CatalogTypes.{AddsOrHas, Inserts, IsTypeOf, IsUnknown, IsWhyNotAdded, IsWhyNotInserted};
+    ghost use Rattle.pg_client.specs.CatalogTypes.{NotBuiltIn};
     ghost use Rattle.pg_client.specs.CatalogTypes.{refused_of, table_of};
     ghost use Rattle.pg_client.specs.RowPlaces.{HasFirsts, IsFirst};
     ghost use Rattle.pg_client.specs.WholeCatalogs.{AreDescribed, AreMadeOrLeft, AreRefused, AreStuck, AreTold, Ascend};
@@ -170,6 +171,23 @@ impl Catalog {
         let schema = String::from_str(alloc, row.schema)?;
         let ty = kinds::user_defined(alloc, name, row.oid, kind, schema)?;
         self.types.insert(row.oid, ty)?;
+        Ok(())
+    }
+
+    /// Adds this type, as one of the caller's own knows it. It fails with
+    /// [`Duplicate`](TypeFault::Duplicate) if the OID has a type, a built-in one included, and with
+    /// [`Memory`](TypeFault::Memory). A fault leaves the catalog, and its refused rows, as they were.
+    pub fn insert(&mut self, ty: Type) -> Result<(), TypeFault>
+        ensures ok { OnOk result (Inserts (table_of self.old) ty (table_of self.new)) }
+        ensures kept { OnErr result ((table_of self.new).entries ≡ (table_of self.old).entries) }
+        ensures why { IfErr result (IsWhyNotInserted (table_of self.old) (oid_of (content ty))) }
+        ensures refused { refused_of self.new ≡ refused_of self.old }
+    {
+        let oid = ty.oid();
+        if self.get(oid).is_some() {
+            return Err(TypeFault::Duplicate);
+        }
+        self.types.insert(oid, ty)?;
         Ok(())
     }
 

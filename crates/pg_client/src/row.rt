@@ -1,9 +1,9 @@
 //! The row of a DataRow message.
-ghost use Rattle.std.specs.Prelude.{◌≡◌, ◌-◌, None, Some, IfNone, IfSome, codes, length, slice_get};
+ghost use Rattle.std.specs.Prelude.{◌≡◌, ◌↔◌, ◌-◌, [], IsTrue, None, Some, IfNone, IfSome, codes, length, slice_get};
 ghost use Rattle.pg_base.specs.Cells.{cell_of};
-ghost use Rattle.pg_client.specs.Places.{AnswersAt, IsFaultAt, NeverMemoryAt, column_place};
+ghost use Rattle.pg_client.specs.Places.{AnswersAt, IsFaultAt, NeverMemoryAt, RefusesAt, column_place};
 ghost use Rattle.pg_client.specs.Rows.{EndsRow, FreeAs, IsRowOf, IsUnread, NoColumn, PassesCells, ReadsAs, ReadsColumn};
-ghost use Rattle.pg_client.specs.Rows.{ReadsNext};
+ghost use Rattle.pg_client.specs.Rows.{ReadsNext, has_name, place_named};
 ghost use Rattle.pg_client.specs.Rows.{StandsAt, columns_of, frames_of, rest_of, taken_of};
 ghost use Rattle.pg_types.specs.Content.{content};
 ghost use Rattle.pg_types.specs.Faults.{Answers, NeverMemory, user};
@@ -58,6 +58,28 @@ impl<'a, 'c> Row<'a, 'c> {
         }
     }
 
+    /// Returns the columns of the row.
+    pub fn columns(&self) -> &'c [Column]
+        ensures { result.now ≡ columns_of self.now }
+    {
+        let Row { columns, .. } = self;
+        columns
+    }
+
+    /// Returns the number of columns.
+    pub fn len(&self) -> usize
+        ensures { result ≡ length (columns_of self.now) }
+    {
+        self.columns().len()
+    }
+
+    /// Returns whether the row has no columns.
+    pub fn is_empty(&self) -> bool
+        ensures { IsTrue result ↔ (columns_of self.now ≡ []) }
+    {
+        self.columns().is_empty()
+    }
+
     /// Reads the column at index `place`, counted from 0, in any order and as often as wanted. It
     /// reads the frame as `read_value` does.
     ///
@@ -82,6 +104,22 @@ impl<'a, 'c> Row<'a, 'c> {
         match take_cell(&mut rest) {
             Ok(cell) => convert(alloc, column, place, cell),
             Err(fault) => Err(PlacedFault::new(place_of(self.columns, place), fault)),
+        }
+    }
+
+    /// Reads the first column with this name as [`get`](Row::get) does. A name that no column has is
+    /// refused with `User` and the text `no such column`, at [`Place::Row`].
+    pub fn get_by_name<T: FromSql<'a>>(&self, alloc: Global, name: &str) -> Result<T, PlacedFault>
+        ensures named { IfSome (place_named name.now (columns_of self.now)) (λ place.
+            IfSome (slice_get (columns_of self.now) place) (λ column. ReadsColumn place (columns_of self.now)
+            (ReadsAs (T.accepted (content column.ty)) (content column.ty) (T.reads (content column.ty)))
+            (FreeAs (T.accepted (content column.ty)) (content column.ty) T.memory_free) (frames_of self.now) result)) }
+        ensures unnamed { IfNone (place_named name.now (columns_of self.now))
+            (RefusesAt Place.Row (user (codes "no such column")) result) }
+    {
+        match place_named(name, self.columns) {
+            Some(place) => self.get(alloc, place),
+            None => Err(PlacedFault::new(Place::Row, Fault::user("no such column"))),
         }
     }
 
@@ -140,6 +178,23 @@ fn column_at(columns: &[Column], place: usize) -> Option<&Column>
     ensures none { IfNone result (slice_get columns.now place ≡ None) }
 {
     columns.get(place)
+}
+
+/// Returns the index of the first column with this name.
+fn place_named(name: &str, columns: &[Column]) -> Option<usize>
+    ensures { result ≡ place_named name.now columns.now }
+{
+    columns.iter().position(|column| has_name(name, column))
+}
+
+/// Returns whether the column has this name.
+fn has_name(name: &str, column: &Column) -> bool
+    ensures { result ≡ has_name name.now column.now }
+{
+    match &column.name {
+        Some(own) => own.as_str() == name,
+        None => false,
+    }
 }
 
 /// Returns the place of a column.

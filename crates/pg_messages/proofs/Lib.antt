@@ -4,3 +4,4 @@ pub mod Strings
 pub mod Bodies
 pub mod NoticeFields
 pub mod MessageLaws
+mod CommandTags

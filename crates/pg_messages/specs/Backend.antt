@@ -1,8 +1,11 @@
 -- The messages that a server sends ("Message Formats" in PostgreSQL's documentation): of each kind the fields, as a
 -- list of what they are, and what the bytes of a body give of them.
-use Rattle.std.specs.Prelude.{◌≡◌, ◌==◌, ℕ, ℤ, pos, List, [], ◌∷◌, Option, Some, None, Result, Ok, Err}
+use Rattle.std.specs.Prelude.{◌≡◌, ◌==◌, ℕ, ℤ, pos, negsuc, List, [], ◌∷◌, Option, Some, None, Result, Ok, Err}
 use Rattle.std.specs.Prelude.{option_map, MatchOption, if◌then◌else◌}
-use Rattle.pg_messages.specs.Reading.{Split, byte_at, count_at, int2_at, int4_at, oid_at, string_at}
+use Rattle.pg_messages.specs.Reading.{Split, byte_at, count_at, int2_at, int4_at, oid_at, salt_at, string_at}
+use Rattle.pg_base.specs.Counts.{number_in}
+use Rattle.pg_messages.specs.declared.authentication.Authentication.{Authentication}
+use Rattle.pg_messages.specs.declared.authentication.Authentication.TheVariants as auth
 use Rattle.pg_messages.specs.declared.backend.MessageFault.{MessageFault}
 use Rattle.pg_messages.specs.declared.backend.MessageFault.TheVariants.{Length, Kind, Body}
 use Rattle.pg_messages.specs.declared.column.ColumnDescription.{ColumnDescription}
@@ -11,7 +14,7 @@ use Rattle.pg_messages.specs.declared.message.Message.{Message}
 use Rattle.pg_messages.specs.declared.message.Message.TheVariants as m
 
 -- what a field is: a byte, an unsigned integer in two bytes, an integer in two or four, an OID in four, a text that
--- ends with a zero byte, or all bytes that are left
+-- ends with a zero byte, the four bytes of a salt, all bytes that are left, or all that are left of what is unknown
 pub data FieldKind : Type 0 where
   byte_field : FieldKind
   count_field : FieldKind
@@ -19,12 +22,15 @@ pub data FieldKind : Type 0 where
   int4_field : FieldKind
   oid_field : FieldKind
   string_field : FieldKind
+  salt_field : FieldKind
   rest_field : FieldKind
+  unknown_field : FieldKind
 
 -- the value of a field
 pub data Value : Type 0 where
   integer : ℤ → Value
   content : List ℕ → Value
+  unknown : List ℕ → Value
 
 -- a value and the bytes after it
 abbrev pub valued : {A : Type 0} → (A → Value) → Split A → Split Value
@@ -38,7 +44,9 @@ field_at int2_field s = valued integer (int2_at s)
 field_at int4_field s = valued integer (int4_at s)
 field_at oid_field s = valued (λ n. integer (pos n)) (oid_at s)
 field_at string_field s = valued content (string_at s)
+field_at salt_field s = valued content (salt_at s)
 field_at rest_field s = Some (content s, [])
+field_at unknown_field s = Some (unknown s, [])
 
 -- a value before others
 abbrev pub before : Value → Option (List Value) → Option (List Value)
@@ -76,10 +84,40 @@ column_values c =
     content c.name.now ∷ integer (pos c.table) ∷ integer c.number ∷ integer (pos c.ty) ∷ integer c.size
     ∷ integer c.modifier ∷ integer c.format ∷ []
 
--- the fields of each kind of message, by its tag
-abbrev pub format : ℕ → Option (List FieldKind)
-format tag =
-    if tag == 82 then Some (int4_field ∷ rest_field ∷ [])  -- Authentication
+-- the fields after the code of an Authentication message
+abbrev pub request_format : ℤ → List FieldKind
+request_format (negsuc n) = unknown_field ∷ []
+request_format (pos code) =
+    if code == 0 then []  -- Ok
+    else if code == 2 then []  -- KerberosV5
+    else if code == 3 then []  -- CleartextPassword
+    else if code == 5 then salt_field ∷ []  -- MD5Password
+    else if code == 7 then []  -- GSS
+    else if code == 8 then rest_field ∷ []  -- GSSContinue
+    else if code == 9 then []  -- SSPI
+    else if code == 10 then rest_field ∷ []  -- SASL
+    else if code == 11 then rest_field ∷ []  -- SASLContinue
+    else if code == 12 then rest_field ∷ []  -- SASLFinal
+    else unknown_field ∷ []
+
+-- the code of a request for authentication, and the fields after it
+abbrev pub request_values : Authentication → ℤ × List Value
+request_values auth.Ok = (pos 0, [])
+request_values auth.KerberosV5 = (pos 2, [])
+request_values auth.CleartextPassword = (pos 3, [])
+request_values (auth.Md5Password salt) = (pos 5, content salt ∷ [])
+request_values auth.Gss = (pos 7, [])
+request_values (auth.GssContinue part) = (pos 8, content part.now ∷ [])
+request_values auth.Sspi = (pos 9, [])
+request_values (auth.Sasl mechanisms) = (pos 10, content mechanisms.now ∷ [])
+request_values (auth.SaslContinue part) = (pos 11, content part.now ∷ [])
+request_values (auth.SaslFinal part) = (pos 12, content part.now ∷ [])
+request_values (auth.Other code parameters) = (code, unknown parameters.now ∷ [])
+
+-- the fields of each kind of message, by its tag; those of Authentication by its code too
+abbrev pub format : ℕ → List ℕ → Option (List FieldKind)
+format tag body =
+    if tag == 82 then Some (int4_field ∷ request_format (number_in body))  -- Authentication
     else if tag == 75 then Some (int4_field ∷ rest_field ∷ [])  -- BackendKeyData
     else if tag == 50 then Some []  -- BindComplete
     else if tag == 51 then Some []  -- CloseComplete
@@ -111,7 +149,7 @@ formats_values f = integer (pos f.format) ∷ integer (pos f.count) ∷ content 
 
 -- the tag of a message, and its fields
 abbrev pub contents : Message → ℕ × List Value
-contents (m.Authentication code parameters) = (82, integer code ∷ content parameters.now ∷ [])
+contents (m.Authentication request) = (82, integer (request_values request).0 ∷ (request_values request).1)
 contents (m.BackendKeyData process key) = (75, integer process ∷ content key.now ∷ [])
 contents m.BindComplete = (50, [])
 contents m.CloseComplete = (51, [])
@@ -145,16 +183,23 @@ read_by (Some kinds) s = fields_of kinds s
 
 -- the message with these contents was read
 abbrev pub IsRead : ℕ → List ℕ → Message → Type 0
-IsRead tag body message = (tag ≡ (contents message).0) × (read_by (format tag) body ≡ Some (contents message).1)
+IsRead tag body message = (tag ≡ (contents message).0) × (read_by (format tag body) body ≡ Some (contents message).1)
+
+-- a request of this code was read; or the bytes after the code do not have its fields
+abbrev pub Requests : ℤ → List ℕ → Option Authentication → Type 0
+Requests code s result =
+    MatchOption result (fields_of (request_format code) s ≡ None)
+    (λ request. ((request_values request).0 ≡ code)
+    × (fields_of (request_format code) s ≡ Some (request_values request).1))
 
 -- a message of one kind was read; or the body does not have its fields
 abbrev pub Says : ℕ → List ℕ → Option Message → Type 0
-Says tag body result = MatchOption result (read_by (format tag) body ≡ None) (IsRead tag body)
+Says tag body result = MatchOption result (read_by (format tag body) body ≡ None) (IsRead tag body)
 
 -- a message was read; or no kind has the tag; or the body does not have the fields of the kind
 abbrev pub Reads : ℕ → List ℕ → Result Message MessageFault → Type 0
 Reads tag body (Ok message) = IsRead tag body message
-Reads tag body (Err (Kind t)) = (t ≡ tag) × (format tag ≡ None)
+Reads tag body (Err (Kind t)) = (t ≡ tag) × (format tag body ≡ None)
 Reads tag body (Err (Body t)) =
-    (t ≡ tag) × (kinds : List FieldKind) × (format tag ≡ Some kinds) × (fields_of kinds body ≡ None)
+    (t ≡ tag) × (kinds : List FieldKind) × (format tag body ≡ Some kinds) × (fields_of kinds body ≡ None)
 Reads tag body (Err (Length len)) = ⊥

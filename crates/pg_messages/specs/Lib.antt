@@ -1,6 +1,7 @@
 -- Definitions for the contracts of this crate.
 pub mod Backend
 pub mod Beginnings
+pub mod Commands
 pub mod Fields
 pub mod Framing
 pub mod Frontend

@@ -36,6 +36,10 @@ oid_at s = if nat_lt (length s) 4 then None else Some (from_be_bytes w32 (take 4
 abbrev pub int4_at : List ℕ → Split ℤ
 int4_at s = if has_number s then Some (number_in s, after_number s) else None
 
+-- four bytes
+abbrev pub salt_at : List ℕ → Split (List ℕ)
+salt_at s = if nat_lt (length s) 4 then None else Some (take 4 s, drop 4 s)
+
 -- a byte before the first of two
 abbrev pub onto : ℕ → List ℕ × List ℕ → List ℕ × List ℕ
 onto byte p = (byte ∷ p.0, p.1)

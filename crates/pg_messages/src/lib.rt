@@ -5,8 +5,10 @@
 //! the front of received bytes. Nothing but the buffer is allocated.
 #![tactic(auto)]
 
+pub mod authentication;
 pub mod backend;
 pub mod column;
+pub mod command;
 mod field;
 pub mod frontend;
 pub mod laws;

@@ -3,6 +3,7 @@ ghost use Rattle.std.specs.Prelude.{◌≡◌, ◌∷◌, [], MatchOption, None,
 ghost use Rattle.pg_messages.specs.Backend.{Reads, Says, byte_field, content, count_field, fields_of, formats_values};
 ghost use Rattle.pg_messages.specs.Backend.{rest_field, string_field};
 
+use crate::authentication::Authentication;
 use crate::backend::MessageFault;
 use crate::split::{split_byte, split_count, split_int4, split_string};
 
@@ -11,11 +12,8 @@ use crate::split::{split_byte, split_count, split_int4, split_string};
 /// [`notice_field`](crate::notice::notice_field) read one by one.
 #[derive(Debug, Clone, Copy)]
 pub enum Message<'a> {
-    /// A request for authentication, or its success: which one, and the bytes that belong to it.
-    Authentication {
-        code: i32,
-        parameters: &'a [u8],
-    },
+    /// A request for authentication, or its success.
+    Authentication(Authentication<'a>),
     /// The process of the server, and the key, by which a query can be cancelled.
     BackendKeyData {
         process: i32,
@@ -134,12 +132,12 @@ impl<'a> Message<'a> {
     }
 }
 
-/// Returns the message, if the body is empty.
-fn bare<'a>(body: &[u8], message: Message<'a>) -> Option<Message<'a>>
-    ensures { MatchOption result (fields_of [] body.now ≡ None)
-        (λ m. (m ≡ message.entry) × (fields_of [] body.now ≡ Some [])) }
+/// Returns the value, if there are no bytes.
+pub(crate) fn bare<T: Copy>(bytes: &[u8], value: T) -> Option<T>
+    ensures { MatchOption result (fields_of [] bytes.now ≡ None)
+        (λ v. (v ≡ value) × (fields_of [] bytes.now ≡ Some [])) }
 {
-    if body.is_empty() { Some(message) } else { None }
+    if bytes.is_empty() { Some(value) } else { None }
 }
 
 /// Reads NotificationResponse.
@@ -210,7 +208,8 @@ fn authentication(body: &[u8]) -> Option<Message<'_>>
     ensures { Says 82 body.now result }
 {
     let (code, parameters) = split_int4(body)?;
-    Some(Message::Authentication { code, parameters })
+    let request = Authentication::parse(code, parameters)?;
+    Some(Message::Authentication(request))
 }
 
 /// Reads ParameterStatus.

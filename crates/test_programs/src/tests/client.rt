@@ -1,13 +1,16 @@
 //! A client: messages, rows, Bind messages and its catalog; what is refused, and the place of the
 //! fault.
 
+mod authentication;
 mod bind;
 mod catalog;
+mod commands;
 mod copy_rows;
 mod described;
 mod places;
 mod received_messages;
 mod row_ends;
 mod row_faults;
+mod row_names;
 mod rows;
 mod sent_messages;

@@ -56,8 +56,8 @@ const BODIES: [(u8, &[u8], usize, &str); 24] = [
     (
         b'R',
         b"\0\0\0\x05salt",
-        4,
-        "Authentication { code: 5, parameters: [115, 97, 108, 116] }",
+        8,
+        "Authentication(Md5Password { salt: [115, 97, 108, 116] })",
     ),
     (
         b'S',
@@ -263,6 +263,40 @@ fn lengths_are_refused(_rt: HostRuntime) -> Result<(), Fail> {
     is_too_long(b"Z\xff\xff\xff\xff", 100, -1)?;
     is_too_long(STREAM, 8, 13)?;
     is_too_long(b"Z\x7f\xff\xff\xff", 100, i32::MAX)
+}
+
+/// Tests what a message becomes, of which each byte is ASCII, when the highest bit of the one at
+/// this index is set: another kind, a negative length, a long one, one of 128 bytes more, or a text
+/// that is not UTF-8.
+fn is_refused_where_altered(message: &mut BytesMut, place: usize) -> Result<(), Fail> {
+    let tag = message.as_slice()[0];
+    message.as_mut_slice()[place] ^= 0x80;
+    let mut left = message.as_slice();
+    let found = take_message(&mut left, 1000);
+    match (place, found) {
+        (0, Err(fault)) => same(fault, MessageFault::Kind(tag ^ 0x80))?,
+        (1..=3, Err(MessageFault::Length(_))) => {}
+        (4, Ok(Received::Part(missing))) => same(missing, 128)?,
+        (5.., Err(fault)) => same(fault, MessageFault::Body(tag))?,
+        _ => return Err(Fail::from("an altered message")),
+    }
+    same(left, message.as_slice())?;
+    message.as_mut_slice()[place] ^= 0x80;
+    Ok(())
+}
+
+/// Messages of texts alone.
+const TEXTS: [&[u8]; 2] = [b"C\0\0\0\x0fINSERT 0 1\0", b"S\0\0\0\x11TimeZone\0UTC\0"];
+
+#[test]
+fn each_byte_of_a_message_is_altered(rt: HostRuntime) -> Result<(), Fail> {
+    for text in TEXTS {
+        let mut message = BytesMut::copy_from_slice(rt.alloc(), text)?;
+        for place in 0..text.len() {
+            is_refused_where_altered(&mut message, place)?;
+        }
+    }
+    Ok(())
 }
 
 /// Two columns: int4 `id` of table 16384, and an expression of text.

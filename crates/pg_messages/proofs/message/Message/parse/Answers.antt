@@ -6,7 +6,7 @@ use Rattle.pg_messages.proofs.Bodies.{bare_says, outcome}
 use Rattle.pg_messages.proofs.message.Message.parse.Goals.{in-49, in-50, in-51, in-65, in-67, in-68, in-69, in-71, in-72, in-73, in-75, in-78, in-82, in-83, in-84, in-86, in-87, in-90, in-99, in-100, in-110, in-115, in-116, in-118}
 use Rattle.pg_messages.proofs.message.Message.parse.Goals as goal
 
-by : (c : goal.After-ok_or) (n : ℕ) (kinds : List FieldKind) (read : Option Message) → format n ≡ Some kinds
+by : (c : goal.After-ok_or) (n : ℕ) (kinds : List FieldKind) (read : Option Message) → format n c.args.body.now ≡ Some kinds
     → c.args.tag ≡ n → c.match-tag.message ≡ read → Says n c.args.body.now read
     → Reads c.args.tag c.args.body.now c.ok_or.result
 by c n kinds read is same read_is says =

@@ -5,7 +5,7 @@ use pg_client::catalog::{Catalog, TypeFault, TypeRow};
 use postgres_types::Oid;
 use std::alloc::Global;
 use std::test::Fail;
-use test_support::{displays, holds, same};
+use test_support::{displays, holds, same, simple_type};
 
 /// Tests that exactly these rows are refused, in this order and with these faults, and that none of
 /// them is a type.
@@ -156,4 +156,22 @@ fn a_type_is_added(rt: HostRuntime) -> Result<(), Fail> {
         Ok(()),
     )?;
     holds(catalog.get(1017).is_some(), "no array")
+}
+
+#[test]
+fn a_type_is_inserted(rt: HostRuntime) -> Result<(), Fail> {
+    let alloc = rt.alloc();
+    let mut catalog = Catalog::built_in(alloc);
+    let point = simple_type(alloc, "point", 600, "pg_catalog")?;
+    same(catalog.insert(point), Ok(()))?;
+    let again = simple_type(alloc, "again", 600, "public")?;
+    same(catalog.insert(again), Err(TypeFault::Duplicate))?;
+    let int4 = simple_type(alloc, "other", 23, "public")?;
+    same(catalog.insert(int4), Err(TypeFault::Duplicate))?;
+    let points = row(alloc, 1017, "_point", b'a', 600, 0);
+    same(catalog.add(alloc, &points), Ok(()))?;
+    let Some(point) = catalog.get(600) else {
+        return Err(Fail::from("no type"));
+    };
+    holds(point.name() == "point", "another type")
 }
