@@ -174,9 +174,11 @@ impl Catalog {
         Ok(())
     }
 
-    /// Adds this type, as one of the caller's own knows it. It fails with
-    /// [`Duplicate`](TypeFault::Duplicate) if the OID has a type, a built-in one included, and with
-    /// [`Memory`](TypeFault::Memory). A fault leaves the catalog, and its refused rows, as they were.
+    /// Adds a type that the caller made.
+    ///
+    /// It fails with [`Duplicate`](TypeFault::Duplicate) if the OID has a type, a built-in one
+    /// included, and with [`Memory`](TypeFault::Memory). A fault leaves the catalog, and its refused
+    /// rows, as they were.
     pub fn insert(&mut self, ty: Type) -> Result<(), TypeFault>
         ensures ok { OnOk result (Inserts (table_of self.old) ty (table_of self.new)) }
         ensures kept { OnErr result ((table_of self.new).entries ≡ (table_of self.old).entries) }

@@ -265,12 +265,17 @@ fn lengths_are_refused(_rt: HostRuntime) -> Result<(), Fail> {
     is_too_long(b"Z\x7f\xff\xff\xff", 100, i32::MAX)
 }
 
-/// Tests what a message becomes, of which each byte is ASCII, when the highest bit of the one at
-/// this index is set: another kind, a negative length, a long one, one of 128 bytes more, or a text
-/// that is not UTF-8.
-fn is_refused_where_altered(message: &mut BytesMut, place: usize) -> Result<(), Fail> {
-    let tag = message.as_slice()[0];
-    message.as_mut_slice()[place] ^= 0x80;
+/// Inverts the highest bit of the byte at this index.
+fn alter(message: &mut BytesMut, place: usize) {
+    if let Some(byte) = message.as_mut_slice().get_mut(place) {
+        *byte ^= 0x80;
+    }
+}
+
+/// Tests what a message of ASCII bytes becomes when the one at this index is altered: another kind,
+/// a negative length, a long one, one of 128 bytes more, or a text that is not UTF-8.
+fn is_refused_where_altered(tag: u8, message: &mut BytesMut, place: usize) -> Result<(), Fail> {
+    alter(message, place);
     let mut left = message.as_slice();
     let found = take_message(&mut left, 1000);
     match (place, found) {
@@ -281,19 +286,22 @@ fn is_refused_where_altered(message: &mut BytesMut, place: usize) -> Result<(), 
         _ => return Err(Fail::from("an altered message")),
     }
     same(left, message.as_slice())?;
-    message.as_mut_slice()[place] ^= 0x80;
+    alter(message, place);
     Ok(())
 }
 
-/// Messages of texts alone.
-const TEXTS: [&[u8]; 2] = [b"C\0\0\0\x0fINSERT 0 1\0", b"S\0\0\0\x11TimeZone\0UTC\0"];
+/// Messages of texts alone, and their tags.
+const TEXTS: [(u8, &[u8]); 2] = [
+    (b'C', b"C\0\0\0\x0fINSERT 0 1\0"),
+    (b'S', b"S\0\0\0\x11TimeZone\0UTC\0"),
+];
 
 #[test]
 fn each_byte_of_a_message_is_altered(rt: HostRuntime) -> Result<(), Fail> {
-    for text in TEXTS {
+    for (tag, text) in TEXTS {
         let mut message = BytesMut::copy_from_slice(rt.alloc(), text)?;
         for place in 0..text.len() {
-            is_refused_where_altered(&mut message, place)?;
+            is_refused_where_altered(tag, &mut message, place)?;
         }
     }
     Ok(())
