@@ -82,8 +82,8 @@ pub struct Catalog {
 }
 
 impl Catalog {
-    ghost use Rattle.pg_client.specs.CatalogTypes.{AddsOrHas, Inserts, IsTypeOf, IsUnknown, IsWhyNotAdded, IsWhyNotInserted};
-    ghost use Rattle.pg_client.specs.CatalogTypes.{NotBuiltIn};
+    ghost use Rattle.pg_client.specs.CatalogTypes.{AddsOrHas, Inserts, IsTypeOf, IsUnknown, IsWhyNotAdded};
+    ghost use Rattle.pg_client.specs.CatalogTypes.{IsWhyNotInserted, NotBuiltIn};
     ghost use Rattle.pg_client.specs.CatalogTypes.{refused_of, table_of};
     ghost use Rattle.pg_client.specs.RowPlaces.{HasFirsts, IsFirst};
     ghost use Rattle.pg_client.specs.WholeCatalogs.{AreDescribed, AreMadeOrLeft, AreRefused, AreStuck, AreTold, Ascend};

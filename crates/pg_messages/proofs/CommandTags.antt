@@ -1,21 +1,14 @@
--- The number that a tag ends with stands after its last space, and is UTF-8.
-use Rattle.std.proofs.Common.{◌≡◌, ◌<◌, ◌≤◌, ◌+◌, ◌-◌, ◌++◌, ℕ, suc, List, [], ◌∷◌, length, drop, get_or}
-use Rattle.std.proofs.Common.{Option, Some, None, true, ap, sym, subst, ◌∙◌, refl, arith, length-append, append_assoc, ⊎_elim, take, IsUtf8, MatchOption}
+-- The number that a tag ends with stands after its last space.
+use Rattle.std.proofs.Common.{◌≡◌, ◌<◌, ◌+◌, ◌-◌, ◌++◌, ℕ, suc, List, [], ◌∷◌, length, take, drop, get_or}
+use Rattle.std.proofs.Common.{Option, Some, None, MatchOption, ap, sym, subst, ◌∙◌, arith, ⊎_elim}
+use Rattle.std.proofs.Common.{length-append, append_assoc}
 use Rattle.std.proofs.lemmas.Bool.{cases_lt, eq-eqb, eqb-true}
 use Rattle.std.proofs.lemmas.List.{drop_at, drop_more, get_or-append-add, length-drop, take-append-drop, take_all}
 use Rattle.std.proofs.Math.Seq.{get_or-append_seam}
-use Rattle.std.proofs.lemmas.Str.{IsUtf8-from_ascii}
-use Rattle.std.proofs.lemmas.Str.Ascii.{IsAscii-from_reads}
 use Rattle.std.proofs.lemmas.Str.Parse.{digit_at}
 use Rattle.std.specs.Str.Parse.{AllDigits}
 use Rattle.pg_messages.specs.Commands.{IsNumber, IsRowCount}
 use Rattle.memchr.specs.Find.{IsLastByte, Passes, is_byte}
-
--- digits are a text
-pub digits_are_utf8 : (word : List ℕ) → AllDigits 10 word → IsUtf8 word
-digits_are_utf8 word digits =
-    IsUtf8-from_ascii word (IsAscii-from_reads word (length word) (omega arith)
-    (λ k h. let range = digit_at word k digits h in omega (arith, range)))
 
 module _ (tag front word : List ℕ) (is : tag ≡ front ++ 32 ∷ word) (digits : AllDigits 10 word) where
   long : length tag ≡ length front + suc (length word)

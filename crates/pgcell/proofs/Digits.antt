@@ -4,12 +4,12 @@ use Rattle.std.proofs.Common.{false, Option, Some, None, Result, Ok, Err, get_or
 use Rattle.std.proofs.Common.{arith, refl, sym, subst}
 use Rattle.std.specs.List.{starts_with}
 use Rattle.std.specs.Result.{OkIff, result_ok}
-use Rattle.std.specs.Str.{IsAscii, all_ascii_digits}
+use Rattle.std.specs.Str.{all_ascii_digits}
 use Rattle.std.specs.Str.Parse.{AllDigits, IsNumeral, ParsesUnsigned, digits_value}
 use Rattle.std.proofs.lemmas.Bool.{eq-eqb, ltb-true, lt-ltb}
-use Rattle.std.proofs.lemmas.Str.Parse.{digit_at, numerals_by_value, tells_all_ascii_digits, without_leading_plus_none}
+use Rattle.std.proofs.lemmas.Str.Parse.{numerals_by_value, tells_all_ascii_digits, without_leading_plus_none}
+use Rattle.std.proofs.lemmas.Fmt.{IsAscii-from_digits}
 use Rattle.std.proofs.lemmas.Str.{IsUtf8-from_ascii}
-use Rattle.std.proofs.lemmas.Str.Ascii.{IsAscii-from_reads}
 use Rattle.pgcell.specs.Request.{oid_of_word}
 
 digits_all : (word : List ℕ) → all_ascii_digits word ≡ true → AllDigits 10 word
@@ -48,12 +48,9 @@ no_plus : (word : List ℕ) → starts_with nat_eq word (43 ∷ []) ≡ false �
 no_plus [] h e = omega arith
 no_plus (byte ∷ bytes) h e = let bad : true ≡ false = sym (rw (eq-eqb 43 byte (sym e)) refl) ∙ h in cc
 
-ascii : (word : List ℕ) → all_ascii_digits word ≡ true → IsAscii word
-ascii word e = IsAscii-from_reads word (length word) (omega arith)
-    (λ k l. let digit = digit_at word k (digits_all word e) l in omega arith)
-
 pub other_none : (word : List ℕ) → ¬ (IsUtf8 word) → None ≡ oid_of_word word
-other_none word bad = none word (λ e f g i. bad (IsUtf8-from_ascii word (ascii word e)))
+other_none word bad =
+    none word (λ e f g i. bad (IsUtf8-from_ascii word (IsAscii-from_digits word (digits_all word e))))
 
 parsed : {E : Type 0} (word : List ℕ) (r : Result ℕ E) → length word ≤ 10 → OkIff r (IsOid word) (digits_value 10 word)
     → result_ok r ≡ oid_of_word word

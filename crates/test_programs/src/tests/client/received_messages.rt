@@ -8,7 +8,7 @@ use postgres_types::BytesMut;
 use std::test::Fail;
 use test_support::{debugs, displays, holds, same};
 
-/// Of each kind a body, the least length at which a body cut short is not refused, and the text of
+/// Of each kind a body, the least length at which a truncated body is not refused, and the text of
 /// `Debug` of what the whole one says.
 const BODIES: [(u8, &[u8], usize, &str); 24] = [
     (b'1', b"", 0, "ParseComplete"),
@@ -115,7 +115,7 @@ fn is_refused_below(least: usize, tag: u8, body: &[u8]) -> Result<(), Fail> {
 }
 
 #[test]
-fn each_body_is_cut_short(_rt: HostRuntime) -> Result<(), Fail> {
+fn each_body_is_truncated(_rt: HostRuntime) -> Result<(), Fail> {
     for (tag, body, least, _) in BODIES {
         is_refused_below(least, tag, body)?;
     }
