@@ -16,7 +16,7 @@ use Rattle.postgres_types.specs.ArrayWriting.{element_frame_cell}
 use Rattle.postgres_types.specs.ParamWriting.{FrameFollows}
 use Rattle.pg_client.specs.BindBytes.{all_binary, bind_bytes}
 use Rattle.pg_client.specs.declared.bind.Bind.{Bind}
-use Rattle.pg_client.specs.declared.placed_fault.Place.TheVariants as place
+use Rattle.pg_client.specs.declared.placed_fault.Place.{Place}
 use Rattle.pg_client.specs.declared.placed_fault.PlacedFault.{PlacedFault}
 
 -- the buffer, to which parameters are appended
@@ -36,11 +36,12 @@ keeps_if_refused out r = RestsIfErr (buffer.the_row global.the_row ghosts) out (
 abbrev pub max_params : ℕ
 max_params = 65535
 
--- what a parameter is written as after n others: one too many is Transmit, and one in the text format is User
+-- what a value is written as: one in the text format is User
 abbrev pub in_binary : Format → Wire → Wire
 in_binary Binary w = w
-in_binary Text w = Err (user (codes "parameter in text format"))
+in_binary Text w = Err (user (codes "value in text format"))
 
+-- what a parameter is written as after n others: one too many is Transmit
 abbrev pub param_wire : ℕ → Format → Wire → Wire
 param_wire n format w = if n == max_params then Err transmit else in_binary format w
 
@@ -57,12 +58,11 @@ pub record Binds (before : List ℕ) (cells : List Cell) (bind : Bind) : Type 0 
   -- the number of the cells
   pub count_is : count_of bind ≡ length cells
 
--- the frame of the parameter was appended; or it is refused at its place, or memory ran out, and the bytes are as they
--- were
-abbrev pub PushesFrame : Wire → ℕ → List ℕ → List ℕ → Result ⊤ PlacedFault → Type 0
-PushesFrame w n old new (Ok done) = FrameFollows w old new
-PushesFrame w n old new (Err f) =
-    (new ≡ old) × (f.place ≡ place.Parameter n) × IfSome (refusal_of f.fault) (λ r. element_frame_cell w ≡ Err r)
+-- the frame of the value was appended; or it is refused at its place, or memory ran out, and the bytes are as they were
+abbrev pub PushesFrame : Place → Wire → List ℕ → List ℕ → Result ⊤ PlacedFault → Type 0
+PushesFrame at w old new (Ok done) = FrameFollows w old new
+PushesFrame at w old new (Err f) =
+    (new ≡ old) × (f.place ≡ at) × IfSome (refusal_of f.fault) (λ r. element_frame_cell w ≡ Err r)
 
 -- the cell that was written is bound after the others; if it is refused, they are as they were
 abbrev pub BindsMore : Wire → List ℕ → List Cell → Bind → Result ⊤ PlacedFault → Type 0

@@ -5,8 +5,10 @@ pub mod CatalogRows
 pub mod CatalogTypes
 pub mod CopyReading
 pub mod Descriptions
+pub mod FromColumns
 pub mod Places
 pub mod RowPlaces
+pub mod RowWriting
 pub mod Rows
 pub mod TypeTables
 pub mod WholeCatalogs

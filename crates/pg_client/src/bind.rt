@@ -11,13 +11,14 @@ ghost use Rattle.postgres_types.specs.ParamWriting.{AppendsFrame, frame_len};
 ghost use Rattle.postgres_types.specs.Writing.{checked};
 
 use crate::placed_fault::{Place, PlacedFault};
-use postgres_types::{BytesMut, Fault, Format, ToSql, Type, frame_value};
+use crate::row_writer::append_binary;
+use postgres_types::{BytesMut, Fault, ToSql, Type};
 
 /// The greatest number of parameters of a Bind message: it is an unsigned number of 2 bytes.
 pub const MAX_PARAMS: u16 = 65_535;
 
 /// One format code for all: that of the binary format.
-const ALL_BINARY: [u8; 4] = [0, 1, 0, 1];
+pub(crate) const ALL_BINARY: [u8; 4] = [0, 1, 0, 1];
 
 /// The same format code, followed by 2 bytes for the number of parameters.
 const HEAD: [u8; 6] = [0, 1, 0, 1, 0, 0];
@@ -59,14 +60,14 @@ impl<'b> Bind<'b> {
     ///
     /// An error has the place of the parameter, counted from 0, and the fault of its checked
     /// writing; `Transmit` if its cell exceeds 2,147,483,647 bytes, or if there are already
-    /// [`MAX_PARAMS`] parameters; or `User`, with the text `parameter in text format`, if its
+    /// [`MAX_PARAMS`] parameters; or `User`, with the text `value in text format`, if its
     /// conversion writes the text format. An error, `Memory` included, leaves the buffer's bytes as
     /// they were, and further parameters can be pushed. If the buffer has room for the frame, and
     /// writing the value needs only that room (`by_room`), the call never fails with `Memory`.
     pub fn push<T: ToSql>(&mut self, value: &T, ty: &Type) -> Result<(), PlacedFault>
         ensures same_reference { (out_of self.new).ghost_name ≡ (out_of self.old).ghost_name }
-        ensures frame { PushesFrame (param_wire (count_of self.old) (T.format (content ty.now) value.now)
-            (checked T.accepted T.name T.wire (content ty.now) value.now)) (count_of self.old)
+        ensures frame { PushesFrame (Place.Parameter (count_of self.old)) (param_wire (count_of self.old)
+            (T.format (content ty.now) value.now) (checked T.accepted T.name T.wire (content ty.now) value.now))
             (out_of self.old).now.items (out_of self.new).now.items result }
         ensures room { T.by_room value.now → IsTrue (T.accepted (content ty.now))
             → frame_len (T.wire (content ty.now) value.now) ≤ (out_of self.old).now.spare → NeverMemoryAt result }
@@ -98,11 +99,7 @@ impl<'b> Bind<'b> {
         if self.count == MAX_PARAMS {
             return Err(Fault::Transmit);
         }
-        if let Format::Text = value.encode_format(ty) {
-            return Err(Fault::user("parameter in text format"));
-        }
-        let alloc = *self.out.allocator();
-        frame_value(alloc, value, ty, self.out)?;
+        append_binary(value, ty, self.out)?;
         self.count += 1;
         Ok(())
     }

@@ -1,6 +1,7 @@
 //! The row of a DataRow message.
 ghost use Rattle.std.specs.Prelude.{◌≡◌, ◌↔◌, ◌-◌, [], IsTrue, None, Some, IfNone, IfSome, codes, length, slice_get};
 ghost use Rattle.pg_base.specs.Cells.{cell_of};
+ghost use Rattle.pg_client.specs.FromColumns.{ReadsRow};
 ghost use Rattle.pg_client.specs.Places.{AnswersAt, IsFaultAt, NeverMemoryAt, RefusesAt, column_place};
 ghost use Rattle.pg_client.specs.Rows.{EndsRow, FreeAs, IsRowOf, IsUnread, NoColumn, PassesCells, ReadsAs, ReadsColumn};
 ghost use Rattle.pg_client.specs.Rows.{ReadsNext, has_name, place_named};
@@ -9,6 +10,7 @@ ghost use Rattle.pg_types.specs.Content.{content};
 ghost use Rattle.pg_types.specs.Faults.{Answers, NeverMemory, user};
 
 use crate::column::Column;
+use crate::from_row::{FromColumns, FromRow};
 use crate::placed_fault::{Place, PlacedFault};
 use pg_tuples::is_count;
 use postgres_types::{Fault, FromSql, Type, check_type, from_sql_nullable, take_cell};
@@ -148,6 +150,30 @@ impl<'a, 'c> Row<'a, 'c> {
         }
     }
 
+    /// Returns the number of columns that were not taken.
+    fn left(&self) -> usize
+        ensures { result ≡ length (columns_of self.now) - taken_of self.now }
+    {
+        self.columns.len().saturating_sub(self.taken)
+    }
+
+    /// Reads the columns that [`next`](Row::next) has not taken as a tuple or a struct, and ends the
+    /// row.
+    ///
+    /// Another number of columns is refused with `FieldCount`, at [`Place::Row`]. An error is that
+    /// of the first column that is refused, as `next` has it, or that of [`finish`](Row::finish).
+    pub fn read<T: FromRow<'a>>(self, alloc: Global) -> Result<T, PlacedFault>
+        ensures outcome { ReadsRow T.Columns.width T.inside T.Columns.reads (columns_of self.entry)
+            (taken_of self.entry) (rest_of self.entry) result }
+        ensures never_memory { T.Columns.memory_free (columns_of self.entry) (taken_of self.entry) (rest_of self.entry)
+            → NeverMemoryAt result }
+    {
+        if !T::Columns::is_width(self.left()) {
+            return Err(PlacedFault::new(Place::Row, Fault::FieldCount));
+        }
+        Ok(T::from_row(T::Columns::from_columns(alloc, self)?))
+    }
+
     /// Ends reading the row. Columns that [`next`](Row::next) has not taken are skipped, so a row
     /// of which some columns are not wanted, or which is read with [`get`](Row::get), ends in the
     /// same way.
@@ -158,9 +184,8 @@ impl<'a, 'c> Row<'a, 'c> {
         ensures { EndsRow (columns_of self.entry) (taken_of self.entry)
             (length (columns_of self.entry) - taken_of self.entry) (rest_of self.entry) result }
     {
-        let left = self.columns.len().saturating_sub(self.taken);
         let mut rest = self.rest;
-        if let Err(passed) = pass_cells(left, &mut rest) {
+        if let Err(passed) = pass_cells(self.left(), &mut rest) {
             let place = place_of(self.columns, self.taken + passed);
             return Err(PlacedFault::new(place, Fault::Size));
         }

@@ -55,7 +55,7 @@ fn a_parameter_in_text_format_is_refused(rt: HostRuntime) -> Result<(), Fail> {
     let alloc = rt.alloc();
     let mut out = BytesMut::new(alloc);
     let mut bind = Bind::new(&mut out)?;
-    let text = "parameter 1: parameter in text format";
+    let text = "parameter 1: value in text format";
     refused(alloc, bind.push(&Word("ja"), &Type::TEXT), text)?;
     bind.finish()?;
     same(out.as_slice(), &[0, 1, 0, 1, 0, 0, 0, 1, 0, 1])
