@@ -29,6 +29,21 @@ ends_in_extension s t extension len awaits is few = (
       (awaits (extension ++ more) (let sum = length-append extension more in omega (arith, sum, count, few))),
 )
 
+-- the bytes of these rows were taken, and the tuple of one more stands before the rest
+pub tuple_taken : (taken left : List ℕ) (rows : List (List Cell)) → BeginsCopy rows taken → (n : ℕ) (row rest : List ℕ)
+    → FramesThen row n [] → CountThen left n (row ++ rest)
+    → (front : List ℕ) × (left ≡ front ++ rest) × (cells : List Cell) × (length cells ≡ n) × (frames cells ≡ Some row)
+    × BeginsCopy (rows ++ cells ∷ []) (taken ++ front)
+tuple_taken taken left rows begun n row rest (cells, framed, many, are, is) (number, counted, stands) =
+    let framed_row : frames cells ≡ Some row = are ∙ ap Some (sym (is ∙ append-nil framed)) in (
+      number ++ row,
+      stands ∙ sym (append_assoc number row rest),
+      cells,
+      many,
+      framed_row,
+      copy_next rows cells taken (number ++ row) begun (tuple_counted cells n number row many counted framed_row),
+    )
+
 -- so many rows were taken, and these bytes are left
 module _ (bytes left : List ℕ) (rows : List (List Cell)) (count : ℕ)
     (so_far : (t : List ℕ) × BeginsCopy rows t × (bytes ≡ t ++ left) × (count ≡ length rows)) where
@@ -36,18 +51,16 @@ module _ (bytes left : List ℕ) (rows : List (List Cell)) (count : ℕ)
       → (cells : List Cell) × (length cells ≡ n) × (frames cells ≡ Some row)
       × ((t : List ℕ) × BeginsCopy (rows ++ cells ∷ []) t × (bytes ≡ t ++ rest)
       × (count + 1 ≡ length (rows ++ cells ∷ [])))
-  row_next n row rest (cells, framed, many, are, is) (number, counted, stands) =
-      let framed_row : frames cells ≡ Some row = are ∙ ap Some (sym (is ∙ append-nil framed)) in (
-        cells,
-        many,
-        framed_row,
+  row_next n row rest framed counted =
+      let next = tuple_taken so_far.0 left rows so_far.1 n row rest framed counted in (
+        next.2,
+        next.3,
+        next.4,
         (
-          so_far.0 ++ (number ++ row),
-          copy_next rows cells so_far.0 (number ++ row) so_far.1
-              (tuple_counted cells n number row many counted framed_row),
-          so_far.2 ∙ ap (λ l. so_far.0 ++ l) (stands ∙ sym (append_assoc number row rest))
-              ∙ sym (append_assoc so_far.0 (number ++ row) rest),
-          (let sum = length-append rows (cells ∷ []) in omega (arith, sum, so_far.3)),
+          so_far.0 ++ next.0,
+          next.5,
+          so_far.2 ∙ ap (λ l. so_far.0 ++ l) next.1 ∙ sym (append_assoc so_far.0 next.0 rest),
+          (let sum = length-append rows (next.2 ∷ []) in omega (arith, sum, so_far.3)),
         ),
       )
 

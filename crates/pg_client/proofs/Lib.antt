@@ -6,6 +6,7 @@ mod CopyLaws
 pub mod FirstRows
 pub mod RefusedReasons
 pub mod RefusedRows
+mod PartLaws
 mod RowLaws
 mod RowSteps
 pub mod Turns

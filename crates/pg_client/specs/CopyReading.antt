@@ -1,5 +1,6 @@
 -- Reading the rows of a binary COPY ("Binary Format" in the documentation of the command COPY).
 use Rattle.std.specs.Prelude.{◌≡◌, ◌≢◌, ◌⊎◌, ◌+◌, ℕ, List, [], ◌∷◌, ◌++◌, length, Option, Some, None}
+use Rattle.std.specs.Borrow.{Bor}
 use Rattle.pg_base.specs.Cells.{Cell, frames}
 use Rattle.pg_client.specs.Rows.{IsUnread, frames_of}
 use Rattle.pg_client.specs.declared.column.Column.{Column}
@@ -44,11 +45,24 @@ ReadsNext bytes rows None copy = IsCopy rows bytes × HasRead bytes rows copy
 abbrev pub NoneTaken : CopyRows → CopyRows → Type 0
 NoneTaken old new = (left_of new ≡ left_of old) × (count_of new ≡ count_of old)
 
--- the bytes are refused as the header of a COPY, with this fault
+-- the bytes end in the header of a COPY, or in its extension
+abbrev pub EndsInStart : List ℕ → Type 0
+EndsInStart bytes = EndsInHeader bytes ⊎ EndsInExtension bytes
+
+-- after a header and its extension come these bytes; or the bytes end before that
+abbrev pub AfterHeader : List ℕ → Option (Bor (List ℕ)) → Type 0
+AfterHeader bytes None = EndsInStart bytes
+AfterHeader bytes (Some rest) = (t : List ℕ) × BeginsCopy [] t × (bytes ≡ t ++ rest.now)
+
+-- the header is refused with this fault
+abbrev pub RefusesHeaderAs : List ℕ → CopyFault → Type 0
+RefusesHeaderAs bytes (Header fault) = RefusesHeader bytes fault
+RefusesHeaderAs bytes fault = ⊥
+
+-- the same, or the header is truncated
 abbrev pub RefusesStart : List ℕ → CopyFault → Type 0
-RefusesStart bytes (Header fault) = RefusesHeader bytes fault
-RefusesStart bytes TruncatedHeader = EndsInHeader bytes ⊎ EndsInExtension bytes
-RefusesStart bytes fault = ⊥
+RefusesStart bytes TruncatedHeader = EndsInStart bytes
+RefusesStart bytes fault = RefusesHeaderAs bytes fault
 
 -- the rest is refused with this fault, which names the next row
 abbrev pub RefusesNext : CopyRows → CopyFault → Type 0

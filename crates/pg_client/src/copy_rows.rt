@@ -3,8 +3,9 @@ ghost use Rattle.std.specs.Prelude.{◌≡◌, ◌+◌, ◌<◌, ◌^◌, ℕ, L
 ghost use Rattle.pg_base.specs.Cells.{Cell};
 
 use crate::column::Column;
+use crate::copy_parts::after_header;
 use crate::row::Row;
-use pg_tuples::{Front, HeaderFault, TupleFault, front_of, take_header};
+use pg_tuples::{Front, HeaderFault, TupleFault, front_of};
 use thiserror::Error;
 
 /// Why the bytes of a binary COPY are refused. Rows are counted from 1.
@@ -54,16 +55,10 @@ impl<'a, 'c> CopyRows<'a, 'c> {
         ensures reads { IfOk result (HasRead bytes.entry.now []) }
         ensures refused { IfErr result (RefusesStart bytes.entry.now) }
     {
-        let mut rest = bytes;
-        let len = match take_header(&mut rest) {
-            Ok(Some(len)) => len,
-            Ok(None) => return Err(CopyFault::TruncatedHeader),
-            Err(fault) => return Err(CopyFault::Header(fault)),
-        };
-        match rest.split_at_checked(len) {
-            Some((_, tuples)) => Ok(CopyRows {
+        match after_header(bytes)? {
+            Some(rest) => Ok(CopyRows {
                 columns,
-                rest: tuples,
+                rest,
                 count: 0,
             }),
             None => Err(CopyFault::TruncatedHeader),

@@ -2,16 +2,17 @@
 //! parameters of a Bind message, and the types of its server.
 //!
 //! [`Row`] reads columns one after another, in any order, or all at once as a tuple or a struct
-//! ([`FromRow`]); [`CopyRows`] gives the rows of a COPY. [`Bind`] appends parameters to a buffer, and
-//! [`RowWriter`] the parameters or the tuple of a COPY that have these types. A fault names the column or the parameter
-//! ([`PlacedFault`]), or the row of a COPY ([`CopyFault`]). [`catalog`] makes types from the system
-//! catalogs of the server. [`columns`] and [`statement_columns`] make the columns of a
-//! RowDescription message, and [`parameter_types`] the types of a ParameterDescription.
+//! ([`FromRow`]). [`CopyRows`] and [`CopyParts`] give the rows of a COPY. [`Bind`] appends parameters
+//! to a buffer, and [`RowWriter`] the values of a row, each for its type. A fault names the column or
+//! the parameter ([`PlacedFault`]), or the row of a COPY ([`CopyFault`]). [`catalog`] makes types
+//! from the system catalogs of the server. [`columns`] and [`statement_columns`] make the columns of
+//! a RowDescription message, and [`parameter_types`] the types of a ParameterDescription.
 #![tactic(auto)]
 
 mod bind;
 pub mod catalog;
 mod column;
+mod copy_parts;
 mod copy_rows;
 mod described;
 mod from_row;
@@ -23,6 +24,7 @@ mod tuples;
 
 pub use bind::{Bind, MAX_PARAMS};
 pub use column::{Column, ColumnName, NAME_LEN};
+pub use copy_parts::CopyParts;
 pub use copy_rows::{CopyFault, CopyRows};
 pub use described::{
     DescriptionFault, RefusedDescription, columns, parameter_types, statement_columns,

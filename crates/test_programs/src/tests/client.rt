@@ -5,6 +5,7 @@ mod authentication;
 mod bind;
 mod catalog;
 mod commands;
+mod copy_parts;
 mod copy_rows;
 mod described;
 mod from_row;

@@ -9,7 +9,7 @@ use test_support::{displays, same};
 
 /// Two rows, 7, `ja` and true, and 8, NULL and false, after a header with a flag that is not
 /// critical and an extension of 3 bytes.
-const COPY: [u8; 64] = [
+pub const COPY: [u8; 64] = [
     b'P', b'G', b'C', b'O', b'P', b'Y', b'\n', 0xff, b'\r', b'\n', 0, //
     0, 0, 0, 1, 0, 0, 0, 3, 0xff, 0xff, 9, //
     0, 3, 0, 0, 0, 4, 0, 0, 0, 7, 0, 0, 0, 2, b'j', b'a', 0, 0, 0, 1, 1, //
@@ -18,11 +18,11 @@ const COPY: [u8; 64] = [
 ];
 
 /// The offsets of its first tuple, its second one, and the trailer.
-const FIRST: usize = 22;
+pub const FIRST: usize = 22;
 
-const SECOND: usize = 43;
+pub const SECOND: usize = 43;
 
-const TRAILER: usize = 62;
+pub const TRAILER: usize = 62;
 
 /// A header with no flag and no extension.
 const HEADER: [u8; 19] = *b"PGCOPY\n\xff\r\n\0\0\0\0\0\0\0\0\0";
