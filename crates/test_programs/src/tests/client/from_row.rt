@@ -3,7 +3,7 @@ ghost use Rattle.postgres_types.specs.CompositeFields.{and, end};
 
 use super::row_faults::refused;
 use super::rows::{ITEM, item_columns};
-use pg_client::{Column, FromRow, Row};
+use pg_client::{Column, FromRow, PlacedFault, Row};
 use postgres_types::composite::{And, End};
 use postgres_types::{Type, from_row, row};
 use std::alloc::Global;
@@ -51,60 +51,115 @@ fn a_row_is_read_as_a_tuple(rt: HostRuntime) -> Result<(), Fail> {
     same(row.read::<(&str, bool)>(alloc)?, ("ja", true))
 }
 
-/// The body of a row of `count` columns of one byte each, which have their numbers as values.
-fn numbers(alloc: Global, count: u8) -> Result<Vec<u8>, Fail> {
-    let mut body = vec![in alloc; 0, count]?;
-    for number in 1..=count {
-        body.extend_from_slice(&[0, 0, 0, 1, number])?;
-    }
-    Ok(body)
-}
+/// A row of twelve columns of one byte each, which have their numbers as values.
+const NUMBERS: [u8; 62] = [
+    0, 12, 0, 0, 0, 1, 1, 0, 0, 0, 1, 2, 0, 0, 0, 1, 3, 0, 0, 0, 1, 4, //
+    0, 0, 0, 1, 5, 0, 0, 0, 1, 6, 0, 0, 0, 1, 7, 0, 0, 0, 1, 8, //
+    0, 0, 0, 1, 9, 0, 0, 0, 1, 10, 0, 0, 0, 1, 11, 0, 0, 0, 1, 12,
+];
 
-/// As many columns of "char".
-fn number_columns(alloc: Global, count: u8) -> Result<Vec<Column>, Fail> {
+/// Its columns, of "char".
+fn number_columns(alloc: Global) -> Result<Vec<Column>, Fail> {
     let mut columns = Vec::new(alloc);
-    for _ in 0..count {
+    for _ in 0..12 {
         columns.push(Column::unnamed(Type::CHAR))?;
     }
     Ok(columns)
 }
 
-/// The type of a column.
-macro_rules! number {
-    ($name:ident) => {
-        i8
-    };
-}
-
-/// Reads as many columns as names as a tuple, whose values are their numbers.
-macro_rules! reads {
-    ($alloc:ident, $count:literal: $($name:ident),+) => {{
-        let columns = number_columns($alloc, $count)?;
-        let body = numbers($alloc, $count)?;
-        let row = Row::new(body.as_slice(), columns.as_slice())?;
-        let ($($name,)+) = row.read::<($(number!($name),)+)>($alloc)?;
-        let read = [$($name as u8),+];
-        for (value, frame) in read.iter().zip(body.get(2..).ok_or("no columns")?.chunks(5)) {
-            same(frame, &[0, 0, 0, 1, *value])?;
-        }
-    }};
+/// Returns the row, of which all columns but so many were taken.
+fn last<'c>(
+    alloc: Global,
+    columns: &'c [Column],
+    count: usize,
+) -> Result<Row<'static, 'c>, PlacedFault> {
+    let mut row = Row::new(&NUMBERS, columns)?;
+    for _ in count..12 {
+        row.next::<i8>(alloc)?;
+    }
+    Ok(row)
 }
 
 #[test]
-fn tuples_of_all_lengths_are_read(rt: HostRuntime) -> Result<(), Fail> {
+fn tuples_of_up_to_four_values_are_read(rt: HostRuntime) -> Result<(), Fail> {
     let alloc = rt.alloc();
-    reads!(alloc, 1: a);
-    reads!(alloc, 2: a, b);
-    reads!(alloc, 3: a, b, c);
-    reads!(alloc, 4: a, b, c, d);
-    reads!(alloc, 5: a, b, c, d, e);
-    reads!(alloc, 6: a, b, c, d, e, f);
-    reads!(alloc, 7: a, b, c, d, e, f, g);
-    reads!(alloc, 8: a, b, c, d, e, f, g, h);
-    reads!(alloc, 9: a, b, c, d, e, f, g, h, i);
-    reads!(alloc, 10: a, b, c, d, e, f, g, h, i, j);
-    reads!(alloc, 11: a, b, c, d, e, f, g, h, i, j, k);
-    reads!(alloc, 12: a, b, c, d, e, f, g, h, i, j, k, l);
+    let columns = number_columns(alloc)?;
+    let (l,): (i8,) = last(alloc, columns.as_slice(), 1)?.read(alloc)?;
+    same([l].as_slice(), &[12])?;
+    let (k, l): (i8, i8) = last(alloc, columns.as_slice(), 2)?.read(alloc)?;
+    same([k, l].as_slice(), &[11, 12])?;
+    let (j, k, l): (i8, i8, i8) = last(alloc, columns.as_slice(), 3)?.read(alloc)?;
+    same([j, k, l].as_slice(), &[10, 11, 12])?;
+    let (i, j, k, l): (i8, i8, i8, i8) = last(alloc, columns.as_slice(), 4)?.read(alloc)?;
+    same([i, j, k, l].as_slice(), &[9, 10, 11, 12])?;
+    Ok(())
+}
+
+#[test]
+fn tuples_of_up_to_eight_values_are_read(rt: HostRuntime) -> Result<(), Fail> {
+    let alloc = rt.alloc();
+    let columns = number_columns(alloc)?;
+    let (h, i, j, k, l): (i8, i8, i8, i8, i8) = last(alloc, columns.as_slice(), 5)?.read(alloc)?;
+    same([h, i, j, k, l].as_slice(), &[8, 9, 10, 11, 12])?;
+    let (g, h, i, j, k, l): (i8, i8, i8, i8, i8, i8) = last(alloc, columns.as_slice(), 6)?.read(
+        alloc,
+    )?;
+    same([g, h, i, j, k, l].as_slice(), &[7, 8, 9, 10, 11, 12])?;
+    let (f, g, h, i, j, k, l): (i8, i8, i8, i8, i8, i8, i8) = last(
+        alloc,
+        columns.as_slice(),
+        7,
+    )?.read(alloc)?;
+    same([f, g, h, i, j, k, l].as_slice(), &[6, 7, 8, 9, 10, 11, 12])?;
+    let (e, f, g, h, i, j, k, l): (i8, i8, i8, i8, i8, i8, i8, i8) = last(
+        alloc,
+        columns.as_slice(),
+        8,
+    )?.read(alloc)?;
+    same(
+        [e, f, g, h, i, j, k, l].as_slice(),
+        &[5, 6, 7, 8, 9, 10, 11, 12],
+    )?;
+    Ok(())
+}
+
+#[test]
+fn tuples_of_up_to_twelve_values_are_read(rt: HostRuntime) -> Result<(), Fail> {
+    let alloc = rt.alloc();
+    let columns = number_columns(alloc)?;
+    let (d, e, f, g, h, i, j, k, l): (i8, i8, i8, i8, i8, i8, i8, i8, i8) = last(
+        alloc,
+        columns.as_slice(),
+        9,
+    )?.read(alloc)?;
+    same(
+        [d, e, f, g, h, i, j, k, l].as_slice(),
+        &[4, 5, 6, 7, 8, 9, 10, 11, 12],
+    )?;
+    let (c, d, e, f, g, h, i, j, k, l): (i8, i8, i8, i8, i8, i8, i8, i8, i8, i8) = last(
+        alloc,
+        columns.as_slice(),
+        10,
+    )?.read(alloc)?;
+    same(
+        [c, d, e, f, g, h, i, j, k, l].as_slice(),
+        &[3, 4, 5, 6, 7, 8, 9, 10, 11, 12],
+    )?;
+    let (b, c, d, e, f, g, h, i, j, k, l): (i8, i8, i8, i8, i8, i8, i8, i8, i8, i8, i8) = last(
+        alloc,
+        columns.as_slice(),
+        11,
+    )?.read(alloc)?;
+    same(
+        [b, c, d, e, f, g, h, i, j, k, l].as_slice(),
+        &[2, 3, 4, 5, 6, 7, 8, 9, 10, 11, 12],
+    )?;
+    let (a, b, c, d, e, f, g, h, i, j, k, l): (i8, i8, i8, i8, i8, i8, i8, i8, i8, i8, i8, i8) =
+        last(alloc, columns.as_slice(), 12)?.read(alloc)?;
+    same(
+        [a, b, c, d, e, f, g, h, i, j, k, l].as_slice(),
+        &[1, 2, 3, 4, 5, 6, 7, 8, 9, 10, 11, 12],
+    )?;
     Ok(())
 }
 
