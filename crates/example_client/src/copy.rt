@@ -8,10 +8,9 @@ use std::alloc::Global;
 /// Reads the ids of a binary COPY.
 fn read_ids(alloc: Global, bytes: &[u8], columns: &[Column]) -> Result<Vec<i64>> {
     let mut ids = Vec::new(alloc);
-    let mut rows = CopyRows::new(bytes, columns)?;
-    while let Some(mut row) = rows.next()? {
-        ids.push(row.next::<i64>(alloc)?)?;
-        row.finish()?;
+    for row in CopyRows::new(bytes, columns)? {
+        let (id, _note): (i64, Option<&str>) = row?.read(alloc)?;
+        ids.push(id)?;
     }
     Ok(ids)
 }

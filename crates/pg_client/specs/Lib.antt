@@ -3,6 +3,7 @@ pub mod BindBytes
 pub mod Binding
 pub mod CatalogRows
 pub mod CatalogTypes
+pub mod CopyIteration
 pub mod CopyParts
 pub mod CopyReading
 pub mod Descriptions

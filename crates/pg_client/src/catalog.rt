@@ -16,6 +16,7 @@ mod kinds;
 mod left;
 mod order;
 mod refused;
+mod type_row;
 
 use firsts::{first_places, is_first};
 pub(crate) use kinds::part;

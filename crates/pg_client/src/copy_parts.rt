@@ -22,7 +22,7 @@ enum Stage {
 }
 
 /// The rows of a binary COPY whose bytes come in parts, such as those of CopyData messages, which
-/// may be cut anywhere.
+/// may end anywhere.
 ///
 /// It keeps no bytes. The caller appends the bytes that come to those that [`next`] left, and calls
 /// `next` until it returns `None`; when no more bytes come, [`finish`]. So no more than a row and a

@@ -31,7 +31,8 @@ pub enum CopyFault {
 /// The rows of a binary COPY, as of `COPY t TO STDOUT (FORMAT binary)`, in a slice: a header, a
 /// tuple for each row, and a trailer. A tuple has the layout of the body of a DataRow message.
 ///
-/// It does not allocate.
+/// It does not allocate. A `for` loop over it gives each row as a `Result`, and ends after the first
+/// one that is refused.
 #[derive(Debug, Drop)]
 pub struct CopyRows<'a, 'c> {
     columns: &'c [Column],

@@ -32,7 +32,7 @@ pub trait FromColumns<'a>: Sized {
         ensures never_memory { memory_free (columns_of row.entry) (taken_of row.entry) (rest_of row.entry)
             → NeverMemoryAt result };
 
-    /// Returns whether the columns are as many.
+    /// Returns whether this is the number of the columns.
     fn is_width(columns: usize) -> bool
         ensures { result ≡ (columns == width) };
 }
@@ -109,7 +109,8 @@ impl<
 > FromColumns<'a> for And4<A, B, C, D, E> {
     ghost width = { ⟦<InTurn4<A, B, C, D, E> as FromColumns<'a>>⟧.width };
 
-    ghost reads = { λ columns n s. ThroughAt in_turn4 (⟦<InTurn4<A, B, C, D, E> as FromColumns<'a>>⟧.reads columns n s) };
+    ghost reads = { λ columns n s.
+        ThroughAt in_turn4 (⟦<InTurn4<A, B, C, D, E> as FromColumns<'a>>⟧.reads columns n s) };
 
     ghost memory_free = { ⟦<InTurn4<A, B, C, D, E> as FromColumns<'a>>⟧.memory_free };
 
@@ -144,7 +145,8 @@ impl<
 > FromColumns<'a> for And8<A, B, C, D, E, F, G, H, I> {
     ghost width = { ⟦<InTurn8<A, B, C, D, E, F, G, H, I> as FromColumns<'a>>⟧.width };
 
-    ghost reads = { λ columns n s. ThroughAt in_turn8 (⟦<InTurn8<A, B, C, D, E, F, G, H, I> as FromColumns<'a>>⟧.reads columns n s) };
+    ghost reads = { λ columns n s.
+        ThroughAt in_turn8 (⟦<InTurn8<A, B, C, D, E, F, G, H, I> as FromColumns<'a>>⟧.reads columns n s) };
 
     ghost memory_free = { ⟦<InTurn8<A, B, C, D, E, F, G, H, I> as FromColumns<'a>>⟧.memory_free };
 

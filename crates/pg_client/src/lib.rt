@@ -12,6 +12,7 @@
 mod bind;
 pub mod catalog;
 mod column;
+mod copy_iter;
 mod copy_parts;
 mod copy_rows;
 mod described;
@@ -24,6 +25,7 @@ mod tuples;
 
 pub use bind::{Bind, MAX_PARAMS};
 pub use column::{Column, ColumnName, NAME_LEN};
+pub use copy_iter::CopyIter;
 pub use copy_parts::CopyParts;
 pub use copy_rows::{CopyFault, CopyRows};
 pub use described::{

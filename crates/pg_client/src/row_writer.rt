@@ -1,6 +1,6 @@
 //! The values of a row that are written: the parameters of a Bind message, or a tuple of a COPY.
-ghost use Rattle.std.specs.Prelude.{◌≡◌, ◌≤◌, List, [], IfErr, IfNone, IfOk, IfSome, IsTrue, Ok, Some, None, length, slice_get};
-ghost use Rattle.std.specs.Prelude.{ℕ};
+ghost use Rattle.std.specs.Prelude.{◌≡◌, ◌≤◌, ℕ, List, [], IfErr, IfNone, IfOk, IfSome, IsTrue, Ok, Some, None};
+ghost use Rattle.std.specs.Prelude.{length, slice_get};
 ghost use Rattle.std.specs.Borrow.{sem};
 ghost use Rattle.pg_base.specs.Appending.{Appends, KeepsCapacity};
 ghost use Rattle.pg_base.specs.Cells.{Cell};
@@ -17,14 +17,9 @@ ghost use Rattle.postgres_types.specs.Writing.{checked};
 
 use crate::bind::ALL_BINARY;
 use crate::placed_fault::{Place, PlacedFault};
+use pg_tuples::{HEADER, TRAILER};
 use postgres_types::protocol::int2_to_sql;
 use postgres_types::{BytesMut, Fault, Format, ToSql, Type, frame_value};
-
-/// The header of a binary COPY: the signature, no flag, and an empty header extension.
-const HEADER: &[u8; 19] = b"PGCOPY\n\xff\r\n\0\0\0\0\0\0\0\0\0";
-
-/// The trailer of a binary COPY: -1 instead of a number of columns.
-const TRAILER: &[u8; 2] = b"\xff\xff";
 
 /// What the values of a row are.
 #[derive(Debug, Clone, Copy)]
@@ -142,7 +137,8 @@ impl<'b, 't> RowWriter<'b, 't> {
     /// the bytes that it had before the row.
     pub fn finish(self) -> Result<(), PlacedFault>
         ensures { (target : Target) (types : List PgType) (before : List ℕ) (cells : List Cell)
-            → Writes target types before cells self.entry → EndsRow target types before cells self.exit.0.now.items result }
+            → Writes target types before cells self.entry
+            → EndsRow target types before cells self.exit.0.now.items result }
     {
         let RowWriter {
             out,

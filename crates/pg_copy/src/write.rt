@@ -16,6 +16,7 @@ use crate::escapes::unescape;
 use crate::parse::push_frame;
 use memchr::memchr2;
 use pg_text::no_value;
+use pg_tuples::{HEADER, TRAILER};
 use postgres_types::Fault;
 use postgres_types::private::BytesMut;
 use std::alloc::Global;
@@ -23,12 +24,6 @@ use std::io::{Read, Write};
 use streams::blocks::write_whole;
 use streams::lines::{AnswerLine, RunFault, answer_lines};
 use streams::split::split_once;
-
-/// The header of a binary COPY: the signature, no flag set, and an empty header extension.
-const HEADER: &[u8; 19] = b"PGCOPY\n\xff\r\n\0\0\0\0\0\0\0\0\0";
-
-/// The trailer of a binary COPY: -1 instead of a number of columns.
-const TRAILER: &[u8; 2] = b"\xff\xff";
 
 /// What ends a binary COPY that a fault stopped: -32768 instead of a number of columns. A server
 /// refuses it, and loads none of the rows before it. If only the trailer were missing, it would load

@@ -9,6 +9,9 @@ use thiserror::Error;
 /// The signature, with which a binary COPY begins.
 const SIGNATURE: &[u8; 11] = b"PGCOPY\n\xff\r\n\0";
 
+/// The header that a writer begins with: the signature, no flag set, and an empty header extension.
+pub const HEADER: &[u8; 19] = b"PGCOPY\n\xff\r\n\0\0\0\0\0\0\0\0\0";
+
 /// The critical flag that says that the tuples begin with an OID.
 const OIDS: u16 = 1;
 

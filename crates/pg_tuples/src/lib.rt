@@ -9,5 +9,5 @@ mod header;
 pub mod laws;
 mod tuples;
 
-pub use header::{HeaderFault, take_header};
-pub use tuples::{Front, TupleFault, front_of, is_count};
+pub use header::{HEADER, HeaderFault, take_header};
+pub use tuples::{Front, TRAILER, TupleFault, front_of, is_count};

@@ -10,7 +10,7 @@ use pg_base::protocol::split_number;
 use thiserror::Error;
 
 /// The trailer: -1 instead of a number of columns.
-const TRAILER: [u8; 2] = [0xff, 0xff];
+pub const TRAILER: &[u8; 2] = b"\xff\xff";
 
 /// Why a tuple is refused.
 #[derive(Debug, Clone, Copy, PartialEq, Eq, Error)]
@@ -51,7 +51,7 @@ pub fn front_of(bytes: &[u8], columns: usize) -> Result<Front<'_>, TupleFault>
     let Some((count, fields)) = bytes.split_first_chunk::<2>() else {
         return Ok(Front::Part);
     };
-    if *count == TRAILER {
+    if count == TRAILER {
         return Ok(Front::Trailer(fields));
     }
     if !is_count(*count, columns) {

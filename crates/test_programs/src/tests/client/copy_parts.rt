@@ -43,7 +43,7 @@ fn ids_in_parts(alloc: Global, len: usize) -> Result<Vec<i32>, Fail> {
 }
 
 #[test]
-fn rows_are_read_wherever_a_copy_is_cut(rt: HostRuntime) -> Result<(), Fail> {
+fn rows_are_read_wherever_a_part_ends(rt: HostRuntime) -> Result<(), Fail> {
     for len in 1..=COPY.len() {
         same(ids_in_parts(rt.alloc(), len)?.as_slice(), &[7, 8])?;
     }

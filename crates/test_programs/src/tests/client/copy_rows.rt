@@ -84,6 +84,30 @@ fn rows_come_in_their_order(rt: HostRuntime) -> Result<(), Fail> {
 }
 
 #[test]
+fn a_loop_gives_each_row(rt: HostRuntime) -> Result<(), Fail> {
+    let alloc = rt.alloc();
+    let columns = item_columns();
+    let mut ids = Vec::new(alloc);
+    for row in CopyRows::new(&COPY, &columns)? {
+        ids.push(row?.get::<i32>(alloc, 0)?)?;
+    }
+    same(ids.as_slice(), &[7, 8])
+}
+
+#[test]
+fn a_refusal_is_the_last_item(_rt: HostRuntime) -> Result<(), Fail> {
+    let columns = item_columns();
+    let front = COPY.get(..TRAILER).ok_or("no front")?;
+    let mut rows = CopyRows::new(front, &columns)?.into_iter();
+    for _ in 0..2 {
+        same(rows.next().is_some_and(|row| row.is_ok()), true)?;
+    }
+    let refused = rows.next().ok_or("no refusal")?;
+    same(refused.err(), Some(CopyFault::Truncated { row: 3 }))?;
+    same(rows.next().is_none(), true)
+}
+
+#[test]
 fn a_copy_may_have_no_row(rt: HostRuntime) -> Result<(), Fail> {
     let mut bytes = HEADER.to_vec(rt.alloc())?;
     bytes.extend_from_slice(b"\xff\xff")?;
