@@ -13,6 +13,7 @@ WITH_SENTENCES = ["README.md", "docs/GUIDE.md", "docs/OWN-TYPES.md", "docs/C.md"
 NOT_RUN = {
     "./check": "the gate, which runs this",
     "rt ci": "the gate runs it",
+    "scripts/over-socket": "scripts/server-test runs it",
     "rt try --test": "a library's tests are compiled for a minute or two",
     'rt check --only ""': "for a crate that fails",
 }

@@ -1,0 +1,115 @@
+//! A session with a server: types and a table are made, rows are inserted, selected and copied, the
+//! server refuses rows, and a COPY is cancelled.
+//!
+//! Standard input is what the server sends, and standard output what it receives:
+//! `scripts/over-socket` joins them to a server's socket. Standard error tells what was done. The
+//! arguments are the user and the database.
+#![tactic(auto)]
+
+mod copies;
+mod item;
+mod link;
+mod statements;
+
+use anyhow::{Result, bail};
+use item::{Item, expect, make_items};
+use link::Link;
+use pg_client::catalog::{Catalog, QUERY, TypeRow};
+use pg_messages::frontend::terminate;
+use postgres_types::Type;
+use std::alloc::Global;
+use std::env;
+use std::io::{Read, Write};
+
+/// The statements that make the types and the table.
+const CREATE: &str = "\
+CREATE TYPE level AS ENUM ('junior', 'senior', 'staff');
+CREATE DOMAIN percentage AS smallint CHECK (VALUE BETWEEN 0 AND 100);
+CREATE TYPE address AS (street text, city text);
+CREATE TABLE item (id int8 PRIMARY KEY, note text, level level, share percentage, homes address[])";
+
+/// The number of rows.
+const COUNT: u32 = 1_000;
+
+const SELECT: &str = "SELECT * FROM item ORDER BY id";
+
+fn main(rt: HostRuntime) -> Result<()> {
+    let alloc = rt.alloc();
+    let mut args = env::args(&rt)?;
+    let (Some(user), Some(database)) = (args.nth(1), args.next()) else {
+        bail!("usage: example_session USER DATABASE");
+    };
+    let items = make_items(alloc, COUNT)?;
+    let items = items.as_slice();
+    let mut link = Link::new(alloc, rt.stdin(), rt.stdout())?;
+    link.start(alloc, user.as_str(), database.as_str())?;
+    let table = create(alloc, &mut link)?;
+    let mut log = rt.stderr();
+    insert_and_select(alloc, &mut link, &table, items, &mut log)?;
+    copy_out_and_in(alloc, &mut link, &table, items, &mut log)?;
+    terminate(&mut link.out)?;
+    link.send()
+}
+
+/// The types of the server, and those of the table's columns.
+#[derive(Drop)]
+struct Table {
+    catalog: Catalog,
+    types: Vec<Type>,
+}
+
+/// Makes the table.
+fn create<R: Read + Drop, W: Write + Drop>(alloc: Global, link: &mut Link<R, W>) -> Result<Table> {
+    link.run(alloc, CREATE)?;
+    let types = link.select(alloc, QUERY, &Catalog::built_in(alloc))?;
+    let catalog = Catalog::new(alloc, types.rows::<TypeRow>(alloc)?.as_slice())?;
+    let types = link.prepare(alloc, &catalog)?;
+    Ok(Table { catalog, types })
+}
+
+/// Inserts the rows, selects them, and inserts them once more, which the server refuses: it skips what
+/// follows the first row up to the Sync, and is ready after that.
+fn insert_and_select<R: Read + Drop, W: Write + Drop, L: Write>(
+    alloc: Global,
+    link: &mut Link<R, W>,
+    table: &Table,
+    items: &[Item],
+    log: &mut L,
+) -> Result<()> {
+    link.insert(table.types.as_slice(), items)?;
+    link.finish(alloc, &table.catalog)?;
+    let selected = link.select(alloc, SELECT, &table.catalog)?;
+    expect(selected.rows::<Item>(alloc)?.as_slice(), items)?;
+    writeln!(log, "inserted and selected {} rows", items.len())?;
+    link.insert(table.types.as_slice(), items)?;
+    if let Err(error) = link.finish(alloc, &table.catalog) {
+        writeln!(log, "inserted nothing: {error}")?;
+        link.finish(alloc, &table.catalog)?;
+    }
+    Ok(())
+}
+
+/// Copies the rows out, cancels to copy them in, and copies them in.
+fn copy_out_and_in<R: Read + Drop, W: Write + Drop, L: Write>(
+    alloc: Global,
+    link: &mut Link<R, W>,
+    table: &Table,
+    items: &[Item],
+    log: &mut L,
+) -> Result<()> {
+    let selected = link.select(alloc, SELECT, &table.catalog)?;
+    let copied = link.copy_out(alloc, selected.columns.as_slice())?;
+    expect(copied.as_slice(), items)?;
+    writeln!(log, "copied {} rows out", copied.len())?;
+    link.run(alloc, "TRUNCATE item")?;
+    link.cancel_copy(table.types.as_slice(), items)?;
+    if let Err(error) = link.finish(alloc, &table.catalog) {
+        writeln!(log, "copied nothing in: {error}")?;
+        link.finish(alloc, &table.catalog)?;
+    }
+    link.copy_in(table.types.as_slice(), items)?;
+    link.finish(alloc, &table.catalog)?;
+    let selected = link.select(alloc, SELECT, &table.catalog)?;
+    expect(selected.rows::<Item>(alloc)?.as_slice(), items)?;
+    Ok(writeln!(log, "copied {} rows in", items.len())?)
+}
