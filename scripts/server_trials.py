@@ -67,8 +67,6 @@ class Table:
     words: list
     cells: int
     shown: str = "*"
-    # Whether lines need not be the server's text, since the expressions say what is the same.
-    is_document: bool = False
     # Why the bytes that copy_write writes cannot be the server's, where they cannot.
     other_bytes: str = ""
 
@@ -101,9 +99,7 @@ class CopyTrial:
         """Has copy_read turn the rows: the lines."""
         stream = self.server.psql(f"COPY {self.table.name} TO STDOUT (FORMAT binary)")
         status, lines, message = run(self.programs.copy_read, self.table.words, stream)
-        if not status and self.table.is_document:
-            message = self.load(lines, "")
-        elif not status:
+        if not status:
             message = differing(lines, self.server.psql(f"COPY {self.table.name} TO STDOUT"))
         self.counts.take(f"{self.name}: copy_read {self.table.words}: {message}", self.table.cells, not status and not message)
         return lines

@@ -13,6 +13,9 @@ use std::io::{BufReader, Read, Write};
 /// The greatest length of a message that is taken.
 const MOST: usize = 1 << 24;
 
+/// The tag of a NoticeResponse.
+const NOTICE: u8 = b'N';
+
 /// A connection: messages are sent together, and received one by one.
 #[derive(Drop)]
 pub struct Link<R, W> {
@@ -44,6 +47,7 @@ impl Answer {
 }
 
 impl<R: Read + Drop, W: Write + Drop> Link<R, W> {
+    /// Creates a connection over the streams of a server. It sends nothing.
     pub fn new(alloc: Global, input: R, output: W) -> Result<Link<R, W>> {
         Ok(Link {
             input: BufReader::new(alloc, input)?,
@@ -66,7 +70,7 @@ impl<R: Read + Drop, W: Write + Drop> Link<R, W> {
     pub fn next(&mut self) -> Result<Message<'_>> {
         for _ in 0..u64::MAX {
             self.receive()?;
-            if !matches!(self.message()?, Message::NoticeResponse(_)) {
+            if self.received.first() != Some(&NOTICE) {
                 break;
             }
         }

@@ -7,6 +7,7 @@ use Rattle.postgres_types.specs.Faults.{Outcome, Refusal, transmit}
 use Rattle.postgres_types.specs.Appending.{Wire, wire_of}
 use Rattle.postgres_types.specs.ArrayWriting.{element_cells, lower_bound_of, wire_array, wire_by_element}
 use Rattle.postgres_types.specs.Cells.{Cell, fits_prefix}
+use Rattle.postgres_types.specs.JsonTexts.{wire_document}
 use Rattle.postgres_types.specs.Numbers.{wire_bool}
 use Rattle.pg_write.specs.Writing.{checked}
 use Rattle.postgres_types.specs.ParamWriting.{AppendsFrame}
@@ -56,8 +57,20 @@ list_never_null wire ty (Some element) vs =
     (wire_array (lower_bound_of ty) (oid_of element) (element_cells (wire element) vs)) transmit
     (array_never_null (lower_bound_of ty) (oid_of element) (element_cells (wire element) vs))
 
-pub ruleset never_null =
-    (bytes_or_fault, option_never_null, record_never_null, bool_never_null, special_never_null, list_never_null)
+pub document_never_null : (versioned : Bool) (w : Wire) → NeverNull w → NeverNull (wire_document versioned w)
+document_never_null versioned (Ok None) p = absurd p
+document_never_null versioned (Ok (Some text)) p = tt
+document_never_null versioned (Err r) p = tt
+
+pub ruleset never_null = (
+  bytes_or_fault,
+  option_never_null,
+  record_never_null,
+  bool_never_null,
+  special_never_null,
+  list_never_null,
+  document_never_null,
+)
 
 some_cell : (cell : Cell) → NeverNull (Ok cell) → IsSome cell
 some_cell None p = absurd p

@@ -12,7 +12,6 @@ use Rattle.std.specs.declared.hash.FoldHasher.{FoldHasher}
 use Rattle.pg_copy.specs.declared.types.Base.{Base}
 use Rattle.pg_copy.specs.declared.types.Base.TheVariants as base
 use Rattle.pg_base.specs.Cells.{be}
-use Rattle.pg_base.specs.Json.{ReadsJson, wire_json}
 use Rattle.pg_numbers.specs.NumericCells.{ReadsNumeric, wire_numeric}
 use Rattle.pg_numbers.specs.NumericTexts.{numeric_text}
 use Rattle.pg_text.specs.Floats.{SaysFloat, ShowsFloat}
@@ -50,8 +49,10 @@ use Rattle.postgres_types.specs.Records.{IsRefused}
 use Rattle.postgres_types.specs.Special.{ReadsSpecial, date_view, timestamp_view, wire_special}
 use Rattle.postgres_types.specs.Texts.{ReadsText, has_version, wire_text}
 use Rattle.postgres_types.specs.Timestamps.{ReadsTimestamp, nanos_of, wire_timestamp}
-use Rattle.serde_json.specs.View.{view}
+use Rattle.postgres_types.specs.JsonTexts.{ReadsDocument, wire_document}
 use Rattle.postgres_types.specs.Lsn.{lsn_of, lsn_text}
+use Rattle.postgres_types.specs.Views.{ReadsThrough}
+use Rattle.postgres_types.specs.declared.json_text.JsonText.{JsonText}
 use Rattle.uuid.specs.Text as uuid
 use Rattle.uuid.specs.Text.{hyphenated_text, lower}
 
@@ -114,13 +115,9 @@ in_form true forms = forms.1
 abbrev pub plain : {A : Type 0} → (Cell → Outcome A → Type 0) → (A → List ℕ → List ℕ → Type 0) → Values × Values
 plain reads shows = with_arrays (values (λ _. reads) shows)
 
--- values of which only the written form is known
-abbrev pub written_by_type : {A : Type 0} → (Content → A → Wire) → TextValues × TextValues
-written_by_type wire = (text_values AnyValue wire, text_arrays_of (text_values AnyValue wire))
-
--- the same for one format, whatever the Postgres type
+-- values of which only the written form is known, with one format
 abbrev pub written : {A : Type 0} → (A → Wire) → TextValues × TextValues
-written wire = written_by_type (λ _. wire)
+written wire = (text_values AnyValue (λ _. wire), text_arrays_of (text_values AnyValue (λ _. wire)))
 
 -- values that a text stands for, with one format
 abbrev pub parsed : {A : Type 0} → (List ℕ → A → Type 0) → (A → Wire) → TextValues × TextValues
@@ -141,11 +138,17 @@ texts = (
   ),
 )
 
--- JSON documents
+-- JSON documents, which are their texts
 abbrev pub documents : Conversions
 documents = (
-  with_arrays (values (λ ty. ReadsJson view (is_row Jsonb ty)) AnyText),
-  written_by_type (λ ty v. wire_json (is_row Jsonb ty) (view v)),
+  with_arrays (values {A = JsonText (Bor (List ℕ))} (λ ty. ReadsThrough (λ v. v.0)
+      (ReadsDocument (is_row Jsonb ty) (ReadsText (λ s. s.now) false))) (Shows (λ v. v.0.now))),
+  (
+    text_values {A = JsonText (Bor (List ℕ))} (λ text v. v.0.now ≡ text)
+        (λ ty v. wire_document (is_row Jsonb ty) (wire_text false v.0.now)),
+    text_arrays_of (text_values {A = JsonText (String Global)} (λ text v. string_bytes v.0 ≡ text)
+        (λ ty v. wire_document (is_row Jsonb ty) (wire_text false (string_bytes v.0)))),
+  ),
 )
 
 -- a map of texts

@@ -1,7 +1,8 @@
 //! The cell for a text, by the type of its column.
 ghost use Rattle.std.specs.Prelude.{◌≡◌, ◌++◌, IfOk, OnErr, OnOk, Some, map};
 ghost use Rattle.pg_copy.specs.Outputs.{Gains};
-ghost use Rattle.pg_copy.specs.Values.{in_form, text_arrays_of, text_values, texts, texts_with_arrays, values_of};
+ghost use Rattle.pg_copy.specs.Values.{documents, in_form, text_arrays_of, text_values, texts, texts_with_arrays};
+ghost use Rattle.pg_copy.specs.Values.{values_of};
 ghost use Rattle.pg_copy.specs.WrittenCells.{FrameAs, NeverNull, text_of};
 ghost use Rattle.pg_copy.specs.WrittenComposites.{FieldOf, RecordOf, SaysRecord, composite_texts, record_of};
 ghost use Rattle.pg_copy.specs.WrittenRows.{FrameOf};
@@ -15,7 +16,7 @@ use pg_text::items::{between, said};
 use pg_text::{FromText, no_value, records};
 use postgres_types::composite::field_count_to_sql;
 use postgres_types::private::BytesMut;
-use postgres_types::{Fault, ToSql, Type, frame_value};
+use postgres_types::{Fault, JsonText, ToSql, Type, frame_value};
 use std::alloc::Global;
 
 /// The frame of NULL: the length -1.
@@ -41,6 +42,9 @@ macro_rules! push {
 macro_rules! push_row {
     ($args:tt [String, $($types:tt)*]) => {
         push_text $args
+    };
+    ($args:tt [postgres_types::JsonText<String>, $($types:tt)*]) => {
+        push_document $args
     };
     ($args:tt [$rust:ty, $($types:tt)*]) => {
         push_as::<$rust> $args
@@ -130,6 +134,25 @@ fn push_text(
         return push_array_as::<String>(alloc, ty, text, out);
     }
     frame_value(alloc, &text, ty, out)
+}
+
+/// Appends the frame of a JSON document, without copying its text, or of an array of documents.
+#[tactic(auto, using(crate::proofs::Wires::never_null))]
+fn push_document(
+    alloc: Global,
+    is_array: bool,
+    ty: &Type,
+    text: &str,
+    out: &mut BytesMut,
+) -> Result<(), Fault>
+    ensures ok { OnOk result (Gains (FrameAs (in_form is_array documents.1) (content ty.now) (Some text.now))
+        out.old.items out.new.items) }
+    ensures err { OnErr result (out.new.items ≡ out.old.items) }
+{
+    if is_array {
+        return push_array_as::<JsonText<String>>(alloc, ty, text, out);
+    }
+    frame_value(alloc, &JsonText(text), ty, out)
 }
 
 /// Appends the frame of a `T`, or of an array of them.

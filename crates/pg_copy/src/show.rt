@@ -7,8 +7,8 @@ ghost use Rattle.pg_copy.specs.Composites.{ReadsBytesOfEach, ReadsElement, Refus
 ghost use Rattle.pg_copy.specs.Composites.{ShowsRecord, record_values, records_values, type_fault};
 ghost use Rattle.pg_copy.specs.Lines.{values_in};
 ghost use Rattle.pg_copy.specs.ReadingSteps.{TakesText};
-ghost use Rattle.pg_copy.specs.Values.{HasOtherBound, arrays_of, in_form, no_values, texts, values, values_of};
-ghost use Rattle.pg_copy.specs.Values.{with_arrays};
+ghost use Rattle.pg_copy.specs.Values.{HasOtherBound, arrays_of, documents, in_form, no_values, texts, values};
+ghost use Rattle.pg_copy.specs.Values.{values_of, with_arrays};
 ghost use Rattle.pg_copy.specs.declared.columns.Field.{Field};
 ghost use Rattle.pg_text.specs.Lists.{ShowsArray, ShowsElement};
 ghost use Rattle.pg_types.specs.Content.{Content, content};
@@ -24,7 +24,7 @@ use pg_text::separators::push_separator;
 use pg_text::{ToText, records};
 use postgres_types::composite::{read_end, read_field_count};
 use postgres_types::private::{read_be_i32, read_value, take_cell};
-use postgres_types::{Fault, FromSql, Oid, Type, check_type};
+use postgres_types::{Fault, FromSql, JsonText, Oid, Type, check_type};
 use std::alloc::Global;
 
 // Reads a cell by the row of its type.
@@ -44,6 +44,9 @@ macro_rules! take {
 macro_rules! take_row {
     ($args:tt [String, $($types:tt)*]) => {
         take_str $args
+    };
+    ($args:tt [postgres_types::JsonText<String>, $($types:tt)*]) => {
+        take_document $args
     };
     ($args:tt [Vec<u8>, $($types:tt)*]) => {
         take_as::<&[u8]> $args
@@ -111,6 +114,29 @@ fn take_str<'a: 'b, 'b>(
     match read_value::<Option<&str>>(alloc, ty, row)? {
         None => Ok(None),
         Some(text) => Ok(Some(text.as_bytes())),
+    }
+}
+
+/// Takes a JSON document, whose text stands in its cell, or an array of documents.
+fn take_document<'a: 'b, 'b>(
+    alloc: Global,
+    is_array: bool,
+    ty: &Type,
+    row: &mut &'a [u8],
+    own: &'b mut Vec<u8>,
+) -> Result<Option<&'b [u8]>, Fault>
+    ensures ok { IfOk result (λ text. TakesText (in_form is_array documents.0) (content ty.now)
+        row.old.now (cell_of text) row.new.now) }
+    ensures err { IfErr result (CellFault (in_form is_array documents.0) (content ty.now) row.old.now) }
+{
+    if is_array {
+        return take_array_as::<JsonText<&str>>(alloc, ty, row, own);
+    }
+    let is_accepted = <Option<JsonText<&str>> as FromSql<'a>>::accepts(ty);
+    check_type(is_accepted, ty, "Option")?;
+    match read_value::<Option<JsonText<&str>>>(alloc, ty, row)? {
+        None => Ok(None),
+        Some(JsonText(text)) => Ok(Some(text.as_bytes())),
     }
 }
 

@@ -14,7 +14,7 @@ pub mod bytea;
 mod date_forms;
 mod dates;
 mod digits;
-mod documents;
+pub mod documents;
 pub mod floats;
 pub mod hstore;
 mod intervals;

@@ -10,6 +10,7 @@ pub mod Enum
 pub mod FixedBytesBack
 pub mod HstoreBack
 pub mod IntervalBack
+pub mod JsonText
 pub mod NetworkBack
 pub mod NumberBack
 pub mod OptionBack

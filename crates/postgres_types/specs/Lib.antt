@@ -4,6 +4,7 @@ pub mod Composites
 pub mod Conversion
 pub mod Domains
 pub mod Enums
+pub mod JsonTexts
 pub mod Laws
 pub mod Odd
 pub mod ReadingBack

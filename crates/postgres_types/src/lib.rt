@@ -7,11 +7,13 @@
 
 pub mod composite;
 pub mod enums;
+pub mod json_text;
 pub mod newtype;
 pub mod odd;
 mod paired;
 mod rewriting;
 
+pub use json_text::JsonText;
 pub use paired::{Finite, Paired};
 pub use pg_base::bits::BitVec;
 pub use pg_base::fault::{Fault, WasNull, WrongType};

@@ -14,6 +14,7 @@ mod hstore;
 mod infinities;
 mod intervals;
 mod json;
+mod json_text;
 mod long_cells;
 mod long_map;
 mod lsn;

@@ -242,3 +242,67 @@ fn are_refused(alloc: Global, reason: &str, rows: &[(&str, &[u8])]) -> Result<()
     }
     Ok(())
 }
+
+/// Cells and their texts.
+const TEXTS: [&[Row]; 14] = [
+    bits::BITS,
+    bytea::BYTES,
+    dates::DATES,
+    floats::FLOATS,
+    hstore::MAPS,
+    intervals::INTERVALS,
+    json::DOCUMENTS,
+    lsn::POSITIONS,
+    network::ADDRESSES,
+    numbers::NUMBERS,
+    numerics::NUMERICS,
+    texts::TEXTS,
+    user_types::USER_TYPES,
+    uuids::UUIDS,
+];
+
+#[test]
+fn values_have_the_servers_texts(rt: HostRuntime) -> Result<(), Fail> {
+    for rows in TEXTS {
+        spell(rt.alloc(), rows)?;
+    }
+    Ok(())
+}
+
+/// Texts that are not values of their types.
+const NO_VALUES: [&[(&str, &[u8])]; 10] = [
+    bits::NO_VALUES,
+    bytea::NO_VALUES,
+    dates::NO_VALUES,
+    floats::NO_VALUES,
+    hstore::NO_VALUES,
+    intervals::NO_VALUES,
+    lsn::NO_VALUES,
+    numbers::NO_VALUES,
+    numerics::NO_VALUES,
+    uuids::NO_VALUES,
+];
+
+#[test]
+fn other_texts_have_no_values(rt: HostRuntime) -> Result<(), Fail> {
+    for rows in NO_VALUES {
+        have_no_values(rt.alloc(), rows)?;
+    }
+    Ok(())
+}
+
+/// Texts that mean the same as the server's.
+const OTHER_TEXTS: [&[(&str, &[u8], &[u8])]; 4] = [
+    dates::OTHER_TEXTS,
+    floats::OTHER_TEXTS,
+    intervals::OTHER_TEXTS,
+    numerics::OTHER_TEXTS,
+];
+
+#[test]
+fn other_texts_mean_the_same(rt: HostRuntime) -> Result<(), Fail> {
+    for rows in OTHER_TEXTS {
+        mean_the_same(rt.alloc(), rows)?;
+    }
+    Ok(())
+}

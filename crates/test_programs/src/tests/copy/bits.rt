@@ -1,10 +1,9 @@
 //! Cells and texts from PostgreSQL 15.18, as `COPY .. TO STDOUT` in both formats gave them.
 
-use super::{Row, have_no_values, spell};
-use std::test::Fail;
+use super::Row;
 
 /// Bits.
-const BITS: &[Row] = &[
+pub const BITS: &[Row] = &[
     ("bit", Some(b"\x00\x00\x00\x01\x80"), b"1"),
     ("bit", Some(b"\x00\x00\x00\x09\xaa\x80"), b"101010101"),
     ("varbit", Some(b"\x00\x00\x00\x00"), b""),
@@ -22,14 +21,4 @@ const BITS: &[Row] = &[
 ];
 
 /// Texts that are not values of their types.
-const NO_VALUES: &[(&str, &[u8])] = &[("bit", b"12")];
-
-#[test]
-fn bits_have_the_servers_texts(rt: HostRuntime) -> Result<(), Fail> {
-    spell(rt.alloc(), BITS)
-}
-
-#[test]
-fn other_texts_are_no_bits(rt: HostRuntime) -> Result<(), Fail> {
-    have_no_values(rt.alloc(), NO_VALUES)
-}
+pub const NO_VALUES: &[(&str, &[u8])] = &[("bit", b"12")];

@@ -1,10 +1,9 @@
 //! Cells and texts from PostgreSQL 15.18, as `COPY .. TO STDOUT` in both formats gave them.
 
-use super::{Row, have_no_values, mean_the_same, spell};
-use std::test::Fail;
+use super::Row;
 
 /// Dates, times of day and timestamps.
-const DATES: &[Row] = &[
+pub const DATES: &[Row] = &[
     ("date", Some(b"\x00\x00\x00\x00"), b"2000-01-01"),
     ("date", Some(b"\xff\xff\xd53"), b"1970-01-01"),
     ("date", Some(b"\x00\x00\x00;"), b"2000-02-29"),
@@ -177,7 +176,7 @@ const DATES: &[Row] = &[
 ];
 
 /// Texts that are not values of their types.
-const NO_VALUES: &[(&str, &[u8])] = &[
+pub const NO_VALUES: &[(&str, &[u8])] = &[
     ("date", b"2000-02-30"),
     ("date", b"0000-01-01"),
     ("date", b"2000-01-01 AD"),
@@ -205,25 +204,10 @@ const NO_VALUES: &[(&str, &[u8])] = &[
 ];
 
 /// Texts that the server reads as the value with the text beside them.
-const OTHER_TEXTS: &[(&str, &[u8], &[u8])] = &[
+pub const OTHER_TEXTS: &[(&str, &[u8], &[u8])] = &[
     ("date", b"2000-1-1", b"2000-01-01"),
     ("date", b"0001-1-1", b"0001-01-01"),
     ("date", b"002000-01-001", b"2000-01-01"),
     ("time", b"1:2:3", b"01:02:03"),
     ("timestamp", b"2000-1-1 001:2:3", b"2000-01-01 01:02:03"),
 ];
-
-#[test]
-fn other_texts_mean_the_same_dates(rt: HostRuntime) -> Result<(), Fail> {
-    mean_the_same(rt.alloc(), OTHER_TEXTS)
-}
-
-#[test]
-fn dates_have_the_servers_texts(rt: HostRuntime) -> Result<(), Fail> {
-    spell(rt.alloc(), DATES)
-}
-
-#[test]
-fn other_texts_are_no_dates(rt: HostRuntime) -> Result<(), Fail> {
-    have_no_values(rt.alloc(), NO_VALUES)
-}

@@ -1,10 +1,10 @@
 //! Floats from PostgreSQL 15.18, as `COPY .. TO STDOUT` in both formats gave them.
 
-use super::{Row, have_no_values, line_of, reading, spell, stream_of, writing};
+use super::{Row, line_of, reading, stream_of, writing};
 use std::test::Fail;
 
 /// Numbers, both zeros, subnormal numbers, the largest ones, infinities and NaN.
-const FLOATS: &[Row] = &[
+pub const FLOATS: &[Row] = &[
     ("float8", Some(b"\x00\x00\x00\x00\x00\x00\x00\x00"), b"0"),
     ("float8", Some(b"\x80\x00\x00\x00\x00\x00\x00\x00"), b"-0"),
     ("float8", Some(b"?\xf0\x00\x00\x00\x00\x00\x00"), b"1"),
@@ -81,7 +81,7 @@ const FLOATS: &[Row] = &[
 ];
 
 /// Texts that are none, or out of range.
-const NO_VALUES: &[(&str, &[u8])] = &[
+pub const NO_VALUES: &[(&str, &[u8])] = &[
     ("float8", b""),
     ("float8", b"1 2"),
     ("float8", b"1e400"),
@@ -90,16 +90,6 @@ const NO_VALUES: &[(&str, &[u8])] = &[
     ("float4", b"1e39"),
     ("float4", b"-1e-50"),
 ];
-
-#[test]
-fn floats_have_the_servers_texts(rt: HostRuntime) -> Result<(), Fail> {
-    spell(rt.alloc(), FLOATS)
-}
-
-#[test]
-fn other_texts_are_no_floats(rt: HostRuntime) -> Result<(), Fail> {
-    have_no_values(rt.alloc(), NO_VALUES)
-}
 
 /// NaN of a sign and a payload, as the server writes `-nan(0x123)`, has the text of NaN, which says the quiet one.
 #[test]
@@ -113,19 +103,9 @@ fn nan_has_no_payload_in_a_text(rt: HostRuntime) -> Result<(), Fail> {
 }
 
 /// Other texts of the same numbers, as the server reads them.
-#[test]
-fn other_texts_of_floats_are_read(rt: HostRuntime) -> Result<(), Fail> {
-    let alloc = rt.alloc();
-    let rows: [(&[u8], &[u8]); 4] = [
-        (b"inf", b"\x7f\xf0\x00\x00\x00\x00\x00\x00"),
-        (b"-INFINITY", b"\xff\xf0\x00\x00\x00\x00\x00\x00"),
-        (b"+1.50", b"\x3f\xf8\x00\x00\x00\x00\x00\x00"),
-        (b"9007199254740993", b"\x43\x40\x00\x00\x00\x00\x00\x00"),
-    ];
-    for (text, cell) in rows {
-        let line = line_of(alloc, text)?;
-        let stream = stream_of(alloc, Some(cell))?;
-        writing(alloc, &["float8"], line.as_slice())?.is(stream.as_slice(), "")?;
-    }
-    Ok(())
-}
+pub const OTHER_TEXTS: &[(&str, &[u8], &[u8])] = &[
+    ("float8", b"inf", b"Infinity"),
+    ("float8", b"-INFINITY", b"-Infinity"),
+    ("float8", b"+1.50", b"1.5"),
+    ("float8", b"9007199254740993", b"9.007199254740992e+15"),
+];

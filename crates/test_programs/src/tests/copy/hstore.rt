@@ -1,10 +1,9 @@
 //! Cells and texts from PostgreSQL 15.18, as `COPY .. TO STDOUT` in both formats gave them.
 
-use super::{Row, have_no_values, spell};
-use std::test::Fail;
+use super::Row;
 
 /// Maps.
-const MAPS: &[Row] = &[
+pub const MAPS: &[Row] = &[
     ("hstore", Some(b"\x00\x00\x00\x00"), b""),
     (
         "hstore",
@@ -27,19 +26,9 @@ const MAPS: &[Row] = &[
 ];
 
 /// Texts that are not values of their types.
-const NO_VALUES: &[(&str, &[u8])] = &[
+pub const NO_VALUES: &[(&str, &[u8])] = &[
     ("hstore", b"a=>1"),
     ("hstore", b"\"a\""),
     ("hstore", b"\"a\"=>\"1\","),
     ("hstore", b"\"a\"=>\"1"),
 ];
-
-#[test]
-fn maps_have_the_servers_texts(rt: HostRuntime) -> Result<(), Fail> {
-    spell(rt.alloc(), MAPS)
-}
-
-#[test]
-fn other_texts_are_no_maps(rt: HostRuntime) -> Result<(), Fail> {
-    have_no_values(rt.alloc(), NO_VALUES)
-}

@@ -1,10 +1,9 @@
 //! Cells and texts from PostgreSQL 15.18, as `COPY .. TO STDOUT` in both formats gave them.
 
-use super::{Row, have_no_values, mean_the_same, spell};
-use std::test::Fail;
+use super::Row;
 
 /// Intervals.
-const INTERVALS: &[Row] = &[
+pub const INTERVALS: &[Row] = &[
     (
         "interval",
         Some(b"\x00\x00\x00\x00\x00\x00\x00\x00\x00\x00\x00\x00\x00\x00\x00\x00"),
@@ -122,7 +121,7 @@ const INTERVALS: &[Row] = &[
 ];
 
 /// Texts that are not values of their types.
-const NO_VALUES: &[(&str, &[u8])] = &[
+pub const NO_VALUES: &[(&str, &[u8])] = &[
     ("interval", b""),
     ("interval", b"1 week"),
     ("interval", b"1 year 1 mon 1 day 00:00:00 1 year"),
@@ -139,7 +138,7 @@ const NO_VALUES: &[(&str, &[u8])] = &[
 ];
 
 /// Texts that the server reads as the value with the text beside them.
-const OTHER_TEXTS: &[(&str, &[u8], &[u8])] = &[
+pub const OTHER_TEXTS: &[(&str, &[u8], &[u8])] = &[
     ("interval", b"1 mon 1 year", b"1 year 1 mon"),
     ("interval", b"01:00:00 1 day", b"1 day 01:00:00"),
     ("interval", b"00:00:00 1 years", b"1 year"),
@@ -151,18 +150,3 @@ const OTHER_TEXTS: &[(&str, &[u8], &[u8])] = &[
     ),
     ("interval", b"1:2:3", b"01:02:03"),
 ];
-
-#[test]
-fn other_texts_mean_the_same_intervals(rt: HostRuntime) -> Result<(), Fail> {
-    mean_the_same(rt.alloc(), OTHER_TEXTS)
-}
-
-#[test]
-fn intervals_have_the_servers_texts(rt: HostRuntime) -> Result<(), Fail> {
-    spell(rt.alloc(), INTERVALS)
-}
-
-#[test]
-fn other_texts_are_no_intervals(rt: HostRuntime) -> Result<(), Fail> {
-    have_no_values(rt.alloc(), NO_VALUES)
-}

@@ -1,10 +1,9 @@
 //! Cells and texts from PostgreSQL 15.18, as `COPY .. TO STDOUT` in both formats gave them.
 
-use super::{Row, have_no_values, spell};
-use std::test::Fail;
+use super::Row;
 
 /// Log sequence numbers.
-const POSITIONS: &[Row] = &[
+pub const POSITIONS: &[Row] = &[
     ("pg_lsn", Some(b"\x00\x00\x00\x00\x00\x00\x00\x00"), b"0/0"),
     (
         "pg_lsn",
@@ -20,14 +19,4 @@ const POSITIONS: &[Row] = &[
 ];
 
 /// Texts that are not values of their types.
-const NO_VALUES: &[(&str, &[u8])] = &[("pg_lsn", b"0")];
-
-#[test]
-fn positions_have_the_servers_texts(rt: HostRuntime) -> Result<(), Fail> {
-    spell(rt.alloc(), POSITIONS)
-}
-
-#[test]
-fn other_texts_are_no_positions(rt: HostRuntime) -> Result<(), Fail> {
-    have_no_values(rt.alloc(), NO_VALUES)
-}
+pub const NO_VALUES: &[(&str, &[u8])] = &[("pg_lsn", b"0")];

@@ -1,10 +1,10 @@
 //! Cells and texts from PostgreSQL 15.18, as `COPY .. TO STDOUT` in both formats gave them.
 
-use super::{Row, are_refused, spell};
+use super::{Row, are_refused};
 use std::test::Fail;
 
 /// Addresses, networks and MAC addresses.
-const ADDRESSES: &[Row] = &[
+pub const ADDRESSES: &[Row] = &[
     (
         "macaddr",
         Some(b"\x08\x00+\x01\x02\x03"),
@@ -205,11 +205,6 @@ const NO_MAC_ADDRESSES: &[(&str, &[u8])] = &[
 ];
 
 const NO_ADDRESSES: &[(&str, &[u8])] = &[("inet", b"1.2.3"), ("inet", b"1.2.3.4/x")];
-
-#[test]
-fn addresses_have_the_servers_texts(rt: HostRuntime) -> Result<(), Fail> {
-    spell(rt.alloc(), ADDRESSES)
-}
 
 #[test]
 fn other_texts_are_no_addresses(rt: HostRuntime) -> Result<(), Fail> {

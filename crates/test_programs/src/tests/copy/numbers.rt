@@ -1,10 +1,9 @@
 //! Cells and texts from PostgreSQL 15.18, as `COPY .. TO STDOUT` in both formats gave them.
 
-use super::{Row, have_no_values, spell};
-use std::test::Fail;
+use super::Row;
 
 /// Numbers and booleans.
-const NUMBERS: &[Row] = &[
+pub const NUMBERS: &[Row] = &[
     ("bool", Some(b"\x01"), b"t"),
     ("bool", Some(b"\x00"), b"f"),
     ("bool", None, b"\\N"),
@@ -124,7 +123,7 @@ const NUMBERS: &[Row] = &[
 ];
 
 /// Texts that are not values of their types.
-const NO_VALUES: &[(&str, &[u8])] = &[
+pub const NO_VALUES: &[(&str, &[u8])] = &[
     ("bool", b"yes"),
     ("\"char\"", b"ab"),
     ("\"char\"", b"\\\\400"),
@@ -133,13 +132,3 @@ const NO_VALUES: &[(&str, &[u8])] = &[
     ("oid", b"-1"),
     ("int2vector", b"1  2"),
 ];
-
-#[test]
-fn numbers_have_the_servers_texts(rt: HostRuntime) -> Result<(), Fail> {
-    spell(rt.alloc(), NUMBERS)
-}
-
-#[test]
-fn other_texts_are_no_numbers(rt: HostRuntime) -> Result<(), Fail> {
-    have_no_values(rt.alloc(), NO_VALUES)
-}

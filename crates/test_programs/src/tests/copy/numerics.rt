@@ -1,10 +1,10 @@
 //! Values of NUMERIC from PostgreSQL 15.18, as `COPY .. TO STDOUT` in both formats gave them.
 
-use super::{Row, have_no_values, line_of, spell, stream_of, writing};
+use super::{Row, have_no_values};
 use std::test::Fail;
 
 /// Numbers with and without a scale, NaN, the infinities, and arrays.
-const NUMERICS: &[Row] = &[
+pub const NUMERICS: &[Row] = &[
     ("numeric", None, b"\\N"),
     ("numeric", Some(b"\x00\x00\x00\x00\x00\x00\x00\x00"), b"0"),
     (
@@ -138,7 +138,7 @@ const NUMERICS: &[Row] = &[
 ];
 
 /// Texts that are not values of NUMERIC.
-const NO_VALUES: &[(&str, &[u8])] = &[
+pub const NO_VALUES: &[(&str, &[u8])] = &[
     ("numeric", b""),
     ("numeric", b"-"),
     ("numeric", b"."),
@@ -152,16 +152,6 @@ const NO_VALUES: &[(&str, &[u8])] = &[
     ("numeric[]", b"{1,x}"),
 ];
 
-#[test]
-fn numerics_have_the_servers_texts(rt: HostRuntime) -> Result<(), Fail> {
-    spell(rt.alloc(), NUMERICS)
-}
-
-#[test]
-fn other_texts_are_no_numerics(rt: HostRuntime) -> Result<(), Fail> {
-    have_no_values(rt.alloc(), NO_VALUES)
-}
-
 /// Tests that a number of more digits than a value can have has no value.
 #[test]
 fn long_texts_are_no_numerics(rt: HostRuntime) -> Result<(), Fail> {
@@ -174,26 +164,13 @@ fn long_texts_are_no_numerics(rt: HostRuntime) -> Result<(), Fail> {
 }
 
 /// Other texts of the same values, as the server reads them.
-#[test]
-fn other_texts_of_numerics_are_read(rt: HostRuntime) -> Result<(), Fail> {
-    let alloc = rt.alloc();
-    let rows: [(&[u8], &[u8]); 8] = [
-        (b"nan", b"\x00\x00\x00\x00\xc0\x00\x00\x00"),
-        (b"+inf", b"\x00\x00\x00\x00\xd0\x00\x00 "),
-        (b"-infinity", b"\x00\x00\x00\x00\xf0\x00\x00 "),
-        (
-            b"+1.50",
-            b"\x00\x02\x00\x00\x00\x00\x00\x02\x00\x01\x13\x88",
-        ),
-        (b"007", b"\x00\x01\x00\x00\x00\x00\x00\x00\x00\x07"),
-        (b"1.", b"\x00\x01\x00\x00\x00\x00\x00\x00\x00\x01"),
-        (b"-.5", b"\x00\x01\xff\xff@\x00\x00\x01\x13\x88"),
-        (b"-0.00", b"\x00\x00\x00\x00\x00\x00\x00\x02"),
-    ];
-    for (text, cell) in rows {
-        let line = line_of(alloc, text)?;
-        let stream = stream_of(alloc, Some(cell))?;
-        writing(alloc, &["numeric"], line.as_slice())?.is(stream.as_slice(), "")?;
-    }
-    Ok(())
-}
+pub const OTHER_TEXTS: &[(&str, &[u8], &[u8])] = &[
+    ("numeric", b"nan", b"NaN"),
+    ("numeric", b"+inf", b"Infinity"),
+    ("numeric", b"-infinity", b"-Infinity"),
+    ("numeric", b"+1.50", b"1.50"),
+    ("numeric", b"007", b"7"),
+    ("numeric", b"1.", b"1"),
+    ("numeric", b"-.5", b"-0.5"),
+    ("numeric", b"-0.00", b"0.00"),
+];

@@ -1,10 +1,9 @@
 //! Cells and texts from PostgreSQL 15.18, as `COPY .. TO STDOUT` in both formats gave them.
 
-use super::{Row, spell};
-use std::test::Fail;
+use super::Row;
 
 /// Texts.
-const TEXTS: &[Row] = &[
+pub const TEXTS: &[Row] = &[
     ("text", Some(b""), b""),
     ("text", Some(b"a"), b"a"),
     ("text", Some(b"a b"), b"a b"),
@@ -48,8 +47,3 @@ const TEXTS: &[Row] = &[
         b"{\"\\t\",\"\\n\",\"\\v\",\"\\f\",\"\\r\",\\b,\" \",\"x \"}",
     ),
 ];
-
-#[test]
-fn texts_have_the_servers_texts(rt: HostRuntime) -> Result<(), Fail> {
-    spell(rt.alloc(), TEXTS)
-}

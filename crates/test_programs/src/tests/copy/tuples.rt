@@ -201,9 +201,9 @@ const REFUSED: [(&str, &[u8], &str); 5] = [
         "row 1, column 1 (int4[]): array with a lower bound other than 1",
     ),
     (
-        "json",
-        b"1.5",
-        "row 1, column 1 (json): JSON number is not a whole number",
+        "jsonb",
+        b"\x02{}",
+        "row 1, column 1 (jsonb): unsupported JSONB encoding version",
     ),
 ];
 

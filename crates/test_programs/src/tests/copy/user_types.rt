@@ -1,6 +1,6 @@
-//! User-defined types, with cells and texts from PostgreSQL 15.18, and documents.
+//! User-defined types, with cells and texts from PostgreSQL 15.18.
 
-use super::{HEADER, Row, line_of, reading, spell, stream_of, writing};
+use super::{HEADER, Row, line_of, reading, stream_of, writing};
 use std::test::Fail;
 
 /// A composite type, and arrays of it by its OID on that server.
@@ -14,7 +14,7 @@ const PAIR: &str = "(moods enum[], at timestamp with time zone, \"a, b\" citext)
 const PAIRS: &str = "(moods enum[], at timestamp with time zone, \"a, b\" citext)[]";
 
 /// Composite types, an enumerated type, and types of extensions.
-const USER_TYPES: &[Row] = &[
+pub const USER_TYPES: &[Row] = &[
     (
         ITEM,
         Some(
@@ -167,24 +167,6 @@ const USER_TYPES: &[Row] = &[
               00\\\\\",\\\\\"x\\\\\"\\\\\"y\\\\\\\\\\\\\\\\z\\\\\")\",NULL}",
     ),
 ];
-
-/// A document of JSONB as the server sends it, and its line.
-const JSONB: &[u8] = b"\x01{\"a\": [1, \"x\", null], \"bb\": {}}";
-
-const JSONB_LINE: &[u8] = b"{\"a\":[1,\"x\",null],\"bb\":{}}\n";
-
-#[test]
-fn user_types_have_the_servers_texts(rt: HostRuntime) -> Result<(), Fail> {
-    spell(rt.alloc(), USER_TYPES)
-}
-
-#[test]
-fn a_document_is_compact(rt: HostRuntime) -> Result<(), Fail> {
-    let stream = stream_of(rt.alloc(), Some(JSONB))?;
-    reading(rt.alloc(), &["jsonb"], stream.as_slice())?.is(JSONB_LINE, "")?;
-    let written = writing(rt.alloc(), &["jsonb"], JSONB_LINE)?.written;
-    reading(rt.alloc(), &["jsonb"], written.as_slice())?.is(JSONB_LINE, "")
-}
 
 /// Texts that are no values of the composite type.
 const NO_VALUES: [&[u8]; 8] = [
