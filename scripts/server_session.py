@@ -3,7 +3,7 @@ import concurrent.futures
 import os
 import subprocess
 
-from messages import damaged
+from messages import damaged, with_others
 from server import TOP
 from server_trials import Counts, run
 
@@ -39,12 +39,16 @@ def try_session(server, program):
         different = server.psql(f"\\connect {database}", *DIFFERENT.split("; "))
         counts.take(f"session: other rows: {different}", 1, different == b"0\n0\n")
     with open(stream, "rb") as it:
-        try_damaged(it.read(), program, counts)
+        try_damaged(with_others(it.read()), program, counts)
     return counts
 
 
 def try_damaged(stream, program, counts):
-    """Gives the program what a server sent, truncated and altered: it refuses each truncation, and ends by itself."""
+    """Gives the program what a server sent, and messages of other kinds, which it passes over; then truncated and altered: it refuses
+    each truncation, and ends by itself."""
+    status, _, message = run(program, ["tester", "session"], stream)
+    counts.take(f"session: status {status} for messages of all kinds: {message}", 1, status == 0)
+
     def ended(each):
         is_truncated, given = each
         status, _, message = run(program, ["tester", "session"], given)

@@ -6,6 +6,9 @@ from server import TOP
 from server_trials import HEADER, TRAILER, Counts, run
 
 SOURCE = f"{TOP}/crates/pg_client/src/catalog.rt"
+# pg_client's table of built-in types, and the library's own, which that does not repeat.
+BUILT_IN = f"{TOP}/crates/pg_client/src/catalog/built_in.rt"
+LIBRARY = f"{TOP}/crates/pg_types/src/types/built_in.rt"
 # Types of each kind, those of crates/own_types among them, and parts that are younger than what holds them.
 OWN_TYPES = r"""
 CREATE SCHEMA "Odd Schema";
@@ -69,6 +72,32 @@ def query():
         return re.search(r'QUERY: &str = "\\\n(.*?)";\n', it.read(), re.S)[1]
 
 
+def built_in_rows(server):
+    """The rows of the table of built-in types, of the types whose OID is below FirstGenbkiObjectId, and so the same in every server.
+
+    Row types of system tables are left out, since their fields differ between versions, and their arrays with them.
+    """
+    rows = server.psql(f"""
+        SELECT concat_ws(' ', oid, name, kind, CASE WHEN kind IN ('a', 'm', 'r') THEN element ELSE 0 END)
+        FROM ({query()}) it
+        WHERE oid < 10000 AND kind <> 'c' AND NOT (kind = 'a' AND element IN (SELECT oid FROM pg_type WHERE typtype = 'c'))
+        ORDER BY oid""")
+    with open(LIBRARY, encoding="utf-8") as it:
+        known = re.findall(r'^ +[A-Z][A-Z0-9_]* \w+ (\d+) "', it.read(), re.M)
+    rows = [it.split() for it in rows.decode().splitlines()]
+    return [f"    ({oid}, \"{name}\", b'{kind}', {element}),\n" for oid, name, kind, element in rows if oid not in known]
+
+
+def try_built_in(server, counts):
+    """Compares the table with the server's types. A server of a later version may have more."""
+    with open(BUILT_IN, encoding="utf-8") as it:
+        table = it.read()
+    version = re.search(r"of PostgreSQL (\d+)", table)[1]
+    rows, found = re.findall(r'^    \(\d+, ".*\n', table, re.M), built_in_rows(server)
+    is_same = server.psql("SHOW server_version_num").decode()[:2] == version
+    counts.take("types: scripts/built-in-types writes another table", len(rows), rows == found if is_same else {*rows} <= {*found})
+
+
 def copied(server, of):
     """The rows of a query as a binary COPY."""
     return server.psql(f"COPY ({of}) TO STDOUT (FORMAT binary)")
@@ -86,6 +115,7 @@ def try_types(server, program):
     expected = server.psql(EXPECTED).decode().splitlines()
     status, output, message = run(program, [], copied(server, f"{query()} ORDER BY 1") + values_of(server))
     lines, counts = output.decode().splitlines(), Counts()
+    try_built_in(server, counts)
     if status:
         counts.differences.append(f"types: {message}")
     for line, wanted in itertools.zip_longest(lines, [*expected, *(it for _, it in VALUES)]):

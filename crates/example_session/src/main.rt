@@ -7,13 +7,14 @@
 #![tactic(auto)]
 
 mod copies;
+mod inserts;
 mod item;
-mod link;
-mod statements;
 
 use anyhow::{Result, bail};
+use copies::{cancel_copy, copy_in, copy_out};
+use example_link::Link;
+use inserts::insert;
 use item::{Item, expect, make_items};
-use link::Link;
 use pg_client::catalog::{Catalog, QUERY, TypeRow};
 use pg_messages::frontend::terminate;
 use postgres_types::Type;
@@ -28,6 +29,9 @@ CREATE DOMAIN percentage AS smallint CHECK (VALUE BETWEEN 0 AND 100);
 CREATE TYPE address AS (street text, city text);
 CREATE TABLE item (id int8 PRIMARY KEY, note text, level level, share percentage, homes address[])";
 
+/// The statement that inserts a row.
+const INSERT: &str = "INSERT INTO item VALUES ($1, $2, $3, $4, $5)";
+
 /// The number of rows.
 const COUNT: u32 = 1_000;
 
@@ -41,9 +45,10 @@ fn main(rt: HostRuntime) -> Result<()> {
     };
     let items = make_items(alloc, COUNT)?;
     let items = items.as_slice();
+    let built_in = Catalog::built_in(alloc)?;
     let mut link = Link::new(alloc, rt.stdin(), rt.stdout())?;
-    link.start(alloc, user.as_str(), database.as_str())?;
-    let table = create(alloc, &mut link)?;
+    link.start(alloc, user.as_str(), database.as_str(), &built_in)?;
+    let table = create(alloc, &mut link, &built_in)?;
     let mut log = rt.stderr();
     insert_and_select(alloc, &mut link, &table, items, &mut log)?;
     copy_out_and_in(alloc, &mut link, &table, items, &mut log)?;
@@ -59,11 +64,15 @@ struct Table {
 }
 
 /// Makes the table.
-fn create<R: Read + Drop, W: Write + Drop>(alloc: Global, link: &mut Link<R, W>) -> Result<Table> {
-    link.run(alloc, CREATE)?;
-    let types = link.select(alloc, QUERY, &Catalog::built_in(alloc))?;
+fn create<R: Read + Drop, W: Write + Drop>(
+    alloc: Global,
+    link: &mut Link<R, W>,
+    built_in: &Catalog,
+) -> Result<Table> {
+    link.run(alloc, CREATE, built_in)?;
+    let types = link.select(alloc, QUERY, built_in)?;
     let catalog = Catalog::new(alloc, types.rows::<TypeRow>(alloc)?.as_slice())?;
-    let types = link.prepare(alloc, &catalog)?;
+    let types = link.prepare(alloc, "insert", INSERT, &catalog)?;
     Ok(Table { catalog, types })
 }
 
@@ -76,13 +85,13 @@ fn insert_and_select<R: Read + Drop, W: Write + Drop, L: Write>(
     items: &[Item],
     log: &mut L,
 ) -> Result<()> {
-    link.insert(table.types.as_slice(), items)?;
-    link.finish(alloc, &table.catalog)?;
+    insert(table.types.as_slice(), items, &mut link.out)?;
+    link.exchange(alloc, &table.catalog)?;
     let selected = link.select(alloc, SELECT, &table.catalog)?;
     expect(selected.rows::<Item>(alloc)?.as_slice(), items)?;
     writeln!(log, "inserted and selected {} rows", items.len())?;
-    link.insert(table.types.as_slice(), items)?;
-    if let Err(error) = link.finish(alloc, &table.catalog) {
+    insert(table.types.as_slice(), items, &mut link.out)?;
+    if let Err(error) = link.exchange(alloc, &table.catalog) {
         writeln!(log, "inserted nothing: {error}")?;
         link.finish(alloc, &table.catalog)?;
     }
@@ -98,17 +107,17 @@ fn copy_out_and_in<R: Read + Drop, W: Write + Drop, L: Write>(
     log: &mut L,
 ) -> Result<()> {
     let selected = link.select(alloc, SELECT, &table.catalog)?;
-    let copied = link.copy_out(alloc, selected.columns.as_slice())?;
+    let copied = copy_out(alloc, link, selected.columns.as_slice())?;
     expect(copied.as_slice(), items)?;
     writeln!(log, "copied {} rows out", copied.len())?;
-    link.run(alloc, "TRUNCATE item")?;
-    link.cancel_copy(table.types.as_slice(), items)?;
-    if let Err(error) = link.finish(alloc, &table.catalog) {
+    link.run(alloc, "TRUNCATE item", &table.catalog)?;
+    cancel_copy(table.types.as_slice(), items, &mut link.out)?;
+    if let Err(error) = link.exchange(alloc, &table.catalog) {
         writeln!(log, "copied nothing in: {error}")?;
         link.finish(alloc, &table.catalog)?;
     }
-    link.copy_in(table.types.as_slice(), items)?;
-    link.finish(alloc, &table.catalog)?;
+    copy_in(table.types.as_slice(), items, &mut link.out)?;
+    link.exchange(alloc, &table.catalog)?;
     let selected = link.select(alloc, SELECT, &table.catalog)?;
     expect(selected.rows::<Item>(alloc)?.as_slice(), items)?;
     Ok(writeln!(log, "copied {} rows in", items.len())?)

@@ -30,11 +30,11 @@ ends_in_extension s t extension len awaits is few = (
 )
 
 -- the bytes of these rows were taken, and the tuple of one more stands before the rest
-pub tuple_taken : (taken left : List ℕ) (rows : List (List Cell)) → BeginsCopy rows taken → (n : ℕ) (row rest : List ℕ)
-    → FramesThen row n [] → CountThen left n (row ++ rest)
-    → (front : List ℕ) × (left ≡ front ++ rest) × (cells : List Cell) × (length cells ≡ n) × (frames cells ≡ Some row)
+pub tuple_taken : (taken others : List ℕ) (rows : List (List Cell)) → BeginsCopy rows taken → (n : ℕ) (row rest : List ℕ)
+    → FramesThen row n [] → CountThen others n (row ++ rest)
+    → (front : List ℕ) × (others ≡ front ++ rest) × (cells : List Cell) × (length cells ≡ n) × (frames cells ≡ Some row)
     × BeginsCopy (rows ++ cells ∷ []) (taken ++ front)
-tuple_taken taken left rows begun n row rest (cells, framed, many, are, is) (number, counted, stands) =
+tuple_taken taken others rows begun n row rest (cells, framed, many, are, is) (number, counted, stands) =
     let framed_row : frames cells ≡ Some row = are ∙ ap Some (sym (is ∙ append-nil framed)) in (
       number ++ row,
       stands ∙ sym (append_assoc number row rest),
@@ -44,15 +44,15 @@ tuple_taken taken left rows begun n row rest (cells, framed, many, are, is) (num
       copy_next rows cells taken (number ++ row) begun (tuple_counted cells n number row many counted framed_row),
     )
 
--- so many rows were taken, and these bytes are left
-module _ (bytes left : List ℕ) (rows : List (List Cell)) (count : ℕ)
-    (so_far : (t : List ℕ) × BeginsCopy rows t × (bytes ≡ t ++ left) × (count ≡ length rows)) where
-  pub row_next : (n : ℕ) (row rest : List ℕ) → FramesThen row n [] → CountThen left n (row ++ rest)
+-- so many rows were taken, and other bytes follow
+module _ (bytes others : List ℕ) (rows : List (List Cell)) (count : ℕ)
+    (so_far : (t : List ℕ) × BeginsCopy rows t × (bytes ≡ t ++ others) × (count ≡ length rows)) where
+  pub row_next : (n : ℕ) (row rest : List ℕ) → FramesThen row n [] → CountThen others n (row ++ rest)
       → (cells : List Cell) × (length cells ≡ n) × (frames cells ≡ Some row)
       × ((t : List ℕ) × BeginsCopy (rows ++ cells ∷ []) t × (bytes ≡ t ++ rest)
       × (count + 1 ≡ length (rows ++ cells ∷ [])))
   row_next n row rest framed counted =
-      let next = tuple_taken so_far.0 left rows so_far.1 n row rest framed counted in (
+      let next = tuple_taken so_far.0 others rows so_far.1 n row rest framed counted in (
         next.2,
         next.3,
         next.4,
@@ -64,7 +64,7 @@ module _ (bytes left : List ℕ) (rows : List (List Cell)) (count : ℕ)
         ),
       )
 
-  pub copy_ends : (after : List ℕ) → left ≡ trailer ++ after → length after ≡ 0 → IsCopy rows bytes
+  pub copy_ends : (after : List ℕ) → others ≡ trailer ++ after → length after ≡ 0 → IsCopy rows bytes
   copy_ends after stands none = (
     so_far.0,
     so_far.1,

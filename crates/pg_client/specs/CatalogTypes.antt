@@ -1,5 +1,6 @@
 -- The types of a catalog, and what its rows describe.
-use Rattle.std.specs.Prelude.{◌≡◌, ◌≢◌, ℕ, List, map, length, None, Some, IsSome}
+use Rattle.std.specs.Int.{cast_signed, w8}
+use Rattle.std.specs.Prelude.{◌≡◌, ◌≢◌, ℕ, List, codes, map, length, None, Some, IsSome}
 use Rattle.std.specs.Option.{IsSomeAnd, MatchOption}
 use Rattle.std.specs.List.{AllZip, Contains, zip}
 use Rattle.std.specs.Ordering.{nat_cmp}
@@ -31,6 +32,20 @@ table_of catalog = catalog.types
 -- the rows that made no type
 abbrev pub refused_of : Catalog → List RefusedType
 refused_of catalog = catalog.refused.items
+
+-- a type of the schema pg_catalog: its OID, its name, the letter of its kind, and the OID of its element type
+abbrev pub Listed : Type 0
+Listed = ℕ × Bor (List ℕ) × ℕ × ℕ
+
+-- the row of such a type
+abbrev pub IsRowOf : Listed → TypeRow → Type 0
+IsRowOf (oid, name, kind, element) row =
+    (row.oid ≡ oid) × (row.name.now ≡ name.now) × (row.schema.now ≡ codes "pg_catalog")
+    × (row.kind ≡ cast_signed w8 kind) × (row.element ≡ element)
+
+-- the rows of such types
+abbrev pub AreListed : List TypeRow → Type 0
+AreListed rows = (types : List Listed) × AllZip IsRowOf types rows
 
 -- no built-in type has this OID
 abbrev pub NotBuiltIn : ℕ → Type 0

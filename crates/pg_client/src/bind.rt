@@ -29,7 +29,7 @@ const HEAD: [u8; 6] = [0, 1, 0, 1, 0, 0];
 ///
 /// The caller appends what precedes them in the message: the portal and the statement.
 /// [`finish`](Bind::finish) sets the number of parameters: until then the message in the buffer is
-/// incomplete.
+/// incomplete. [`cancel`](Bind::cancel) removes it.
 #[derive(Debug, Drop)]
 pub struct Bind<'b> {
     out: &'b mut BytesMut,
@@ -114,6 +114,15 @@ impl<'b> Bind<'b> {
     {
         let Bind { out, at, count } = self;
         end(at, count, out)
+    }
+
+    /// Gives back the buffer with the bytes that it had before the parameters.
+    pub fn cancel(self)
+        ensures { (before : List ℕ) (cells : List Cell) → Binds before cells self.entry
+            → self.exit.0.now.items ≡ before }
+    {
+        let start = self.at.saturating_sub(ALL_BINARY.len());
+        self.out.truncate(start);
     }
 }
 

@@ -11,6 +11,7 @@ use std::alloc::Global;
 use std::borrow::Cow;
 use std::collections::BTreeMap;
 
+mod built_in;
 mod firsts;
 mod kinds;
 mod left;
@@ -18,6 +19,7 @@ mod order;
 mod refused;
 mod type_row;
 
+use built_in::TYPES;
 use firsts::{first_places, is_first};
 pub(crate) use kinds::part;
 use left::{Left, all_places, places_of};
@@ -83,7 +85,7 @@ pub struct Catalog {
 }
 
 impl Catalog {
-    ghost use Rattle.pg_client.specs.CatalogTypes.{AddsOrHas, Inserts, IsTypeOf, IsUnknown, IsWhyNotAdded};
+    ghost use Rattle.pg_client.specs.CatalogTypes.{AddsOrHas, AreListed, Inserts, IsTypeOf, IsUnknown, IsWhyNotAdded};
     ghost use Rattle.pg_client.specs.CatalogTypes.{IsWhyNotInserted, NotBuiltIn};
     ghost use Rattle.pg_client.specs.CatalogTypes.{refused_of, table_of};
     ghost use Rattle.pg_client.specs.RowPlaces.{HasFirsts, IsFirst};
@@ -92,8 +94,18 @@ impl Catalog {
     ghost use Rattle.pg_client.specs.WholeCatalogs.{IsWhyNotMade, places_left};
     ghost use Rattle.pg_client.specs.declared.catalog.TypeRow.{TypeRow as Row};
 
-    /// Creates a catalog of the built-in types only.
-    pub fn built_in(alloc: Global) -> Catalog
+    /// Creates a catalog of the built-in types of PostgreSQL: those with an OID that is the same in
+    /// every server, but for the row types of system tables. The only error is `Memory`.
+    pub fn built_in(alloc: Global) -> Result<Catalog, Fault>
+        ensures types { IfOk result (λ catalog. (rows : List Row) × AreListed rows
+            × AreDescribed (table_of catalog) rows × AreTold (table_of catalog) (refused_of catalog) rows) }
+        ensures memory { IfErr result (λ fault. fault ≡ Fault.Memory) }
+    {
+        Catalog::new(alloc, built_in::rows(alloc, &TYPES)?.as_slice())
+    }
+
+    /// Creates a catalog of the library's own types.
+    fn own(alloc: Global) -> Catalog
         ensures types { (table_of result).entries ≡ [] }
         ensures refused { refused_of result ≡ [] }
     {
@@ -117,7 +129,7 @@ impl Catalog {
         ensures refused { IfOk result (λ catalog. AreRefused (table_of catalog) (refused_of catalog) rows.now) }
         ensures memory { IfErr result (λ fault. fault ≡ Fault.Memory) }
     {
-        let mut catalog = Catalog::built_in(alloc);
+        let mut catalog = Catalog::own(alloc);
         let firsts = first_places(alloc, rows)?;
         let order = order::parts_first(alloc, rows, &firsts)?;
         catalog.add_each(alloc, rows, &firsts, order.places.as_slice())?;

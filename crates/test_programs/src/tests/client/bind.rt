@@ -18,6 +18,15 @@ fn no_parameters_are_bound(rt: HostRuntime) -> Result<(), Fail> {
 }
 
 #[test]
+fn a_cancelled_bind_leaves_nothing(rt: HostRuntime) -> Result<(), Fail> {
+    let mut out = BytesMut::copy_from_slice(rt.alloc(), &BEFORE)?;
+    let mut bind = Bind::new(&mut out)?;
+    bind.push(&7i32, &Type::INT4)?;
+    bind.cancel();
+    same(out.as_slice(), &BEFORE)
+}
+
+#[test]
 fn owned_and_borrowed_values_are_bound(rt: HostRuntime) -> Result<(), Fail> {
     let alloc = rt.alloc();
     let mut out = BytesMut::copy_from_slice(alloc, &BEFORE)?;

@@ -37,7 +37,7 @@ fn is_column(column: Option<&Column>, name: &str, ty: &Type) -> Result<(), Fail>
 #[test]
 fn columns_of_rows_are_read(rt: HostRuntime) -> Result<(), Fail> {
     let alloc = rt.alloc();
-    let catalog = Catalog::built_in(alloc);
+    let catalog = Catalog::built_in(alloc)?;
     let found = columns(alloc, 1, ID, &catalog)?;
     same(found.len(), 1)?;
     is_column(found.get(0), "id", &Type::INT4)?;
@@ -48,7 +48,7 @@ fn columns_of_rows_are_read(rt: HostRuntime) -> Result<(), Fail> {
 fn columns_of_a_statement_have_no_format(rt: HostRuntime) -> Result<(), Fail> {
     let alloc = rt.alloc();
     let bytes = described(alloc, &[ID, NOTE])?;
-    let found = statement_columns(alloc, 2, bytes.as_slice(), &Catalog::built_in(alloc))?;
+    let found = statement_columns(alloc, 2, bytes.as_slice(), &Catalog::built_in(alloc)?)?;
     same(found.len(), 2)?;
     is_column(found.get(0), "id", &Type::INT4)?;
     is_column(found.get(1), "note", &Type::TEXT)
@@ -57,7 +57,7 @@ fn columns_of_a_statement_have_no_format(rt: HostRuntime) -> Result<(), Fail> {
 /// Tests why the columns of these descriptions are refused.
 fn refused(alloc: Global, count: u16, parts: &[&[u8]], text: &str) -> Result<(), Fail> {
     let bytes = described(alloc, parts)?;
-    match columns(alloc, count, bytes.as_slice(), &Catalog::built_in(alloc)) {
+    match columns(alloc, count, bytes.as_slice(), &Catalog::built_in(alloc)?) {
         Ok(_) => Err(Fail::from("columns")),
         Err(fault) => displays(alloc, &fault, text),
     }
@@ -80,7 +80,7 @@ fn a_refusal_names_the_column(rt: HostRuntime) -> Result<(), Fail> {
 
 /// Tests why the types of these parameters are refused.
 fn has_no_types(alloc: Global, count: u16, oids: &[u8], text: &str) -> Result<(), Fail> {
-    match parameter_types(alloc, count, oids, &Catalog::built_in(alloc)) {
+    match parameter_types(alloc, count, oids, &Catalog::built_in(alloc)?) {
         Ok(_) => Err(Fail::from("types")),
         Err(fault) => displays(alloc, &fault, text),
     }
@@ -90,7 +90,7 @@ fn has_no_types(alloc: Global, count: u16, oids: &[u8], text: &str) -> Result<()
 fn types_of_parameters_are_found(rt: HostRuntime) -> Result<(), Fail> {
     let alloc = rt.alloc();
     let oids = b"\0\0\0\x17\0\0\0\x19";
-    let types = parameter_types(alloc, 2, oids, &Catalog::built_in(alloc))?;
+    let types = parameter_types(alloc, 2, oids, &Catalog::built_in(alloc)?)?;
     same(types.len(), 2)?;
     same(types.get(0), Some(&Type::INT4))?;
     same(types.get(1), Some(&Type::TEXT))?;
@@ -115,7 +115,7 @@ fn a_long_name_is_left_out(rt: HostRuntime) -> Result<(), Fail> {
     let name = [b'n'; NAME_LEN + 1];
     let mut bytes = BytesMut::copy_from_slice(alloc, &name)?;
     bytes.extend_from_slice(&ID[2..])?;
-    let found = columns(alloc, 1, bytes.as_slice(), &Catalog::built_in(alloc))?;
+    let found = columns(alloc, 1, bytes.as_slice(), &Catalog::built_in(alloc)?)?;
     holds(
         found.get(0).is_some_and(|column| column.name.is_none()),
         "a long name",
@@ -125,7 +125,7 @@ fn a_long_name_is_left_out(rt: HostRuntime) -> Result<(), Fail> {
 #[test]
 fn memory_runs_out(rt: HostRuntime) -> Result<(), Fail> {
     let alloc = rt.alloc();
-    let catalog = Catalog::built_in(alloc);
+    let catalog = Catalog::built_in(alloc)?;
     let blocks = hoard(alloc)?;
     let found = columns(alloc, 1, ID, &catalog);
     let types = parameter_types(alloc, 1, b"\0\0\0\x17", &catalog);

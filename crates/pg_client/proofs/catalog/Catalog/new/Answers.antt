@@ -9,7 +9,7 @@ use Rattle.pg_client.proofs.catalog.Catalog.new.Goals as goal
 
 pub returns-clause-described : goal.returns-clause-described
 returns-clause-described c =
-    let none = none_described c.built_in-catalog.result.types c.args.rows.now c.built_in-catalog.ensures.types in
+    let none = none_described c.own-catalog.result.types c.args.rows.now c.own-catalog.ensures.types in
     let all : AreDescribed c.add_rest.new.self.types c.args.rows.now =
     c.in_ok-left.ensures.grows.1 (c.in_ok-add_each.ensures.grows.1 none) in
     rw c.in_ok-refuse_each.ensures.types all

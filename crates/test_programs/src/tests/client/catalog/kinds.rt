@@ -140,3 +140,38 @@ fn built_in_types_need_no_row(rt: HostRuntime) -> Result<(), Fail> {
     }
     Ok(())
 }
+
+/// Types of PostgreSQL itself that the library has no constant for, as `pg_type` has them.
+fn types_of_postgres(alloc: Global) -> Result<[Type; 7], Fail> {
+    let own = |name, oid, kind| user_type(alloc, name, oid, kind, "pg_catalog");
+    let float8 = own("float8", 701, Kind::Simple)?;
+    let numeric = own("numeric", 1700, Kind::Simple)?;
+    Ok([
+        own("_float8", 1022, Kind::Array(float8.try_clone()?))?,
+        float8,
+        own("numrange", 3906, Kind::Range(numeric.try_clone()?))?,
+        own(
+            "nummultirange",
+            4532,
+            Kind::Multirange(numeric.try_clone()?),
+        )?,
+        numeric,
+        own("int8range", 3926, Kind::Range(Type::INT8))?,
+        own("record", 2249, Kind::Pseudo)?,
+    ])
+}
+
+#[test]
+fn types_of_postgres_need_no_query(rt: HostRuntime) -> Result<(), Fail> {
+    let alloc = rt.alloc();
+    let catalog = Catalog::built_in(alloc)?;
+    holds(catalog.refused().is_empty(), "refused")?;
+    for ty in types_of_postgres(alloc)? {
+        is(&catalog, ty)?;
+    }
+    is(&catalog, Type::INT4)?;
+    for oid in [0, 15, 71, 10_000, 4_294_967_295] {
+        holds(catalog.get(oid).is_none(), "a type of no server")?;
+    }
+    Ok(())
+}

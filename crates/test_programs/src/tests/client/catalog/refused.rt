@@ -144,7 +144,7 @@ fn odd_rows_are_refused(rt: HostRuntime) -> Result<(), Fail> {
 #[test]
 fn a_type_is_added(rt: HostRuntime) -> Result<(), Fail> {
     let alloc = rt.alloc();
-    let mut catalog = Catalog::built_in(alloc);
+    let mut catalog = Catalog::new(alloc, &[])?;
     let point = row(alloc, 600, "point", b'b', 0, 0);
     let points = row(alloc, 1017, "_point", b'a', 600, 0);
     same(catalog.add(alloc, &points), Err(TypeFault::Unknown(600)))?;
@@ -161,7 +161,7 @@ fn a_type_is_added(rt: HostRuntime) -> Result<(), Fail> {
 #[test]
 fn a_type_is_inserted(rt: HostRuntime) -> Result<(), Fail> {
     let alloc = rt.alloc();
-    let mut catalog = Catalog::built_in(alloc);
+    let mut catalog = Catalog::new(alloc, &[])?;
     let point = simple_type(alloc, "point", 600, "pg_catalog")?;
     same(catalog.insert(point), Ok(()))?;
     let again = simple_type(alloc, "again", 600, "public")?;
