@@ -115,13 +115,24 @@ class CopyTrial:
             message = differing(with_empty_arrays(stream), self.server.psql(f"COPY {self.table.name} TO STDOUT (FORMAT binary)"))
         self.counts.take(f"{self.name}: copy_write {words}: {message}", self.table.cells, not status and not message)
 
+    def write_zoned(self):
+        """Has copy_write turn the lines of other time zones, in which an instant has another offset than +00."""
+        for zone in ZONES:
+            self.write(self.server.psql(f"SET TimeZone = '{zone}'", f"COPY {self.table.name} TO STDOUT"))
+
     def run(self):
         """Tries both ways: the counts."""
         lines = self.read()
         if not self.counts.differences:
             self.write(lines)
+        if any(INSTANT.search(it) for it in self.table.words):
+            self.write_zoned()
         return self.counts
 
+
+# Time zones with offsets of hours, of hours and minutes, and, in old times, of seconds.
+ZONES = ["Europe/Berlin", "Asia/Kolkata", "America/St_Johns"]
+INSTANT = re.compile(r"timestamptz|timestamp( *\([0-9]*\))? with time zone")
 
 # An empty array, as copy_write frames it: a dimension of no elements from 1 on.
 EMPTY_ARRAY = re.compile(b"\0\0\0\x14\0\0\0\1\0\0\0\0(....)\0\0\0\0\0\0\0\1", re.S)

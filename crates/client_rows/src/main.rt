@@ -19,13 +19,16 @@ use pg_messages::message::Message;
 use source::Source;
 use std::alloc::Global;
 use std::env;
-use std::io::{Read, Write};
+use std::io::{Stdin, Stdout, Write};
 
 const SELECT: &str = "TABLE source";
 
 /// The statement that inserts a row.
 const INSERT: &str = "\
 INSERT INTO target VALUES ($1, $2, $3, $4, $5, $6, $7, $8, $9, $10, $11, $12, $13, $14, $15)";
+
+/// The connection to the server.
+type Server = Link<Stdin, Stdout>;
 
 fn main(rt: HostRuntime) -> Result<()> {
     let alloc = rt.alloc();
@@ -67,11 +70,7 @@ impl Sum {
 }
 
 /// Selects the rows, each of which is read as it comes.
-fn select<R: Read + Drop, W: Write + Drop>(
-    alloc: Global,
-    link: &mut Link<R, W>,
-    catalog: &Catalog,
-) -> Result<Sum> {
+fn select(alloc: Global, link: &mut Server, catalog: &Catalog) -> Result<Sum> {
     link.ask(SELECT)?;
     let mut described = Vec::new(alloc);
     let mut sum = Sum::new();
@@ -93,11 +92,7 @@ fn select<R: Read + Drop, W: Write + Drop>(
 }
 
 /// Selects the rows, and then inserts them.
-fn select_and_insert<R: Read + Drop, W: Write + Drop>(
-    alloc: Global,
-    link: &mut Link<R, W>,
-    catalog: &Catalog,
-) -> Result<Sum> {
+fn select_and_insert(alloc: Global, link: &mut Server, catalog: &Catalog) -> Result<Sum> {
     let selected = link.select(alloc, SELECT, catalog)?;
     let rows = selected.rows::<Source<'_>>(alloc)?;
     let mut sum = Sum::new();

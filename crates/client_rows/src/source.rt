@@ -2,7 +2,7 @@
 ghost use Rattle.postgres_types.specs.CompositeFields.{and, and4, and8, end};
 
 use jiff::civil;
-use pg_client::{FromRow, PlacedFault, RowWriter};
+use pg_client::{ColumnRefs, FromRow, PlacedFault, RowWriter, ToRow};
 use pg_numbers::Float8;
 use postgres_types::composite::{And, And4, And8, End};
 use postgres_types::{IpInet, UnixTime, from_row, row};
@@ -28,24 +28,27 @@ pub struct Source<'a> {
     tags: Vec<&'a str>,
 }
 
+/// The types of its columns.
+type SourceColumns<'a> = And8<
+    i64,
+    i32,
+    i16,
+    bool,
+    Float8,
+    &'a str,
+    Option<&'a str>,
+    &'a [u8],
+    And4<
+        jiff::Timestamp,
+        UnixTime,
+        civil::Date,
+        Uuid,
+        And<IpInet, And<Vec<i32>, And<Vec<&'a str>, End>>>,
+    >,
+>;
+
 impl<'a> FromRow<'a> for Source<'a> {
-    type Columns = And8<
-        i64,
-        i32,
-        i16,
-        bool,
-        Float8,
-        &'a str,
-        Option<&'a str>,
-        &'a [u8],
-        And4<
-            jiff::Timestamp,
-            UnixTime,
-            civil::Date,
-            Uuid,
-            And<IpInet, And<Vec<i32>, And<Vec<&'a str>, End>>>,
-        >,
-    >;
+    type Columns = SourceColumns<'a>;
 
     ghost inside = { λ v. and8 v.id v.count v.rank v.is_open v.share v.name v.note v.bytes
         (and4 v.at v.local v.day v.key (and v.address (and v.sizes (and v.tags end)))) };
@@ -58,31 +61,21 @@ impl<'a> FromRow<'a> for Source<'a> {
     }
 }
 
+impl<'a> ToRow for Source<'a> {
+    type Columns = SourceColumns<'a>;
+
+    ghost inside = { λ v. and8 v.id v.count v.rank v.is_open v.share v.name v.note v.bytes
+        (and4 v.at v.local v.day v.key (and v.address (and v.sizes (and v.tags end)))) };
+
+    fn push_row(&self, row: &mut RowWriter<'_, '_>) -> Result<(), PlacedFault> {
+        let columns =
+            row!(self => id, count, rank, is_open, share, name, note, bytes, at, local, day,
+            key, address, sizes, tags);
+        columns.push_to(row)
+    }
+}
+
 impl Source<'_> {
-    /// Pushes the values as parameters.
-    pub fn push_to(&self, row: &mut RowWriter<'_, '_>) -> Result<(), PlacedFault> {
-        self.push_first(row)?;
-        row.push(&self.at)?;
-        row.push(&self.local)?;
-        row.push(&self.day)?;
-        row.push(&self.key)?;
-        row.push(&self.address)?;
-        row.push(&self.sizes)?;
-        row.push(&self.tags)
-    }
-
-    /// Pushes the first eight.
-    fn push_first(&self, row: &mut RowWriter<'_, '_>) -> Result<(), PlacedFault> {
-        row.push(&self.id)?;
-        row.push(&self.count)?;
-        row.push(&self.rank)?;
-        row.push(&self.is_open)?;
-        row.push(&self.share)?;
-        row.push(&self.name)?;
-        row.push(&self.note)?;
-        row.push(&self.bytes)
-    }
-
     /// Returns the sum of the numbers and of the lengths.
     pub fn sum(&self) -> u64 {
         let mut sum = i64::from(self.count).wrapping_add(i64::from(self.rank));

@@ -2,8 +2,8 @@
 
 use crate::link::{Answer, Link};
 use anyhow::{Result, bail};
-use pg_client::RowWriter;
 use pg_client::catalog::Catalog;
+use pg_client::{RowWriter, ToRow};
 use pg_messages::authentication::Authentication;
 use pg_messages::frontend::{
     begin_bind, describe_portal, describe_statement, end, execute, parse, query, startup_message,
@@ -70,5 +70,14 @@ impl<R: Read + Drop, W: Write + Drop> Link<R, W> {
         describe_statement(name, &mut self.out)?;
         sync(&mut self.out)?;
         Ok(self.exchange(alloc, catalog)?.types)
+    }
+
+    /// Appends the messages that run a prepared statement without rows, with these parameters, each
+    /// written for its type.
+    pub fn execute<T: ToRow>(&mut self, name: &str, types: &[Type], parameters: &T) -> Result<()> {
+        let at = begin_bind("", name, &mut self.out)?;
+        RowWriter::bind(&mut self.out, types)?.write(parameters)?;
+        end(at, &mut self.out)?;
+        Ok(execute("", 0, &mut self.out)?)
     }
 }

@@ -1,21 +1,16 @@
 //! Binary COPYs of the table.
 
+use crate::Server;
 use crate::item::Item;
 use anyhow::Result;
-use example_link::Link;
-use pg_client::{Column, CopyParts, RowWriter, push_copy_header, push_copy_trailer};
-use pg_messages::frontend::{begin_copy_data, copy_done, copy_fail, end, query};
+use pg_client::{Column, CopyParts, RowWriter};
+use pg_messages::frontend::{copy_fail, query};
 use pg_messages::message::Message;
-use postgres_types::{BytesMut, Type};
+use postgres_types::Type;
 use std::alloc::Global;
-use std::io::{Read, Write};
 
 /// Copies the table out, and returns its rows. A message ends anywhere in a row.
-pub fn copy_out<R: Read + Drop, W: Write + Drop>(
-    alloc: Global,
-    link: &mut Link<R, W>,
-    columns: &[Column],
-) -> Result<Vec<Item>> {
+pub fn copy_out(alloc: Global, link: &mut Server, columns: &[Column]) -> Result<Vec<Item>> {
     let text = "COPY (SELECT * FROM item ORDER BY id) TO STDOUT (FORMAT binary)";
     query(text, &mut link.out)?;
     link.send()?;
@@ -28,8 +23,8 @@ pub fn copy_out<R: Read + Drop, W: Write + Drop>(
                 bytes.extend_from_slice(part)?;
                 let mut rest = bytes.as_slice();
                 take_items(alloc, &mut copy, &mut rest, &mut items)?;
-                let left = rest.to_vec(alloc)?;
-                bytes = left;
+                let after = rest.to_vec(alloc)?;
+                bytes = after;
             }
             Message::ReadyForQuery(_) => break,
             _ => {}
@@ -39,43 +34,22 @@ pub fn copy_out<R: Read + Drop, W: Write + Drop>(
     Ok(items)
 }
 
-/// Appends a COPY of the rows into the table.
-pub fn copy_in(types: &[Type], items: &[Item], out: &mut BytesMut) -> Result<()> {
-    push_rows(types, items, out)?;
-    let at = begin_copy_data(out)?;
-    push_copy_trailer(out)?;
-    end(at, out)?;
-    Ok(copy_done(out)?)
-}
-
 /// Appends a COPY of the rows that is cancelled in the middle of a row.
-pub fn cancel_copy(types: &[Type], items: &[Item], out: &mut BytesMut) -> Result<()> {
-    push_rows(types, items, out)?;
-    let mut row = RowWriter::tuple(out, types)?;
+pub fn cancel_copy(link: &mut Server, types: &[Type], items: &[Item]) -> Result<()> {
+    push_rows(link, types, items)?;
+    let mut row = RowWriter::tuple(&mut link.out, types)?;
     row.push(&0i64)?;
     row.cancel();
-    Ok(copy_fail("no more rows", out)?)
+    Ok(copy_fail("no more rows", &mut link.out)?)
 }
 
-/// Appends the start of a COPY, and the rows.
-fn push_rows(types: &[Type], items: &[Item], out: &mut BytesMut) -> Result<()> {
-    query("COPY item FROM STDIN (FORMAT binary)", out)?;
-    let at = begin_copy_data(out)?;
-    push_copy_header(out)?;
-    end(at, out)?;
+/// Appends a COPY of the rows into the table, without its end.
+pub fn push_rows(link: &mut Server, types: &[Type], items: &[Item]) -> Result<()> {
+    link.begin_copy("COPY item FROM STDIN (FORMAT binary)")?;
     for item in items {
-        push_row(types, item, out)?;
+        link.copy_row(types, item)?;
     }
     Ok(())
-}
-
-/// Appends a row in a message of its own.
-fn push_row(types: &[Type], item: &Item, out: &mut BytesMut) -> Result<()> {
-    let at = begin_copy_data(out)?;
-    let mut row = RowWriter::tuple(out, types)?;
-    item.push_to(&mut row)?;
-    row.finish()?;
-    Ok(end(at, out)?)
 }
 
 /// Takes the rows that have come.

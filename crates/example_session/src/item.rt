@@ -5,7 +5,7 @@ use anyhow::{Result, bail};
 use own_types::domain::Percentage;
 use own_types::enumerated::Level;
 use own_types::nested_composite::Address;
-use pg_client::{FromRow, PlacedFault, RowWriter};
+use pg_client::{ColumnRefs, FromRow, PlacedFault, RowWriter, ToRow};
 use postgres_types::composite::{And, And4, Composite, End};
 use postgres_types::enums::Enum;
 use postgres_types::newtype::{Domain, Transparent};
@@ -39,16 +39,31 @@ impl<'a> FromRow<'a> for Item {
     }
 }
 
-impl Item {
-    /// Pushes the values, as parameters or as columns of a COPY.
-    pub fn push_to(&self, row: &mut RowWriter<'_, '_>) -> Result<(), PlacedFault> {
-        row.push(&self.id)?;
-        row.push(&self.note)?;
-        row.push(&self.level)?;
-        row.push(&Domain(self.share.0))?;
-        row.push(&self.homes)
-    }
+impl ToRow for Item {
+    type Columns = And4<
+        i64,
+        Option<String>,
+        Enum<Level>,
+        Domain<Percentage>,
+        And<Vec<Composite<Address>>, End>,
+    >;
 
+    ghost inside = { λ v. and4 v.id v.note v.level (record { 0 = v.share.0 }) (and v.homes end) };
+
+    fn push_row(&self, row: &mut RowWriter<'_, '_>) -> Result<(), PlacedFault> {
+        let share = Domain(self.share.0);
+        And4(
+            &self.id,
+            &self.note,
+            &self.level,
+            &share,
+            And(&self.homes, End),
+        )
+        .push_to(row)
+    }
+}
+
+impl Item {
     /// Creates the row with this id.
     fn new(alloc: Global, id: u32) -> Result<Item> {
         let note = match id % 3 {

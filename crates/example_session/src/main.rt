@@ -7,20 +7,18 @@
 #![tactic(auto)]
 
 mod copies;
-mod inserts;
 mod item;
 
 use anyhow::{Result, bail};
-use copies::{cancel_copy, copy_in, copy_out};
+use copies::{cancel_copy, copy_out, push_rows};
 use example_link::Link;
-use inserts::insert;
 use item::{Item, expect, make_items};
 use pg_client::catalog::{Catalog, QUERY, TypeRow};
-use pg_messages::frontend::terminate;
+use pg_messages::frontend::{sync, terminate};
 use postgres_types::Type;
 use std::alloc::Global;
 use std::env;
-use std::io::{Read, Write};
+use std::io::{Stderr, Stdin, Stdout, Write};
 
 /// The statements that make the types and the table.
 const CREATE: &str = "\
@@ -37,6 +35,9 @@ const COUNT: u32 = 1_000;
 
 const SELECT: &str = "SELECT * FROM item ORDER BY id";
 
+/// The connection to the server.
+type Server = Link<Stdin, Stdout>;
+
 fn main(rt: HostRuntime) -> Result<()> {
     let alloc = rt.alloc();
     let mut args = env::args(&rt)?;
@@ -44,14 +45,13 @@ fn main(rt: HostRuntime) -> Result<()> {
         bail!("usage: example_session USER DATABASE");
     };
     let items = make_items(alloc, COUNT)?;
-    let items = items.as_slice();
     let built_in = Catalog::built_in(alloc)?;
     let mut link = Link::new(alloc, rt.stdin(), rt.stdout())?;
     link.start(alloc, user.as_str(), database.as_str(), &built_in)?;
     let table = create(alloc, &mut link, &built_in)?;
     let mut log = rt.stderr();
-    insert_and_select(alloc, &mut link, &table, items, &mut log)?;
-    copy_out_and_in(alloc, &mut link, &table, items, &mut log)?;
+    insert_and_select(alloc, &mut link, &table, items.as_slice(), &mut log)?;
+    copy_out_and_in(alloc, &mut link, &table, items.as_slice(), &mut log)?;
     terminate(&mut link.out)?;
     link.send()
 }
@@ -64,11 +64,7 @@ struct Table {
 }
 
 /// Makes the table.
-fn create<R: Read + Drop, W: Write + Drop>(
-    alloc: Global,
-    link: &mut Link<R, W>,
-    built_in: &Catalog,
-) -> Result<Table> {
+fn create(alloc: Global, link: &mut Server, built_in: &Catalog) -> Result<Table> {
     link.run(alloc, CREATE, built_in)?;
     let types = link.select(alloc, QUERY, built_in)?;
     let catalog = Catalog::new(alloc, types.rows::<TypeRow>(alloc)?.as_slice())?;
@@ -78,19 +74,19 @@ fn create<R: Read + Drop, W: Write + Drop>(
 
 /// Inserts the rows, selects them, and inserts them once more, which the server refuses: it skips what
 /// follows the first row up to the Sync, and is ready after that.
-fn insert_and_select<R: Read + Drop, W: Write + Drop, L: Write>(
+fn insert_and_select(
     alloc: Global,
-    link: &mut Link<R, W>,
+    link: &mut Server,
     table: &Table,
     items: &[Item],
-    log: &mut L,
+    log: &mut Stderr,
 ) -> Result<()> {
-    insert(table.types.as_slice(), items, &mut link.out)?;
+    insert(link, table.types.as_slice(), items)?;
     link.exchange(alloc, &table.catalog)?;
     let selected = link.select(alloc, SELECT, &table.catalog)?;
     expect(selected.rows::<Item>(alloc)?.as_slice(), items)?;
     writeln!(log, "inserted and selected {} rows", items.len())?;
-    insert(table.types.as_slice(), items, &mut link.out)?;
+    insert(link, table.types.as_slice(), items)?;
     if let Err(error) = link.exchange(alloc, &table.catalog) {
         writeln!(log, "inserted nothing: {error}")?;
         link.finish(alloc, &table.catalog)?;
@@ -98,25 +94,35 @@ fn insert_and_select<R: Read + Drop, W: Write + Drop, L: Write>(
     Ok(())
 }
 
+/// Appends the messages that insert the rows. The server inserts all or none, since one Sync follows
+/// them.
+fn insert(link: &mut Server, types: &[Type], items: &[Item]) -> Result<()> {
+    for item in items {
+        link.execute("insert", types, item)?;
+    }
+    Ok(sync(&mut link.out)?)
+}
+
 /// Copies the rows out, cancels to copy them in, and copies them in.
-fn copy_out_and_in<R: Read + Drop, W: Write + Drop, L: Write>(
+fn copy_out_and_in(
     alloc: Global,
-    link: &mut Link<R, W>,
+    link: &mut Server,
     table: &Table,
     items: &[Item],
-    log: &mut L,
+    log: &mut Stderr,
 ) -> Result<()> {
     let selected = link.select(alloc, SELECT, &table.catalog)?;
     let copied = copy_out(alloc, link, selected.columns.as_slice())?;
     expect(copied.as_slice(), items)?;
     writeln!(log, "copied {} rows out", copied.len())?;
     link.run(alloc, "TRUNCATE item", &table.catalog)?;
-    cancel_copy(table.types.as_slice(), items, &mut link.out)?;
+    cancel_copy(link, table.types.as_slice(), items)?;
     if let Err(error) = link.exchange(alloc, &table.catalog) {
         writeln!(log, "copied nothing in: {error}")?;
         link.finish(alloc, &table.catalog)?;
     }
-    copy_in(table.types.as_slice(), items, &mut link.out)?;
+    push_rows(link, table.types.as_slice(), items)?;
+    link.end_copy()?;
     link.exchange(alloc, &table.catalog)?;
     let selected = link.select(alloc, SELECT, &table.catalog)?;
     expect(selected.rows::<Item>(alloc)?.as_slice(), items)?;

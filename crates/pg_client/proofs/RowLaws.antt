@@ -6,7 +6,7 @@ use Rattle.std.specs.Prelude.{IfNone, IfSome, Result, slice_get}
 use Rattle.pg_base.specs.Cells.{Cell, SpellsAll, SpellsNone, Spells}
 use Rattle.pg_types.specs.Faults.{Outcome, size}
 use Rattle.pg_client.specs.Places.{AnswersAt, NeverMemoryAt, RefusesAt, column_place, name_of_column}
-use Rattle.pg_client.specs.Rows.{ReadsCell, ReadsColumn}
+use Rattle.pg_client.specs.Rows.{ReadsCell, ReadsColumn, ReadsFront}
 use Rattle.pg_client.specs.declared.column.Column.{Column}
 use Rattle.pg_client.specs.declared.placed_fault.Place.TheVariants as place
 use Rattle.pg_client.specs.declared.placed_fault.PlacedFault.{PlacedFault}
@@ -64,3 +64,14 @@ module _ {A : Type 0} (n : ℕ) (columns : List Column) (reads : Cell → Outcom
     in_row = (spelled, omega (arith, few), inr none);
     holds = subst (λ o. ReadsCell n columns reads free o (length cs) result) (sym (slice_get_past cs n few)) refused;
   }
+
+  -- the cell after those of the columns before is that of the column, or truncated
+  pub front_read : (cs : List Cell) (rest : List ℕ) → length cs ≡ n → SpellsAll s cs rest
+      → ReadsFront (column_place columns n) reads free rest result → ReadsColumn n columns reads free s result
+  front_read cs rest many before front = elim front [
+    | inl f ↦
+        column_read cs f.0 f.1 many (spelled_more s rest f.1 cs (f.0 ∷ []) before f.2) f.3 f.4
+    | inr f ↦
+        column_truncated cs rest (omega (arith, many)) before f.0
+        (subst (λ k. RefusesAt (column_place columns k) size result) (sym many) f.1)
+  ]

@@ -19,16 +19,18 @@ pub writes_more : (wire : Option PgType → Wire) (target : Target) (types : Lis
 writes_more wire target types before cells old new ty there h f target_is types_are start count = (
   f.cell,
   ap wire (ap (λ ts. slice_get ts (length cells)) (sym h.types_are)
-      ∙ ap (slice_get old.types.now) (sym h.count_is) ∙ there) ∙ f.cell_is,
+      ∙ ap (slice_get old.types.now) (sym h.has.count_is) ∙ there) ∙ f.cell_is,
   record {
     target_is = target_is ∙ h.target_is;
     types_are = types_are ∙ h.types_are;
-    head = h.head;
-    head_is = h.head_is;
-    bytes = h.bytes ++ f.bytes;
-    frames_are = next_frames cells f.cell h.bytes f.bytes h.frames_are f.frame_is;
-    items_are = f.is ∙ ap (λ s. s ++ f.bytes) h.items_are ∙ append_assoc _ h.bytes f.bytes;
-    start_is = start ∙ h.start_is;
-    count_is = omega (arith, count, h.count_is, length-append cells (f.cell ∷ []));
+    has = record {
+      head = h.has.head;
+      head_is = h.has.head_is;
+      bytes = h.has.bytes ++ f.bytes;
+      frames_are = next_frames cells f.cell h.has.bytes f.bytes h.has.frames_are f.frame_is;
+      items_are = f.is ∙ ap (λ s. s ++ f.bytes) h.has.items_are ∙ append_assoc _ h.has.bytes f.bytes;
+      start_is = start ∙ h.has.start_is;
+      count_is = omega (arith, count, h.has.count_is, length-append cells (f.cell ∷ []));
+    };
   },
 )

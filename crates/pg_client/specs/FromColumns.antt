@@ -1,5 +1,5 @@
 -- Reading the columns of a row one after another, from one at an index to the last.
-use Rattle.std.specs.Prelude.{◌≡◌, ◌==◌, ◌++◌, ◌⊎◌, ◌+◌, ◌-◌, ℕ, Bool, true, false, List, [], ◌∷◌, length, slice_get}
+use Rattle.std.specs.Prelude.{◌≡◌, ◌==◌, ◌++◌, ◌⊎◌, ◌+◌, ◌-◌, ◌<◌, ◌^◌, ℕ, Bool, true, false, List, [], ◌∷◌, length, slice_get}
 use Rattle.std.specs.Prelude.{Option, Some, None, Result, Ok, Err}
 use Rattle.pg_base.specs.Cells.{Cell, Spells}
 use Rattle.pg_types.specs.Content.{Content, content}
@@ -11,7 +11,7 @@ use Rattle.pg_client.specs.Places.{AnswersAt, RefusesAt, column_place}
 use Rattle.pg_client.specs.Rows.{EndsRow, FreeAs, NoColumn, ReadsAs}
 use Rattle.pg_client.specs.declared.column.Column.{Column}
 use Rattle.pg_client.specs.declared.placed_fault.Place.{Place}
-use Rattle.pg_client.specs.declared.placed_fault.Place.TheVariants.{Row}
+use Rattle.pg_client.specs.declared.placed_fault.Place.TheVariants.{Columns}
 use Rattle.pg_client.specs.declared.placed_fault.PlacedFault.{PlacedFault}
 
 -- what the columns from an index on, whose frames these are, are read as
@@ -63,9 +63,13 @@ ThroughAt inside reads (Ok v) = reads (Ok (inside v))
 ThroughAt inside reads (Err f) = reads (Err f)
 
 -- the same, where the value has as many columns as are left; another number is FieldCount
-abbrev pub IfWidth : {A B : Type 0} → Bool → (B → A) → (Result A PlacedFault → Type 0) → Result B PlacedFault → Type 0
-IfWidth true inside reads result = ThroughAt inside reads result
-IfWidth false inside reads result = RefusesAt Row field_count result
+abbrev pub IfWidth : {A B : Type 0} → Bool → ℕ → ℕ → (B → A) → (Result A PlacedFault → Type 0) → Result B PlacedFault
+    → Type 0
+IfWidth true width left inside reads result = ThroughAt inside reads result
+IfWidth false width left inside reads result =
+    (expected : ℕ) × (width < 2 ^ 64 → expected ≡ width) × RefusesAt (Columns expected left) field_count result
 
 abbrev pub ReadsRow : {A B : Type 0} → ℕ → (B → A) → ReadsColumns A → ReadsColumns B
-ReadsRow width inside reads columns n s = IfWidth ((length columns - n) == width) inside (reads columns n s)
+ReadsRow width inside reads columns n s =
+    let left = length columns - n in
+    IfWidth (left == width) width left inside (reads columns n s)

@@ -9,8 +9,11 @@ pub mod CopyReading
 pub mod Descriptions
 pub mod FromColumns
 pub mod Places
+pub mod RowIndexes
+pub mod RowOffsets
 pub mod RowPlaces
 pub mod RowWriting
 pub mod Rows
+pub mod ToColumns
 pub mod TypeTables
 pub mod WholeCatalogs

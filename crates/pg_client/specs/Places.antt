@@ -6,7 +6,7 @@ use Rattle.arrayvec.specs.ArrayString.{ArrayString}
 use Rattle.pg_types.specs.Faults.{Outcome, Refusal, refusal_of}
 use Rattle.pg_client.specs.declared.column.Column.{Column as ResultColumn}
 use Rattle.pg_client.specs.declared.placed_fault.Place.{Place}
-use Rattle.pg_client.specs.declared.placed_fault.Place.TheVariants.{Row, Column, Bind, Parameter}
+use Rattle.pg_client.specs.declared.placed_fault.Place.TheVariants.{Row, Columns, Column, Bind, Parameters, Parameter}
 use Rattle.pg_client.specs.declared.placed_fault.PlacedFault.{PlacedFault}
 
 -- the name of a column in quotes, if it has one
@@ -17,8 +17,12 @@ quoted_name (Some name) = codes " \"" ++ (name.bytes ++ codes "\"")
 -- the text of a place: columns and parameters are counted from 1
 abbrev pub place_text : Place → List ℕ
 place_text Row = codes "row"
+place_text (Columns expected got) =
+    codes "row (expected " ++ (decimal expected ++ (codes " columns, got " ++ (decimal got ++ codes ")")))
 place_text (Column place name) = codes "column " ++ (decimal (place + 1) ++ quoted_name name)
 place_text Bind = codes "bind"
+place_text (Parameters expected got) =
+    codes "bind (expected " ++ (decimal expected ++ (codes " parameters, got " ++ (decimal got ++ codes ")")))
 place_text (Parameter place) = codes "parameter " ++ decimal (place + 1)
 
 -- the name of a column, if there is one and it has one

@@ -3,7 +3,7 @@
 use Rattle.std.specs.Prelude.{◌≡◌, ◌≢◌, ◌⊎◌, ◌<◌, ◌≤◌, ◌+◌, ℕ, suc, pos, Bool, true, false, List, [], ◌∷◌, length, take}
 use Rattle.std.specs.Prelude.{drop}
 use Rattle.std.specs.Prelude.{Option, Some, None, Result, Ok, Err, codes, slice_get, ⊤}
-use Rattle.std.specs.Int.{w16}
+use Rattle.std.specs.Int.{from_be_bytes, w16}
 use Rattle.std.specs.List.{position}
 use Rattle.std.specs.Str.{bytes_eq}
 use Rattle.arrayvec.specs.ArrayString.{ArrayString}
@@ -14,6 +14,7 @@ use Rattle.pg_read.specs.FrameReading.{BeginsWithCells}
 use Rattle.postgres_types.specs.Records.{IsRefused}
 use Rattle.pg_client.specs.Places.{AnswersAt, IsFaultAt, NeverMemoryAt, RefusesAt, column_place}
 use Rattle.pg_client.specs.declared.column.Column.{Column}
+use Rattle.pg_client.specs.declared.placed_fault.Place.{Place}
 use Rattle.pg_client.specs.declared.placed_fault.Place.TheVariants as place
 use Rattle.pg_client.specs.declared.placed_fault.PlacedFault.{PlacedFault}
 use Rattle.pg_client.specs.declared.row.Row.{Row}
@@ -38,11 +39,15 @@ rest_of row = row.rest.now
 abbrev pub HasCount : ℕ → List ℕ → Type 0
 HasCount n body = IsBe w16 (take 2 body) (pos n)
 
+-- the number of columns, in two bytes
+abbrev pub count_in : List ℕ → ℕ
+count_in body = from_be_bytes w16 (take 2 body)
+
 -- the fault if it does not: a truncated number is Size, and another one FieldCount
 abbrev pub CountFault : ℕ → List ℕ → PlacedFault → Type 0
 CountFault n body f =
     ((length body < 2) × IsFaultAt place.Row size f)
-    ⊎ ((2 ≤ length body) × (HasCount n body → ⊥) × IsFaultAt place.Row field_count f)
+    ⊎ ((2 ≤ length body) × (HasCount n body → ⊥) × IsFaultAt (place.Columns n (count_in body)) field_count f)
 
 -- a row of these columns, of which none was taken
 abbrev pub IsUnread : List Column → Row → Type 0
@@ -76,6 +81,14 @@ abbrev pub ReadsColumn : {A : Type 0} → ℕ → List Column → (Cell → Outc
     → Result A PlacedFault → Type 0
 ReadsColumn n columns reads free s result =
     BeginsWithCells (λ cs rest. ReadsCell n columns reads free (slice_get cs n) (length cs) result) s (suc n)
+
+-- the column whose frame begins the bytes was read; a truncated frame is Size
+abbrev pub ReadsFront : {A : Type 0} → Place → (Cell → Outcome A → Type 0) → (Cell → Type 0) → List ℕ
+    → Result A PlacedFault → Type 0
+ReadsFront at reads free s result =
+    ((c : Cell) × (rest : List ℕ) × SpellsAll s (c ∷ []) rest × AnswersAt at (reads c) result
+    × (free c → NeverMemoryAt result))
+    ⊎ (SpellsNone s × RefusesAt at size result)
 
 -- there is no column at this index
 abbrev pub NoColumn : {A : Type 0} → ℕ → Result A PlacedFault → Type 0

@@ -1,5 +1,5 @@
 //! Rows that are read as a tuple or a struct.
-ghost use Rattle.std.specs.Prelude.{◌≡◌, ◌==◌, List, Result, ℕ, suc};
+ghost use Rattle.std.specs.Prelude.{◌≡◌, ◌<◌, List, MatchOption, Result, ℕ, suc};
 ghost use Rattle.pg_client.specs.FromColumns.{FreeAnd, ReadsAnd, ReadsEnd, ThroughAt};
 ghost use Rattle.pg_client.specs.Places.{NeverMemoryAt};
 ghost use Rattle.pg_client.specs.Rows.{columns_of, rest_of, taken_of};
@@ -32,9 +32,9 @@ pub trait FromColumns<'a>: Sized {
         ensures never_memory { memory_free (columns_of row.entry) (taken_of row.entry) (rest_of row.entry)
             → NeverMemoryAt result };
 
-    /// Returns whether this is the number of the columns.
-    fn is_width(columns: usize) -> bool
-        ensures { result ≡ (columns == width) };
+    /// Returns the number of the columns, or `None` if it does not fit in a `usize`.
+    fn width() -> Option<usize>
+        ensures { MatchOption result (usize.MAX < width) (λ n. n ≡ width) };
 }
 
 /// A value that is read from the columns of a row, in their order: a tuple of up to 12 values, or a
@@ -69,8 +69,8 @@ impl<'a> FromColumns<'a> for End {
         Ok(End)
     }
 
-    fn is_width(columns: usize) -> bool {
-        columns == 0
+    fn width() -> Option<usize> {
+        Some(0)
     }
 }
 
@@ -88,16 +88,13 @@ impl<'a, A: FromSql<'a>, B: FromColumns<'a>> FromColumns<'a> for And<A, B> {
         Ok(And(value, others))
     }
 
-    fn is_width(columns: usize) -> bool {
-        match columns.checked_sub(1) {
-            Some(others) => B::is_width(others),
-            None => false,
-        }
+    fn width() -> Option<usize> {
+        B::width()?.checked_add(1)
     }
 }
 
 /// Four columns, one after another.
-type InTurn4<A, B, C, D, E> = And<A, And<B, And<C, And<D, E>>>>;
+pub(crate) type InTurn4<A, B, C, D, E> = And<A, And<B, And<C, And<D, E>>>>;
 
 impl<
     'a,
@@ -120,13 +117,13 @@ impl<
         Ok(And4(a, b, c, d, others))
     }
 
-    fn is_width(columns: usize) -> bool {
-        <InTurn4<A, B, C, D, E> as FromColumns<'a>>::is_width(columns)
+    fn width() -> Option<usize> {
+        <InTurn4<A, B, C, D, E> as FromColumns<'a>>::width()
     }
 }
 
 /// Eight columns, one after another.
-type InTurn8<A, B, C, D, E, F, G, H, I> = And<
+pub(crate) type InTurn8<A, B, C, D, E, F, G, H, I> = And<
     A,
     And<B, And<C, And<D, And<E, And<F, And<G, And<H, I>>>>>>>,
 >;
@@ -156,7 +153,7 @@ impl<
         Ok(And8(a, b, c, d, e, f, g, h, others))
     }
 
-    fn is_width(columns: usize) -> bool {
-        <InTurn8<A, B, C, D, E, F, G, H, I> as FromColumns<'a>>::is_width(columns)
+    fn width() -> Option<usize> {
+        <InTurn8<A, B, C, D, E, F, G, H, I> as FromColumns<'a>>::width()
     }
 }

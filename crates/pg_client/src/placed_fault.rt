@@ -9,18 +9,22 @@ use std::fmt;
 /// A part of a message. Columns and parameters are counted from 0, and printed from 1.
 #[derive(Debug, Clone, Copy)]
 pub enum Place {
-    /// A row as a whole: its number of columns, or the bytes after its columns.
+    /// A row as a whole: the bytes before its columns, or those after them.
     Row,
+    /// The number of columns of a row.
+    Columns { expected: usize, got: usize },
     /// The column at this index, and its name, if it has one.
     Column(usize, Option<ColumnName>),
     /// The parameters of a Bind message as a whole.
     Bind,
+    /// The number of parameters of a Bind message.
+    Parameters { expected: usize, got: usize },
     /// The parameter at this index.
     Parameter(usize),
 }
 
-/// Writes `row`, `column 3 "at"`, or `column 3` if the column has no name, `bind`, or
-/// `parameter 2`.
+/// Writes `row`, `row (expected 4 columns, got 3)`, `column 3 "at"`, or `column 3` if the column has
+/// no name, `bind`, `bind (expected 4 parameters, got 3)`, or `parameter 2`.
 impl fmt::Display for Place {
     ghost use Rattle.std.specs.Prelude.{Some};
     ghost use Rattle.pg_client.specs.Places.{place_text};
@@ -30,11 +34,17 @@ impl fmt::Display for Place {
     fn fmt<W: fmt::Write>(&self, f: &mut fmt::Formatter<W>) -> fmt::Result {
         match self {
             Place::Row => f.write_str("row"),
+            Place::Columns { expected, got } => {
+                write!(f, "row (expected {expected} columns, got {got})")
+            }
             Place::Column(place, None) => write!(f, "column {}", number(*place)),
             Place::Column(place, Some(name)) => {
                 write!(f, "column {} \"{name}\"", number(*place))
             }
             Place::Bind => f.write_str("bind"),
+            Place::Parameters { expected, got } => {
+                write!(f, "bind (expected {expected} parameters, got {got})")
+            }
             Place::Parameter(place) => write!(f, "parameter {}", number(*place)),
         }
     }

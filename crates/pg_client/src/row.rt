@@ -3,11 +3,11 @@ ghost use Rattle.std.specs.Prelude.{◌≡◌, ◌↔◌, ◌-◌, [], IsTrue, N
 ghost use Rattle.pg_base.specs.Cells.{cell_of};
 ghost use Rattle.pg_client.specs.FromColumns.{ReadsRow};
 ghost use Rattle.pg_client.specs.Places.{AnswersAt, IsFaultAt, NeverMemoryAt, RefusesAt, column_place};
-ghost use Rattle.pg_client.specs.Rows.{EndsRow, FreeAs, IsRowOf, IsUnread, NoColumn, PassesCells, ReadsAs, ReadsColumn};
+ghost use Rattle.pg_client.specs.Rows.{EndsRow, FreeAs, IsRowOf, IsUnread, NoColumn, PassesCells, ReadsAs, ReadsColumn, ReadsFront};
 ghost use Rattle.pg_client.specs.Rows.{ReadsNext, has_name, place_named};
 ghost use Rattle.pg_client.specs.Rows.{StandsAt, columns_of, frames_of, rest_of, taken_of};
 ghost use Rattle.pg_types.specs.Content.{content};
-ghost use Rattle.pg_types.specs.Faults.{Answers, NeverMemory, user};
+ghost use Rattle.pg_types.specs.Faults.{Answers, NeverMemory, field_count, user};
 
 use crate::column::Column;
 use crate::from_row::{FromColumns, FromRow};
@@ -34,8 +34,8 @@ pub struct Row<'a, 'c> {
 impl<'a, 'c> Row<'a, 'c> {
     /// Creates the row of this body, which has these columns.
     ///
-    /// A truncated number of columns is refused with `Size`, and any other number, also a negative
-    /// one, with `FieldCount`, at [`Place::Row`]. The frames are not checked.
+    /// A truncated number of columns is refused with `Size`, at [`Place::Row`], and another number
+    /// with `FieldCount`, at [`Place::Columns`]. The frames are not checked.
     pub fn new(body: &'a [u8], columns: &'c [Column]) -> Result<Row<'a, 'c>, PlacedFault>
         ensures { IsRowOf body.entry.now columns.entry.now result }
     {
@@ -43,7 +43,8 @@ impl<'a, 'c> Row<'a, 'c> {
             return Err(PlacedFault::new(Place::Row, Fault::Size));
         };
         if !is_count(*count, columns.len()) {
-            return Err(PlacedFault::new(Place::Row, Fault::FieldCount));
+            let got = u16::from_be_bytes(*count);
+            return Err(wrong_count(columns.len(), usize::from(got)));
         }
         Ok(Row::unread(frames, columns))
     }
@@ -58,6 +59,14 @@ impl<'a, 'c> Row<'a, 'c> {
             taken: 0,
             rest: frames,
         }
+    }
+
+    /// Returns the frames of all columns.
+    pub(crate) fn frames(&self) -> &'a [u8]
+        ensures { result.now ≡ frames_of self.now }
+    {
+        let Row { frames, .. } = self;
+        frames
     }
 
     /// Returns the columns of the row.
@@ -103,10 +112,7 @@ impl<'a, 'c> Row<'a, 'c> {
         if let Err(truncated) = pass_cells(place, &mut rest) {
             return Err(PlacedFault::new(place_of(self.columns, truncated), Fault::Size));
         }
-        match take_cell(&mut rest) {
-            Ok(cell) => convert(alloc, column, place, cell),
-            Err(fault) => Err(PlacedFault::new(place_of(self.columns, place), fault)),
-        }
+        read_column(alloc, self.columns, column, place, rest)
     }
 
     /// Reads the first column with this name as [`get`](Row::get) does. A name that no column has is
@@ -121,7 +127,7 @@ impl<'a, 'c> Row<'a, 'c> {
     {
         match place_named(name, self.columns) {
             Some(place) => self.get(alloc, place),
-            None => Err(PlacedFault::new(Place::Row, Fault::user("no such column"))),
+            None => Err(unnamed()),
         }
     }
 
@@ -160,18 +166,22 @@ impl<'a, 'c> Row<'a, 'c> {
     /// Reads the columns that [`next`](Row::next) has not taken as a tuple or a struct, and ends the
     /// row.
     ///
-    /// Another number of columns is refused with `FieldCount`, at [`Place::Row`]. An error is that
-    /// of the first column that is refused, as `next` has it, or that of [`finish`](Row::finish).
+    /// Another number of columns is refused with `FieldCount`, at [`Place::Columns`]. An error is
+    /// that of the first column that is refused, as `next` has it, or that of
+    /// [`finish`](Row::finish).
     pub fn read<T: FromRow<'a>>(self, alloc: Global) -> Result<T, PlacedFault>
         ensures outcome { ReadsRow T.Columns.width T.inside T.Columns.reads (columns_of self.entry)
             (taken_of self.entry) (rest_of self.entry) result }
         ensures never_memory { T.Columns.memory_free (columns_of self.entry) (taken_of self.entry) (rest_of self.entry)
             → NeverMemoryAt result }
     {
-        if !T::Columns::is_width(self.left()) {
-            return Err(PlacedFault::new(Place::Row, Fault::FieldCount));
+        let left = self.left();
+        match T::Columns::width() {
+            Some(width) if width == left => {
+                Ok(T::from_row(T::Columns::from_columns(alloc, self)?))
+            }
+            width => Err(wrong_count(width.unwrap_or(usize::MAX), left)),
         }
-        Ok(T::from_row(T::Columns::from_columns(alloc, self)?))
     }
 
     /// Ends reading the row. Columns that [`next`](Row::next) has not taken are skipped, so a row
@@ -198,7 +208,7 @@ impl<'a, 'c> Row<'a, 'c> {
 }
 
 /// Returns the column at this index.
-fn column_at(columns: &[Column], place: usize) -> Option<&Column>
+pub(crate) fn column_at(columns: &[Column], place: usize) -> Option<&Column>
     ensures some { IfSome result (λ column. slice_get columns.now place ≡ Some column.now) }
     ensures none { IfNone result (slice_get columns.now place ≡ None) }
 {
@@ -206,7 +216,7 @@ fn column_at(columns: &[Column], place: usize) -> Option<&Column>
 }
 
 /// Returns the index of the first column with this name.
-fn place_named(name: &str, columns: &[Column]) -> Option<usize>
+pub(crate) fn place_named(name: &str, columns: &[Column]) -> Option<usize>
     ensures { result ≡ place_named name.now columns.now }
 {
     columns.iter().position(|column| has_name(name, column))
@@ -223,7 +233,7 @@ fn has_name(name: &str, column: &Column) -> bool
 }
 
 /// Returns the place of a column.
-fn place_of(columns: &[Column], place: usize) -> Place
+pub(crate) fn place_of(columns: &[Column], place: usize) -> Place
     ensures { result ≡ column_place columns.now place }
 {
     match column_at(columns, place) {
@@ -232,11 +242,25 @@ fn place_of(columns: &[Column], place: usize) -> Place
     }
 }
 
+/// Returns the fault of a row with another number of columns.
+fn wrong_count(expected: usize, got: usize) -> PlacedFault
+    ensures { IsFaultAt (Place.Columns expected got) field_count result }
+{
+    PlacedFault::new(Place::Columns { expected, got }, Fault::FieldCount)
+}
+
 /// Returns the fault for an index without a column.
-fn no_column(place: usize) -> PlacedFault
+pub(crate) fn no_column(place: usize) -> PlacedFault
     ensures { IsFaultAt (Place.Column place None) (user (codes "no such column")) result }
 {
     PlacedFault::new(Place::Column(place, None), Fault::user("no such column"))
+}
+
+/// Returns the fault for a name that no column has.
+pub(crate) fn unnamed() -> PlacedFault
+    ensures { IsFaultAt Place.Row (user (codes "no such column")) result }
+{
+    PlacedFault::new(Place::Row, Fault::user("no such column"))
 }
 
 /// Skips `count` framed cells at the front of the slice. If one is truncated it returns the number
@@ -252,6 +276,26 @@ fn pass_cells(count: usize, buf: &mut &[u8]) -> Result<(), usize>
         }
     }
     Ok(())
+}
+
+/// Reads the column whose frame begins these bytes. A truncated frame is refused with `Size`.
+pub(crate) fn read_column<'a, T: FromSql<'a>>(
+    alloc: Global,
+    columns: &[Column],
+    column: &Column,
+    place: usize,
+    frame: &'a [u8],
+) -> Result<T, PlacedFault>
+    requires { slice_get columns.now place ≡ Some column.now }
+    ensures { ReadsFront (column_place columns.now place) (ReadsAs (T.accepted (content column.now.ty))
+        (content column.now.ty) (T.reads (content column.now.ty)))
+        (FreeAs (T.accepted (content column.now.ty)) (content column.now.ty) T.memory_free) frame.entry.now result }
+{
+    let mut rest = frame;
+    match take_cell(&mut rest) {
+        Ok(cell) => convert(alloc, column, place, cell),
+        Err(fault) => Err(PlacedFault::new(place_of(columns, place), fault)),
+    }
 }
 
 /// Reads the cell of a column.

@@ -10,13 +10,14 @@ ghost use Rattle.pg_types.specs.Faults.{NeverMemory};
 ghost use Rattle.pg_types.specs.declared.types.PgType.{PgType};
 ghost use Rattle.pg_client.specs.Binding.{PushesFrame, in_binary};
 ghost use Rattle.pg_client.specs.Places.{NeverMemoryAt};
-ghost use Rattle.pg_client.specs.RowWriting.{StartFault, foot_if, head_of, value_place, whole_place};
+ghost use Rattle.pg_client.specs.RowWriting.{StartFault, count_place, foot_of, head_of, value_place, whole_place};
 ghost use Rattle.postgres_types.specs.ParamWriting.{AppendsFrame, frame_len};
 ghost use Rattle.postgres_types.specs.Records.{AppendsBytes, or_transmit};
 ghost use Rattle.postgres_types.specs.Writing.{checked};
 
 use crate::bind::ALL_BINARY;
 use crate::placed_fault::{Place, PlacedFault};
+use crate::to_row::ToRow;
 use pg_tuples::{HEADER, TRAILER};
 use postgres_types::protocol::int2_to_sql;
 use postgres_types::{BytesMut, Fault, Format, ToSql, Type, frame_value};
@@ -52,8 +53,9 @@ pub struct RowWriter<'b, 't> {
 }
 
 impl<'b, 't> RowWriter<'b, 't> {
-    ghost use Rattle.pg_client.specs.RowWriting.{EndsRow, Writes, WritesMore, count_of, keeps_if_refused};
+    ghost use Rattle.pg_client.specs.RowWriting.{EndsRow, Writes, WritesIn, WritesMore, count_of, keeps_if_refused};
     ghost use Rattle.pg_client.specs.RowWriting.{out_of, target_of, types_of, value_wire};
+    ghost use Rattle.pg_client.specs.ToColumns.{WritesRow};
 
     /// Starts the parameters of a Bind message at the end of the buffer, one for each type. The
     /// caller appends what precedes them in the message: the portal and the statement.
@@ -133,8 +135,8 @@ impl<'b, 't> RowWriter<'b, 't> {
     }
 
     /// Ends the row. If there are fewer values than types, it is refused with `FieldCount`, at
-    /// [`Place::Bind`] or [`Place::Row`]. An error, `Memory` included, gives back the buffer with
-    /// the bytes that it had before the row.
+    /// [`Place::Parameters`] or [`Place::Columns`]. An error, `Memory` included, gives back the
+    /// buffer with the bytes that it had before the row.
     pub fn finish(self) -> Result<(), PlacedFault>
         ensures { (target : Target) (types : List PgType) (before : List ℕ) (cells : List Cell)
             → Writes target types before cells self.entry
@@ -147,11 +149,66 @@ impl<'b, 't> RowWriter<'b, 't> {
             start,
             count,
         } = self;
-        match push_foot(target, count == types.len(), out) {
+        if count != types.len() {
+            out.truncate(start);
+            let missing = count_place(target, types.len(), count);
+            return Err(PlacedFault::new(missing, Fault::FieldCount));
+        }
+        match push_foot(target, out) {
             Ok(()) => Ok(()),
             Err(fault) => {
                 out.truncate(start);
                 Err(PlacedFault::new(whole_place(target), fault))
+            }
+        }
+    }
+
+    /// Pushes the values of a tuple or a struct, and ends the row.
+    ///
+    /// An error is that of the first value that is refused, as [`push`](RowWriter::push) has it, or
+    /// that of [`finish`](RowWriter::finish). It gives back the buffer with the bytes that it had
+    /// before the row.
+    pub fn write<T: ToRow>(self, values: &T) -> Result<(), PlacedFault>
+        ensures { (target : Target) (types : List PgType) (before : List ℕ) (cells : List Cell)
+            → Writes target types before cells self.entry
+            → WritesRow (T.Columns.wires (T.inside values.now)) target types before cells
+            self.exit.0.now.items result }
+    {
+        let RowWriter {
+            out,
+            types,
+            target,
+            start,
+            count,
+        } = self;
+        RowWriter::end_with(out, types, target, start, count, values)
+    }
+
+    /// Pushes the values to the row of these fields, and ends it.
+    fn end_with<T: ToRow>(
+        out: &mut BytesMut,
+        types: &[Type],
+        target: Target,
+        start: usize,
+        count: usize,
+        values: &T,
+    ) -> Result<(), PlacedFault>
+        ensures { (before : List ℕ) (cells : List Cell)
+            → WritesIn target types.now before cells out.old.items start count
+            → WritesRow (T.Columns.wires (T.inside values.now)) target types.now before cells out.new.items result }
+    {
+        let mut row = RowWriter {
+            out,
+            types,
+            target,
+            start,
+            count,
+        };
+        match values.push_row(&mut row) {
+            Ok(()) => row.finish(),
+            Err(fault) => {
+                row.cancel();
+                Err(fault)
             }
         }
     }
@@ -210,6 +267,16 @@ fn whole_place(target: Target) -> Place
     }
 }
 
+/// Returns the place of the number of values.
+fn count_place(target: Target, expected: usize, got: usize) -> Place
+    ensures { result ≡ count_place target expected got }
+{
+    match target {
+        Target::Bind => Place::Parameters { expected, got },
+        Target::Tuple => Place::Columns { expected, got },
+    }
+}
+
 /// Appends what precedes this number of values, and returns the length of the buffer before it.
 fn push_head(target: Target, count: usize, out: &mut BytesMut) -> Result<usize, PlacedFault>
     ensures ok { IfOk result (λ start. (start ≡ length out.old.items)
@@ -245,14 +312,10 @@ fn append_head(target: Target, count: usize, out: &mut BytesMut) -> Result<(), F
     }
 }
 
-/// Appends what follows the values, for a Bind message the format code of the result columns. A row
-/// of which values are missing is refused with `FieldCount`.
-fn push_foot(target: Target, is_whole: bool, out: &mut BytesMut) -> Result<(), Fault>
-    ensures { AppendsBytes (foot_if is_whole target) out.old.items out.new.items result }
+/// Appends what follows the values, for a Bind message the format code of the result columns.
+fn push_foot(target: Target, out: &mut BytesMut) -> Result<(), Fault>
+    ensures { AppendsBytes (Ok (foot_of target)) out.old.items out.new.items result }
 {
-    if !is_whole {
-        return Err(Fault::FieldCount);
-    }
     match target {
         Target::Bind => Ok(out.extend_from_slice(&ALL_BINARY)?),
         Target::Tuple => Ok(()),

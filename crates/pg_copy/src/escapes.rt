@@ -64,8 +64,19 @@ fn is_plain(text: &[u8]) -> bool
     letters == 0
 }
 
-/// Whether none of 8 bytes from an index is a control character or a backslash, so that none is
+/// Whether none of 4 bytes from an index is a control character or a backslash, so that none is
 /// escaped.
+#[inline(always)]
+fn are_4_plain(text: &[u8], at: usize) -> bool
+    requires { at + 4 ≤ length text.now }
+    ensures { OnTrue result (PlainBetween text.now at (at + 4)) }
+{
+    let bytes = u8x4::from_slice(&text[at..]);
+    bytes.simd_lt(u8x4::splat(0x20)).to_bitmask() == 0
+        && bytes.simd_eq(u8x4::splat(b'\\')).to_bitmask() == 0
+}
+
+/// Whether none of 8 bytes from an index is a control character or a backslash.
 #[inline(always)]
 fn are_8_plain(text: &[u8], at: usize) -> bool
     requires { at + 8 ≤ length text.now }
@@ -94,8 +105,11 @@ fn is_surely_plain(text: &[u8]) -> bool
     ensures { OnTrue result (list_all is_plain text.now ≡ true) }
 {
     let len = text.len();
-    if len < 8 {
+    if len < 4 {
         return is_plain(text);
+    }
+    if len < 8 {
+        return are_4_plain(text, 0) && are_4_plain(text, len - 4);
     }
     if len < 16 {
         return are_8_plain(text, 0) && are_8_plain(text, len - 8);
@@ -122,6 +136,8 @@ fn are_first_plain(text: &[u8], end: usize) -> bool
 
 /// Appends the text with a backslash and a letter for each byte that has one
 /// (`CopyAttributeOutText`). An error leaves a part of it.
+// It is called for each value.
+#[inline(always)]
 pub fn escape(text: &[u8], out: &mut Vec<u8>) -> Result<(), AllocError>
     ensures ok { OnOk result (out.new.items ≡ out.old.items ++ escaped text.now) }
     ensures err { OnErr result (Extends out.old.items out.new.items) }
@@ -130,6 +146,15 @@ pub fn escape(text: &[u8], out: &mut Vec<u8>) -> Result<(), AllocError>
     if is_surely_plain(text) {
         return out.extend_from_slice(text);
     }
+    escape_each(text, out)
+}
+
+/// Appends the text as [`escape`] does, byte by byte.
+#[inline(never)]
+fn escape_each(text: &[u8], out: &mut Vec<u8>) -> Result<(), AllocError>
+    ensures ok { OnOk result (out.new.items ≡ out.old.items ++ escaped text.now) }
+    ensures err { OnErr result (Extends out.old.items out.new.items) }
+{
     'bytes: for byte in text {
         push_escaped(*byte, out)?;
     }

@@ -33,9 +33,10 @@ macro_rules! take {
         ($alloc:ident, $base:ident, $is_array:ident, $ty:ident, $row:ident, $own:ident)
         $($of:ident $names:tt $types:tt,)*
     ) => {
+        // What a `match` gives is copied, and what is returned is not.
         match $base {
-            $(Base::$of => take_row!(($alloc, $is_array, $ty, $row, $own) $types),)*
-            Base::Composite => refuse_composite($is_array, $ty, $row),
+            $(Base::$of => return take_row!(($alloc, $is_array, $ty, $row, $own) $types),)*
+            Base::Composite => return refuse_composite($is_array, $ty, $row),
         }
     };
 }

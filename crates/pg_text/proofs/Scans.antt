@@ -1,13 +1,19 @@
 -- Lemmas on what texts are scanned as.
-use Rattle.std.proofs.Common.{◌≡◌, ◌*◌, ℕ, ℤ, List, [], subst, sym}
+use Rattle.std.proofs.Common.{◌≡◌, ◌*◌, ℕ, ℤ, List, [], IfSome, None, Option, Some, subst, sym}
+use Rattle.std.specs.Prelude.{SomeIff}
 use Rattle.jiff.specs.Types.{Date, Time}
 use Rattle.pg_text.specs.Scans.{SaysDate, SaysTime, TakesClock, TakesDay, TakesEra, TakesTimestamp}
 
+-- what holds of the value of a checked operation
+pub some_value : {A : Type 0} (r : Option A) (P : Type 0) (v : A) (Q : A → Type 0) → SomeIff r P v → Q v → IfSome r Q
+some_value None P v Q h q = tt
+some_value (Some x) P v Q h q = subst Q (sym h.1) q
+
 -- a timestamp of the same fields
-pub same_timestamp : (text zone : List ℕ) (y z : ℤ) (m n d e h i p q s t f : ℕ) → y ≡ z → m ≡ n → d ≡ e → h ≡ i
-    → p ≡ q → s ≡ t → TakesTimestamp text zone y m d h p s f → TakesTimestamp text zone z n e i q t f
-same_timestamp text zone y z m n d e h i p q s t f year month day hour minute second read =
-    subst {A = ℤ × ℕ × ℕ × ℕ × ℕ × ℕ} (λ v. TakesTimestamp text zone v.0 v.1 v.2 v.3 v.4 v.5 f)
+pub same_timestamp : (text : List ℕ) (y z : ℤ) (m n d e h i p q s t f : ℕ) → y ≡ z → m ≡ n → d ≡ e → h ≡ i
+    → p ≡ q → s ≡ t → TakesTimestamp text y m d h p s f → TakesTimestamp text z n e i q t f
+same_timestamp text y z m n d e h i p q s t f year month day hour minute second read =
+    subst {A = ℤ × ℕ × ℕ × ℕ × ℕ × ℕ} (λ v. TakesTimestamp text v.0 v.1 v.2 v.3 v.4 v.5 f)
     (λ k. (year k, month k, day k, hour k, minute k, second k)) read
 
 -- a date of the same fields

@@ -1,5 +1,5 @@
 -- What is at the front of a text, and the rest of the text.
-use Rattle.std.specs.Prelude.{◌≡◌, ◌⊎◌, ◌<◌, ℕ, ◌-◌, ◌*◌, ◌^◌, ◌≤◌, List, [], ◌∷◌, ◌++◌, length}
+use Rattle.std.specs.Prelude.{◌≡◌, ◌⊎◌, ◌<◌, ℕ, ◌+◌, ◌-◌, ◌*◌, ◌^◌, ◌≤◌, List, [], ◌∷◌, ◌++◌, length}
 use Rattle.std.specs.Prelude.{ℤ, pos, ◌-ℤ◌, ◌*ℤ◌, codes}
 use Rattle.std.specs.Str.Parse.{IsNumeral, digits_value}
 use Rattle.jiff.specs.Types.{Date, DateTime, Time, Timestamp}
@@ -73,36 +73,75 @@ abbrev pub SaysDate : List ℕ → Date → Type 0
 SaysDate text d =
     (inside : ℤ) × (rest : List ℕ) × TakesDay text inside d.month d.day rest × TakesEra rest inside d.year
 
--- a day, a time of day, this zone and the era
-abbrev pub TakesTimestamp : List ℕ → List ℕ → ℤ → ℕ → ℕ → ℕ → ℕ → ℕ → ℕ → Type 0
-TakesTimestamp text zone year month day hour minute second fraction =
+-- a day, a time of day and the era
+abbrev pub TakesTimestamp : List ℕ → ℤ → ℕ → ℕ → ℕ → ℕ → ℕ → ℕ → Type 0
+TakesTimestamp text year month day hour minute second fraction =
     (inside : ℤ)
     × (a b : List ℕ)
     × TakesDay text inside month day (32 ∷ a)
-    × TakesClock a hour minute second fraction (zone ++ b)
+    × TakesClock a hour minute second fraction b
     × TakesEra b inside year
 
 -- what is parsed as a timestamp, as a date and a time of day (timestamp_in)
-abbrev pub SaysDateTime : List ℕ → List ℕ → DateTime → Type 0
-SaysDateTime zone text dt =
+abbrev pub SaysDateTime : List ℕ → DateTime → Type 0
+SaysDateTime text dt =
     (fraction : ℕ)
-    × TakesTimestamp text zone dt.date.year dt.date.month dt.date.day dt.time.hour dt.time.minute dt.time.second
-    fraction
+    × TakesTimestamp text dt.date.year dt.date.month dt.date.day dt.time.hour dt.time.minute dt.time.second fraction
     × (dt.time.subsec_nanosecond ≡ fraction * 1000)
 
--- what is parsed as a timestamp, as its nanoseconds after 1970-01-01 00:00:00
-abbrev pub SaysNanos : {A : Type 0} → (A → ℤ) → List ℕ → List ℕ → A → Type 0
-SaysNanos nanos zone text v =
-    (year micros : ℤ)
+-- so many microseconds after 1970-01-01 00:00:00 it is that timestamp
+abbrev pub SaysMicros : List ℕ → ℤ → Type 0
+SaysMicros text micros =
+    (year : ℤ)
     × (month day hour minute second fraction : ℕ)
-    × TakesTimestamp text zone year month day hour minute second fraction
+    × TakesTimestamp text year month day hour minute second fraction
     × IsTimestamp year month day hour minute second fraction micros
-    × (nanos v ≡ micros *ℤ pos 1000)
 
 -- TIMESTAMP (timestamp_in)
 abbrev pub SaysTimestamp : List ℕ → UnixTime → Type 0
-SaysTimestamp = SaysNanos nanos_of []
+SaysTimestamp text v = (micros : ℤ) × SaysMicros text micros × (nanos_of v ≡ micros *ℤ pos 1000)
 
--- TIMESTAMPTZ, in UTC (timestamptz_in)
+-- a colon and two digits of a number below 60, or nothing, which is 0
+abbrev pub TakesSixtieths : List ℕ → ℕ → List ℕ → Type 0
+TakesSixtieths text n rest =
+    ((n ≡ 0) × (text ≡ rest)) ⊎ ((after : List ℕ) × (text ≡ 58 ∷ after) × TakesDigits after n 2 rest × (n < 60))
+
+-- a sign before so many seconds: plus is east of Greenwich
+abbrev pub IsSigned : ℕ → ℕ → ℤ → Type 0
+IsSigned sign n seconds = ((sign ≡ 43) × (seconds ≡ pos n)) ⊎ ((sign ≡ 45) × (seconds ≡ pos 0 -ℤ pos n))
+
+-- an offset from UTC in seconds: Z, or a sign, two digits of hours, at most 15, minutes and seconds (DecodeTimezone)
+abbrev pub TakesOffset : List ℕ → ℤ → List ℕ → Type 0
+TakesOffset text seconds rest =
+    ((text ≡ 90 ∷ rest) × (seconds ≡ pos 0))
+    ⊎ ((sign hours minutes others : ℕ)
+    × (a b c : List ℕ)
+    × (text ≡ sign ∷ a)
+    × TakesDigits a hours 2 b
+    × (hours ≤ 15)
+    × TakesSixtieths b minutes c
+    × TakesSixtieths c others rest
+    × IsSigned sign (hours * 3600 + minutes * 60 + others) seconds)
+
+-- a timestamp with an offset before the era
+abbrev pub TakesInstant : List ℕ → ℤ → ℕ → ℕ → ℕ → ℕ → ℕ → ℕ → ℤ → Type 0
+TakesInstant text year month day hour minute second fraction seconds =
+    (inside : ℤ)
+    × (a b c : List ℕ)
+    × TakesDay text inside month day (32 ∷ a)
+    × TakesClock a hour minute second fraction b
+    × TakesOffset b seconds c
+    × TakesEra c inside year
+
+-- at so many microseconds after 1970-01-01 00:00:00 UTC, where the offset is, it is that timestamp
+abbrev pub SaysUtcMicros : List ℕ → ℤ → Type 0
+SaysUtcMicros text at =
+    (year micros seconds : ℤ)
+    × (month day hour minute second fraction : ℕ)
+    × TakesInstant text year month day hour minute second fraction seconds
+    × IsTimestamp year month day hour minute second fraction micros
+    × (at ≡ micros -ℤ seconds *ℤ pos 1_000_000)
+
+-- TIMESTAMPTZ (timestamptz_in)
 abbrev pub SaysInstant : List ℕ → Timestamp → Type 0
-SaysInstant = SaysNanos instant_nanos (codes "+00")
+SaysInstant text v = (at : ℤ) × SaysUtcMicros text at × (instant_nanos v ≡ at *ℤ pos 1000)

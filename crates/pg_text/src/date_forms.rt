@@ -1,7 +1,8 @@
 //! The parts of the texts of dates, times of day and timestamps.
-ghost use Rattle.std.specs.Prelude.{◌≡◌, ◌++◌, [], ℕ, ℤ, List, IfSome, OnOk, pos, ◌+ℤ◌};
-ghost use Rattle.std.specs.Prelude.{◌*ℤ◌};
-ghost use Rattle.pg_text.specs.Scans.{SaysNanos, TakesClock, TakesDateTime, TakesDay, TakesEra, TakesTimestamp};
+ghost use Rattle.std.specs.Prelude.{◌≡◌, ◌<◌, ◌++◌, ◌∷◌, [], ℕ, ℤ, List, IfSome, OnOk, pos};
+ghost use Rattle.std.specs.Prelude.{◌+ℤ◌, ◌*ℤ◌, if◌then◌else◌};
+ghost use Rattle.pg_text.specs.Scans.{TakesClock, TakesDateTime, TakesDay, TakesEra, TakesOffset};
+ghost use Rattle.pg_text.specs.Scans.{SaysMicros, SaysUtcMicros, TakesSixtieths, TakesTimestamp};
 ghost use Rattle.pg_calendar.specs.Texts.{clock_text, day_text, era_text, seconds_text, timestamp_text, year_of_era};
 
 use crate::digits::{push_fraction, push_padded};
@@ -9,27 +10,36 @@ use crate::scanner::Scanner;
 use pg_calendar::{Civil, Clock, DateTime, two_digits, year_of_era};
 use std::alloc::AllocError;
 
+/// The digits of a year of four digits, of a month and of a day.
+type DayDigits = (u8, u8, u8, u8, u8, u8, u8, u8);
+
+/// The digits of an hour, a minute and a second.
+type ClockDigits = (u8, u8, u8, u8, u8, u8);
+
 /// Appends the date without its era. Years before year 1 are counted back from 1 BC.
 #[inline(always)]
 pub fn push_date(date: Civil, out: &mut Vec<u8>) -> Result<(), AllocError>
     ensures { OnOk result (out.new.items ≡ out.old.items ++ day_text date.year date.month date.day) }
 {
-    match short_date(date) {
-        Some(text) => out.extend_from_slice(&text),
+    match day_digits(date) {
+        Some((y0, y1, y2, y3, m0, m1, d0, d1)) => {
+            out.extend_from_slice(&[y0, y1, y2, y3, b'-', m0, m1, b'-', d0, d1])
+        }
         None => push_long_date(date, out),
     }
 }
 
-/// Returns the date without its era if its year has at most four digits, and otherwise `None`.
-fn short_date(date: Civil) -> Option<[u8; 10]>
-    ensures { IfSome result (λ text. text ≡ day_text date.year date.month date.day) }
+/// Returns the digits of the date, if its year has at most four; otherwise `None`.
+fn day_digits(date: Civil) -> Option<DayDigits>
+    ensures { IfSome result (λ d. day_text date.year date.month date.day
+        ≡ d.0 ∷ d.1 ∷ d.2 ∷ d.3 ∷ 45 ∷ d.4 ∷ d.5 ∷ 45 ∷ d.6 ∷ d.7 ∷ []) }
 {
     let year = u32::try_from(year_of_era(date.year)).ok()?;
     let (y0, y1) = two_digits(year / 100)?;
     let (y2, y3) = two_digits(year % 100)?;
     let (m0, m1) = two_digits(date.month)?;
     let (d0, d1) = two_digits(date.day)?;
-    Some([y0, y1, y2, y3, b'-', m0, m1, b'-', d0, d1])
+    Some((y0, y1, y2, y3, m0, m1, d0, d1))
 }
 
 /// Appends any date without its era.
@@ -59,22 +69,24 @@ pub fn push_clock(clock: Clock, out: &mut Vec<u8>) -> Result<(), AllocError>
     ensures { OnOk result (out.new.items ≡ out.old.items
         ++ clock_text clock.hour clock.minute clock.second clock.micros) }
 {
-    match short_clock(clock) {
-        Some(text) => out.extend_from_slice(&text)?,
+    match clock_digits(clock) {
+        Some((h0, h1, m0, m1, s0, s1)) => {
+            out.extend_from_slice(&[h0, h1, b':', m0, m1, b':', s0, s1])?;
+        }
         None => push_long_clock(clock, out)?,
     }
     push_fraction(clock.micros, out)
 }
 
-/// Returns the time of day without its fraction if its hour has at most two digits, and otherwise
-/// `None`.
-fn short_clock(clock: Clock) -> Option<[u8; 8]>
-    ensures { IfSome result (λ text. text ≡ seconds_text clock.hour clock.minute clock.second) }
+/// Returns the digits of the time of day, if its hour has at most two; otherwise `None`.
+fn clock_digits(clock: Clock) -> Option<ClockDigits>
+    ensures { IfSome result (λ d. seconds_text clock.hour clock.minute clock.second
+        ≡ d.0 ∷ d.1 ∷ 58 ∷ d.2 ∷ d.3 ∷ 58 ∷ d.4 ∷ d.5 ∷ []) }
 {
     let (h0, h1) = two_digits(clock.hour)?;
     let (m0, m1) = two_digits(clock.minute)?;
     let (s0, s1) = two_digits(clock.second)?;
-    Some([h0, h1, b':', m0, m1, b':', s0, s1])
+    Some((h0, h1, m0, m1, s0, s1))
 }
 
 /// Appends the time of day without its fraction, with any hour, as in an interval.
@@ -95,11 +107,39 @@ pub fn push_datetime(datetime: DateTime, zone: &[u8], out: &mut Vec<u8>) -> Resu
         ++ timestamp_text datetime.date.year datetime.date.month datetime.date.day
         (clock_text datetime.clock.hour datetime.clock.minute datetime.clock.second datetime.clock.micros) zone.now) }
 {
-    push_date(datetime.date, out)?;
-    out.push(b' ')?;
-    push_clock(datetime.clock, out)?;
+    push_seconds(datetime, out)?;
+    push_fraction(datetime.clock.micros, out)?;
     out.extend_from_slice(zone)?;
     push_era(datetime.date, out)
+}
+
+/// Appends the date without its era, and the time of day without its fraction.
+#[inline(always)]
+fn push_seconds(datetime: DateTime, out: &mut Vec<u8>) -> Result<(), AllocError>
+    ensures { OnOk result (out.new.items ≡ out.old.items
+        ++ (day_text datetime.date.year datetime.date.month datetime.date.day
+        ++ 32 ∷ seconds_text datetime.clock.hour datetime.clock.minute datetime.clock.second)) }
+{
+    match (day_digits(datetime.date), clock_digits(datetime.clock)) {
+        (Some((y0, y1, y2, y3, m0, m1, d0, d1)), Some((h0, h1, n0, n1, s0, s1))) => {
+            out.extend_from_slice(&[
+                y0, y1, y2, y3, b'-', m0, m1, b'-', d0, d1, b' ', h0, h1, b':', n0, n1, b':', s0,
+                s1,
+            ])
+        }
+        _ => push_long_datetime(datetime, out),
+    }
+}
+
+/// Appends any date without its era, and any time of day without its fraction.
+fn push_long_datetime(datetime: DateTime, out: &mut Vec<u8>) -> Result<(), AllocError>
+    ensures { OnOk result (out.new.items ≡ out.old.items
+        ++ (day_text datetime.date.year datetime.date.month datetime.date.day
+        ++ 32 ∷ seconds_text datetime.clock.hour datetime.clock.minute datetime.clock.second)) }
+{
+    push_date(datetime.date, out)?;
+    out.push(b' ')?;
+    push_long_clock(datetime.clock, out)
 }
 
 /// Takes a date without its era. The year has at least four digits, since the server reads a
@@ -229,15 +269,14 @@ pub fn parse_clock(text: &str) -> Option<Clock>
     if scanner.is_done() { Some(clock) } else { None }
 }
 
-/// Parses a date and a time of day with this zone; `None` if the text is not one.
+/// Parses a date and a time of day; `None` if the text is not one.
 #[inline(always)]
-pub fn parse_datetime(text: &str, zone: &[u8]) -> Option<DateTime>
-    ensures { IfSome result (λ dt. TakesTimestamp text.now zone.now dt.date.year dt.date.month dt.date.day
+pub fn parse_datetime(text: &str) -> Option<DateTime>
+    ensures { IfSome result (λ dt. TakesTimestamp text.now dt.date.year dt.date.month dt.date.day
         dt.clock.hour dt.clock.minute dt.clock.second dt.clock.micros) }
 {
     let mut scanner = Scanner::new(text);
     let datetime = take_datetime(&mut scanner)?;
-    scanner.expect(zone)?;
     let year = take_era(datetime.date.year, &mut scanner)?;
     let date = Civil {
         year,
@@ -246,13 +285,77 @@ pub fn parse_datetime(text: &str, zone: &[u8]) -> Option<DateTime>
     Some(DateTime { date, ..datetime })
 }
 
-/// Parses a timestamp with this zone. Returns the microseconds to it from midnight of day `day`,
-/// which is counted in days from 1970-01-01; `None` if the text is not a timestamp, or if they do
-/// not fit in an `i64`.
+/// Parses a timestamp. Returns the microseconds to it from midnight of day `day`, which is counted
+/// in days from 1970-01-01; `None` if the text is not a timestamp, or if they do not fit in an
+/// `i64`.
 #[inline(always)]
-pub fn parse_micros(text: &str, zone: &[u8], day: i64) -> Option<i64>
-    ensures { IfSome result
-        (SaysNanos (λ micros. (micros +ℤ day *ℤ pos 86_400_000_000) *ℤ pos 1_000) zone.now text.now) }
+pub fn parse_micros(text: &str, day: i64) -> Option<i64>
+    ensures { IfSome result (λ micros. SaysMicros text.now (micros +ℤ day *ℤ pos 86_400_000_000)) }
 {
-    parse_datetime(text, zone)?.micros_from(day)
+    parse_datetime(text)?.micros_from(day)
+}
+
+/// Takes a colon and two digits of a number below 60, if there is a colon; otherwise the number is
+/// 0. Returns `None` if the colon is followed by something else.
+#[inline(always)]
+fn take_sixtieths(scanner: &mut Scanner<'_>) -> Option<u32>
+    ensures number { IfSome result (λ n. TakesSixtieths scanner.old.rest.now n scanner.new.rest.now) }
+    ensures bound { IfSome result (λ n. n < 60) }
+{
+    if !scanner.take(b":") {
+        return Some(0);
+    }
+    let number = scanner.pair()?;
+    if number < 60 { Some(number) } else { None }
+}
+
+/// Takes a sign, and returns whether it is a minus.
+#[inline(always)]
+fn take_sign(scanner: &mut Scanner<'_>) -> Option<bool>
+    ensures { IfSome result (λ is_minus. scanner.old.rest.now
+        ≡ (if is_minus then 45 else 43) ∷ scanner.new.rest.now) }
+{
+    if scanner.take(b"+") {
+        return Some(false);
+    }
+    scanner.expect(b"-")?;
+    Some(true)
+}
+
+/// Takes an offset from UTC, such as `+05:30`, `-03` or `Z`, and returns its seconds, which are
+/// positive east of Greenwich.
+#[inline(always)]
+fn take_offset(scanner: &mut Scanner<'_>) -> Option<i32>
+    ensures { IfSome result (λ seconds. TakesOffset scanner.old.rest.now seconds scanner.new.rest.now) }
+{
+    if scanner.take(b"Z") {
+        return Some(0);
+    }
+    let is_minus = take_sign(scanner)?;
+    let hours = scanner.pair()?;
+    if hours > 15 {
+        return None;
+    }
+    let minutes = take_sixtieths(scanner)?;
+    let seconds = take_sixtieths(scanner)?;
+    let offset = (hours * 3_600 + minutes * 60 + seconds) as i32;
+    Some(if is_minus { -offset } else { offset })
+}
+
+/// Parses a date and a time of day with an offset from UTC, and returns the microseconds from
+/// 1970-01-01 00:00:00 UTC; `None` if the text is not one, or if they do not fit in an `i64`.
+#[inline(always)]
+pub fn parse_instant(text: &str) -> Option<i64>
+    ensures { IfSome result (SaysUtcMicros text.now) }
+{
+    let mut scanner = Scanner::new(text);
+    let datetime = take_datetime(&mut scanner)?;
+    let offset = take_offset(&mut scanner)?;
+    let year = take_era(datetime.date.year, &mut scanner)?;
+    let date = Civil {
+        year,
+        ..datetime.date
+    };
+    let micros = DateTime { date, ..datetime }.micros_from(0)?;
+    micros.checked_sub(i64::from(offset) * 1_000_000)
 }

@@ -9,8 +9,8 @@ ghost use Rattle.pg_base.specs.DateTexts.{civil_date_text, civil_datetime_text, 
 ghost use Rattle.pg_base.specs.DateTexts.{instant_text, unix_time_text};
 
 use crate::date_forms::{
-    parse_clock, parse_date, parse_datetime, parse_micros, push_clock, push_date, push_datetime,
-    push_era,
+    parse_clock, parse_date, parse_datetime, parse_instant, parse_micros, push_clock, push_date,
+    push_datetime, push_era,
 };
 use crate::{FromText, ToText, no_value};
 use jiff::civil;
@@ -114,9 +114,9 @@ impl ToText for civil::DateTime {
 
 /// Parses a date and a time of day of `jiff`; `None` if the text is not one.
 fn parse_civil(text: &str) -> Option<civil::DateTime>
-    ensures { IfSome result (SaysDateTime [] text.now) }
+    ensures { IfSome result (SaysDateTime text.now) }
 {
-    let datetime = parse_datetime(text, b"")?;
+    let datetime = parse_datetime(text)?;
     let date = jiff_date(datetime.date)?;
     let time = jiff_time(datetime.clock)?;
     Some(date.to_datetime(time))
@@ -124,7 +124,7 @@ fn parse_civil(text: &str) -> Option<civil::DateTime>
 
 /// Parses a timestamp in which all numbers but the year may have one digit.
 impl FromText for civil::DateTime {
-    ghost says = { SaysDateTime [] };
+    ghost says = { SaysDateTime };
 
     fn from_text(_alloc: Global, text: &str) -> Result<civil::DateTime, Fault> {
         parse_civil(text).ok_or_else(no_value)
@@ -144,11 +144,12 @@ impl ToText for jiff::Timestamp {
 fn parse_timestamp(text: &str) -> Option<jiff::Timestamp>
     ensures { IfSome result (SaysInstant text.now) }
 {
-    let micros = parse_micros(text, UTC, 0)?;
+    let micros = parse_instant(text)?;
     jiff::Timestamp::from_microsecond(micros).ok()
 }
 
-/// Parses a timestamp in UTC in which all numbers but the year may have one digit.
+/// Parses a timestamp with an offset from UTC, such as `+00`, `+05:30` or `Z`, in which all numbers
+/// but the year, and those of the offset, may have one digit.
 impl FromText for jiff::Timestamp {
     ghost says = { SaysInstant };
 
@@ -170,7 +171,7 @@ impl ToText for UnixTime {
 fn parse_unix_time(text: &str) -> Option<UnixTime>
     ensures { IfSome result (SaysTimestamp text.now) }
 {
-    let micros = parse_micros(text, b"", POSTGRES_EPOCH_DAY)?;
+    let micros = parse_micros(text, POSTGRES_EPOCH_DAY)?;
     Some(UnixTime::from_postgres_micros(micros))
 }
 

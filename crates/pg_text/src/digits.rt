@@ -1,11 +1,11 @@
 //! Numbers in decimal digits.
 
-ghost use Rattle.std.specs.Prelude.{◌≡◌, ◌<◌, ◌≤◌, ◌++◌, OnOk, drop, replicate, true};
+ghost use Rattle.std.specs.Prelude.{◌≡◌, ◌<◌, ◌≤◌, ◌++◌, ◌∷◌, IfSome, OnOk, drop, replicate, true};
 ghost use Rattle.std.specs.Fmt.{digit_glyph, digits};
-ghost use Rattle.pg_calendar.specs.Texts.{fraction_text, padded_text};
+ghost use Rattle.pg_calendar.specs.Texts.{fraction_text, padded_text, without_zeros};
 
 use itoa::{Buffer, Integer};
-use pg_calendar::{len_without_zeros, six_digits};
+use pg_calendar::{len_without_zeros, two_digits};
 use std::alloc::AllocError;
 
 /// Appends the number.
@@ -26,16 +26,6 @@ pub fn push_padded(number: u64, width: usize, out: &mut Vec<u8>) -> Result<(), A
     out.extend_from_slice(digits)
 }
 
-/// Appends the number in at least six digits, padded with zeros.
-fn push_six_digits(number: u32, out: &mut Vec<u8>) -> Result<(), AllocError>
-    ensures { OnOk result (out.new.items ≡ out.old.items ++ padded_text 6 number) }
-{
-    match six_digits(number) {
-        Some(digits) => out.extend_from_slice(&digits),
-        None => push_padded(u64::from(number), 6, out),
-    }
-}
-
 /// Appends `count` zeros.
 fn push_zeros(count: usize, out: &mut Vec<u8>) -> Result<(), AllocError>
     ensures { OnOk result (out.new.items ≡ out.old.items ++ replicate count 48) }
@@ -47,15 +37,40 @@ fn push_zeros(count: usize, out: &mut Vec<u8>) -> Result<(), AllocError>
 }
 
 /// Appends a decimal point and the millionths without trailing zeros; nothing if there are none.
+#[inline(always)]
 pub fn push_fraction(millionths: u32, out: &mut Vec<u8>) -> Result<(), AllocError>
     ensures { OnOk result (out.new.items ≡ out.old.items ++ fraction_text millionths) }
 {
     if millionths == 0 {
         return Ok(());
     }
+    let Some(text) = short_fraction(millionths) else {
+        return push_long_fraction(millionths, out);
+    };
+    let end = out.len() + len_without_zeros(&text);
+    // LLVM copies as many bytes as it knows without a call.
+    out.extend_from_slice(&text)?;
+    out.truncate(end);
+    Ok(())
+}
+
+/// Returns a decimal point and the six digits of the millionths; `None` if they have more.
+fn short_fraction(millionths: u32) -> Option<[u8; 7]>
+    ensures { IfSome result (λ text. text ≡ 46 ∷ padded_text 6 millionths) }
+{
+    let (d0, d1) = two_digits(millionths / 10_000)?;
+    let (d2, d3) = two_digits(millionths / 100 % 100)?;
+    let (d4, d5) = two_digits(millionths % 100)?;
+    Some([b'.', d0, d1, d2, d3, d4, d5])
+}
+
+/// Appends a decimal point and any millionths without trailing zeros.
+fn push_long_fraction(millionths: u32, out: &mut Vec<u8>) -> Result<(), AllocError>
+    ensures { OnOk result (out.new.items ≡ out.old.items ++ 46 ∷ without_zeros (padded_text 6 millionths)) }
+{
     out.push(b'.')?;
     let start = out.len();
-    push_six_digits(millionths, out)?;
+    push_padded(u64::from(millionths), 6, out)?;
     let len = len_without_zeros(&out.as_slice()[start..]);
     out.truncate(start + len);
     Ok(())

@@ -1,5 +1,6 @@
 -- The lemmas of this crate's proofs.
 mod Answers
+mod FirstBytes
 mod LineLaws
 pub mod Outcomes
 mod Sent

@@ -1,5 +1,5 @@
 -- What the proof of `parse_micros` answers by hand.
-use Rattle.std.proofs.Common.{rules, refl, ◌≡◌, w64, pos, ◌+ℤ◌, ◌*ℤ◌, to_z, of_z}
+use Rattle.std.proofs.Common.{rules, ◌≡◌, w64, to_z, of_z}
 use Rattle.pg_calendar.proofs.Outcomes.{MatchOption_then}
 use Rattle.pg_text.proofs.date_forms.parse_micros.Goals as goal
 
@@ -11,7 +11,6 @@ returns c =
     MatchOption_then c.micros_from.result (rw day at c.micros_from.ensures) (λ _. tt)
     (λ micros timestamp. (
       date.year,
-      micros +ℤ c.args.day *ℤ pos 86_400_000_000,
       date.month,
       date.day,
       clock.hour,
@@ -20,5 +19,4 @@ returns c =
       clock.micros,
       c.in_ok-parse_datetime.ensures,
       timestamp,
-      refl,
     ))

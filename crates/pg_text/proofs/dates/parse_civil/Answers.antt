@@ -1,5 +1,5 @@
 -- What the proof of `parse_civil` answers by hand.
-use Rattle.std.proofs.Common.{[], ap, sym, ◌∙◌}
+use Rattle.std.proofs.Common.{ap, sym, ◌∙◌}
 use Rattle.pg_text.proofs.Scans.{same_timestamp}
 use Rattle.pg_text.proofs.dates.parse_civil.Goals as goal
 
@@ -17,7 +17,7 @@ returns c =
     let minute = ap (λ t. t.minute) same_time ∙ time.1 in
     let second = ap (λ t. t.second) same_time ∙ time.2 in (
       read.datetime.clock.micros,
-      same_timestamp c.args.text.now [] _ _ _ _ _ _ _ _ _ _ _ _ _ (sym year) (sym month) (sym day) (sym hour)
+      same_timestamp c.args.text.now _ _ _ _ _ _ _ _ _ _ _ _ _ (sym year) (sym month) (sym day) (sym hour)
           (sym minute) (sym second) read.ensures,
       ap (λ t. t.subsec_nanosecond) same_time ∙ time.3,
     )

@@ -6,7 +6,6 @@ use Rattle.pg_text.proofs.dates.parse_timestamp.Goals as goal
 
 pub returns : goal.returns
 returns c =
-    let s = c.in_ok-micros.ensures in
     let micros : to_z w64 (of_z w64 c.in_ok-micros.micros) ≡ c.in_ok-micros.micros = search rules in
     rw c.ok.ensures.value (IfSome_of_ok c.from_microsecond.result (rw micros at c.from_microsecond.ensures.value)
-    (λ t e. (s.0, s.1, s.2, s.3, s.4, s.5, s.6, s.7, s.8, s.9, let f = s.10 in omega (arith, signed_arith))))
+    (λ t e. (c.in_ok-micros.micros, c.in_ok-micros.ensures, omega (arith, signed_arith))))

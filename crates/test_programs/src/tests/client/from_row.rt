@@ -52,7 +52,7 @@ fn a_row_is_read_as_a_tuple(rt: HostRuntime) -> Result<(), Fail> {
 }
 
 /// A row of twelve columns of one byte each, which have their numbers as values.
-const NUMBERS: [u8; 62] = [
+pub const NUMBERS: [u8; 62] = [
     0, 12, 0, 0, 0, 1, 1, 0, 0, 0, 1, 2, 0, 0, 0, 1, 3, 0, 0, 0, 1, 4, //
     0, 0, 0, 1, 5, 0, 0, 0, 1, 6, 0, 0, 0, 1, 7, 0, 0, 0, 1, 8, //
     0, 0, 0, 1, 9, 0, 0, 0, 1, 10, 0, 0, 0, 1, 11, 0, 0, 0, 1, 12,
@@ -168,12 +168,13 @@ fn what_is_no_such_row_is_refused(rt: HostRuntime) -> Result<(), Fail> {
     let alloc = rt.alloc();
     let columns = item_columns();
     let row = Row::new(&ITEM, &columns)?;
-    refused(alloc, row.read::<(i32,)>(alloc), "row: invalid field count")?;
+    let one = "row (expected 1 columns, got 3): invalid field count";
+    refused(alloc, row.read::<(i32,)>(alloc), one)?;
     let row = Row::new(&ITEM, &columns)?;
     refused(
         alloc,
         row.read::<(i32, &str, bool, bool)>(alloc),
-        "row: invalid field count",
+        "row (expected 4 columns, got 3): invalid field count",
     )?;
     let row = Row::new(&ITEM, &columns)?;
     refused(

@@ -11,6 +11,17 @@ fn places_are_counted_from_one(rt: HostRuntime) -> Result<(), Fail> {
     let alloc = rt.alloc();
     let at = Column::new("at", Type::DATE);
     displays(alloc, &Place::Row, "row")?;
+    let (expected, got) = (65_535, 10);
+    displays(
+        alloc,
+        &Place::Columns { expected, got },
+        "row (expected 65535 columns, got 10)",
+    )?;
+    displays(
+        alloc,
+        &Place::Parameters { expected, got },
+        "bind (expected 65535 parameters, got 10)",
+    )?;
     displays(alloc, &Place::Column(2, at.name), "column 3 \"at\"")?;
     displays(alloc, &Place::Column(2, None), "column 3")?;
     displays(alloc, &Place::Bind, "bind")?;

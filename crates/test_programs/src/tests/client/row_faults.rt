@@ -38,10 +38,12 @@ fn another_number_of_columns_is_refused(rt: HostRuntime) -> Result<(), Fail> {
     let size = "row: invalid buffer size";
     refused(alloc, Row::new(&[], &columns), size)?;
     refused(alloc, Row::new(&[0], &columns), size)?;
-    let count = "row: invalid field count";
-    refused(alloc, Row::new(&[0, 2], &columns), count)?;
-    refused(alloc, Row::new(&[3, 0], &columns), count)?;
-    refused(alloc, Row::new(&[0xff, 0xff], &[]), count)
+    let fewer = "row (expected 3 columns, got 2): invalid field count";
+    refused(alloc, Row::new(&[0, 2], &columns), fewer)?;
+    let more = "row (expected 3 columns, got 768): invalid field count";
+    refused(alloc, Row::new(&[3, 0], &columns), more)?;
+    let most = "row (expected 0 columns, got 65535): invalid field count";
+    refused(alloc, Row::new(&[0xff, 0xff], &[]), most)
 }
 
 #[test]

@@ -81,7 +81,8 @@ fn another_number_of_values_is_refused(rt: HostRuntime) -> Result<(), Fail> {
     let mut out = BytesMut::copy_from_slice(alloc, b"ja")?;
     let mut bind = RowWriter::bind(&mut out, &types)?;
     bind.push(&7i32)?;
-    refused(alloc, bind.finish(), "bind: invalid field count")?;
+    let one = "bind (expected 2 parameters, got 1): invalid field count";
+    refused(alloc, bind.finish(), one)?;
     let mut row = RowWriter::tuple(&mut out, &types)?;
     push_item(&mut row, 7, None)?;
     refused(alloc, row.push(&7i32), "column 3: invalid field count")?;
@@ -92,7 +93,7 @@ fn another_number_of_values_is_refused(rt: HostRuntime) -> Result<(), Fail> {
     refused(
         alloc,
         RowWriter::tuple(&mut out, &types)?.finish(),
-        "row: invalid field count",
+        "row (expected 2 columns, got 0): invalid field count",
     )?;
     same(out.as_slice(), b"ja")
 }
