@@ -2,6 +2,7 @@
 pub mod Canonical
 pub mod CellBytes
 pub mod Digits
+pub mod Exponents
 pub mod FloatOrder
 pub mod FloatWords
 pub mod Integers

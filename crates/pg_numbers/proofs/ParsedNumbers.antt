@@ -1,27 +1,26 @@
 -- Lemmas on the numbers of texts.
-use Rattle.std.specs.Prelude.{◌≡◌, ℕ, zero, suc, ◌+◌, ◌*◌, ◌<◌, ◌≤◌, ◌==◌, ◌&&◌, nat_le, nat_lt, None, Some}
+use Rattle.std.specs.Prelude.{◌≡◌, ℕ, zero, suc, ◌+◌, ◌*◌, ◌<◌, ◌≤◌, ◌==◌, ◌&&◌, nat_lt}
 use Rattle.std.specs.Prelude.{ℤ, negsuc, pos, ◌-ℤ◌, ◌+ℤ◌, FitsSigned}
 use Rattle.std.specs.Prelude.{List, [], ◌∷◌, ◌++◌, drop, length, take, Bool, true, false, refl, if◌then◌else◌}
 use Rattle.std.specs.Char.{is_ascii_digit}
 use Rattle.std.specs.Fmt.{sign_text}
 use Rattle.std.specs.List.{list_all}
-use Rattle.std.specs.Str.Parse.{digits_value, digits_value_after, starts_with_minus, without_leading_sign}
+use Rattle.std.specs.Str.Parse.{digits_value, starts_with_minus, without_leading_sign}
 use Rattle.std.proofs.Common.{sym, ◌∙◌, ap, subst, arith, inl, inr, of_z, to_z}
 use Rattle.std.specs.Int.{w16, w32}
 use Rattle.std.proofs.lemmas.Int.{ints, to_z-of_z, to_z_pos}
-use Rattle.pg_base.specs.Formats.{first_fault_of}
 use Rattle.pg_numbers.specs.Laws.Numeric.{number_facts}
-use Rattle.std.proofs.lemmas.Bool.{and_parts, le-leb, lt-ltb, and_from, and_right}
+use Rattle.std.proofs.lemmas.Bool.{and_parts, lt-ltb, and_right}
 use Rattle.std.proofs.lemmas.Bool.Decides.{eqb_tells}
 use Rattle.std.proofs.lemmas.List.{nil_from_length}
 use Rattle.pg_numbers.specs.Numeric.{Parts, are_digits, canonical, from_digits, from_first, parts, shown, units_of}
-use Rattle.pg_numbers.specs.Numeric.{is_number, max_scale, without_trailing}
-use Rattle.pg_numbers.specs.NumericTexts.{IsSpelled, base_digits, decimals_of, decimals_text, fits_numeral, integer_of}
-use Rattle.pg_numbers.specs.NumericTexts.{integer_text, invalid_text, is_numeral, max_integer, number_text}
-use Rattle.pg_numbers.specs.NumericTexts.{numeral_checks, point_of, too_long, without_leading_zeros}
-use Rattle.pg_numbers.proofs.NumberTexts.{after_append, decimals_are_digits, integer_is_digits}
+use Rattle.pg_numbers.specs.Numeric.{is_number, without_trailing}
+use Rattle.pg_numbers.specs.NumericTexts.{IsScaled, base_digits, decimals_of, decimals_text, integer_of}
+use Rattle.pg_numbers.specs.NumericTexts.{integer_text, is_numeral, number_text}
+use Rattle.pg_numbers.specs.NumericTexts.{point_of}
+use Rattle.pg_numbers.proofs.NumberTexts.{decimals_are_digits, integer_is_digits}
 use Rattle.pg_numbers.proofs.OrderedValues.{some_units}
-use Rattle.pg_numbers.proofs.ReadTexts.{ascii_range, base_units, zeros_value}
+use Rattle.pg_numbers.proofs.ReadTexts.{ascii_range, base_units}
 use Rattle.pg_numbers.proofs.Units.{canonical_scale, canonical_units}
 use Rattle.pg_numbers.proofs.Values.{none_or_some, zero_is}
 
@@ -68,19 +67,6 @@ signed_number q p e same digits = elim (none_or_some p.digits) [
       ∙ first_sign q.negative q.weight q.scale q.digits (omega (arith, some, ap (λ x. length x.digits) e))
       ∙ sym (and_true q.negative) ∙ ap (λ b. q.negative && b) (sym something)
 ]
-
--- its units
-pub spelled_units : (negative : Bool) (integer decimals : List ℕ) (weight : ℤ) (count : ℕ) (p : Parts)
-    → let front = without_leading_zeros integer in
-    p ≡ canonical (parts negative weight (length decimals) (base_digits front decimals))
-    → weight +ℤ pos 1 ≡ pos count → length front ≤ 4 * count → 4 * count < length front + 4
-    → units_of p ≡ digits_value 10 (integer ++ decimals)
-spelled_units negative integer decimals weight count p e at low high =
-    let front = without_leading_zeros integer in
-    let q = parts negative weight (length decimals) (base_digits front decimals) in
-    ap units_of e ∙ canonical_units q ∙ base_units front decimals weight count at low high
-    ∙ after_append 0 front decimals ∙ ap (λ n. digits_value_after 10 n decimals) (zeros_value integer)
-    ∙ sym (after_append 0 integer decimals)
 
 -- ---- texts that were written
 
@@ -200,42 +186,21 @@ weight_of n h =
     ∙ ap (λ x. to_z w16 (of_z w16 x)) (to_z-of_z w32 (pos n -ℤ pos 1) fits.0)
     ∙ to_z-of_z w16 (pos n -ℤ pos 1) fits.1
 
-pub passes : (a b : Bool) → a ≡ true → b ≡ true
-    → (if a then (if b then None else Some too_long) else Some invalid_text) ≡ None
-passes a b h k = rw (h, k) refl
-
-pub parsed : (negative : Bool) (text : List ℕ) (p : Parts) (z : ℤ) (count : ℕ) (integer decimals front ds : List ℕ)
-    → integer ≡ integer_of text → decimals ≡ decimals_of text → front ≡ without_leading_zeros integer
-    → ds ≡ base_digits front decimals → p ≡ canonical (parts negative z (length decimals) ds)
-    → z ≡ pos count -ℤ pos 1 → length front ≤ 4 * count → 4 * count < length front + 4 → is_number p ≡ true
-    → length front ≤ max_integer → length decimals ≤ max_scale → is_numeral integer decimals ≡ true
-    → (first_fault_of (numeral_checks text) ≡ None) × IsSpelled negative text p
-parsed negative text p z count integer decimals front ds i d f b e w low high number few short numeral =
-    let whole = integer_of text in
-    let last = decimals_of text in
-    let head = without_leading_zeros whole in
+pub parsed : (negative : Bool) (p : Parts) (z : ℤ) (count : ℕ) (integer decimals ds : List ℕ)
+    → ds ≡ base_digits integer decimals → p ≡ canonical (parts negative z (length decimals) ds)
+    → z ≡ pos count -ℤ pos 1 → length integer ≤ 4 * count → 4 * count < length integer + 4 → is_number p ≡ true
+    → IsScaled negative (digits_value 10 (integer ++ decimals)) (length decimals) p
+parsed negative p z count integer decimals ds b e w low high number =
     let weight = pos count -ℤ pos 1 in
-    let same : front ≡ head = f ∙ ap without_leading_zeros i in
-    let q = parts negative weight (length last) (base_digits head last) in
+    let q = parts negative weight (length decimals) (base_digits integer decimals) in
     let is : p ≡ canonical q =
     e ∙ ap (λ x. canonical (parts negative x (length decimals) ds)) w
-    ∙ ap (λ xs. canonical (parts negative weight (length decimals) xs)) (b ∙ ap (λ xs. base_digits xs decimals) same)
-    ∙ ap (λ xs. canonical (parts negative weight (length xs) (base_digits head xs))) d in
+    ∙ ap (λ xs. canonical (parts negative weight (length decimals) xs)) b in
     let facts = number_facts p number in
     let at : weight +ℤ pos 1 ≡ pos count = omega (arith, ints) in
-    let many : length front ≡ length head = ap length same in
-    let right : is_numeral whole last ≡ true =
-    ap (λ xs. is_numeral xs last) (sym i) ∙ ap (is_numeral integer) (sym d) ∙ numeral in
-    let fits : fits_numeral whole last ≡ true =
-    and_from (nat_le (length head) max_integer) (nat_le (length last) max_scale)
-    (le-leb (length head) max_integer (omega (arith, many, few)))
-    (le-leb (length last) max_scale (omega (arith, ap length d, short))) in (
-      passes (is_numeral whole last) (fits_numeral whole last) right fits,
-      record {
-        number = number;
-        scale = ap (λ x. x.scale) is ∙ canonical_scale q;
-        units = spelled_units negative whole last weight count p is at (omega (arith, many, low))
-            (omega (arith, many, high));
-        sign = signed_number q p is facts.itself facts.digits;
-      },
-    )
+    record {
+      number = number;
+      scale = ap (λ x. x.scale) is ∙ canonical_scale q;
+      units = ap units_of is ∙ canonical_units q ∙ base_units integer decimals weight count at low high;
+      sign = signed_number q p is facts.itself facts.digits;
+    }

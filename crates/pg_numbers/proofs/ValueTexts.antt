@@ -1,7 +1,7 @@
 -- Lemmas on the texts of values: each is read as its value, and no text is read as two.
-use Rattle.std.specs.Prelude.{◌≡◌, ℕ, ◌-◌, ◌==◌, ◌&&◌, ◌<◌, ◌≤◌, nat_le, nat_lt, not, List, [], ◌∷◌, ◌++◌}
+use Rattle.std.specs.Prelude.{◌≡◌, ℕ, ◌-◌, ◌==◌, ◌&&◌, ◌<◌, ◌≤◌, nat_lt, not, List, [], ◌∷◌, ◌++◌}
 use Rattle.std.specs.Prelude.{drop, length, take, if◌then◌else◌, Bool, true, false, refl}
-use Rattle.std.specs.Prelude.{MatchOption, Option, None, Some, Ok, Err}
+use Rattle.std.specs.Prelude.{IfSome, MatchOption, Option, None, Some, Ok, Err}
 use Rattle.std.specs.Char.{is_ascii_digit, to_ascii_lowercase}
 use Rattle.std.specs.Float.Parse.{is_infinity_text, is_nan_text}
 use Rattle.std.specs.Fmt.{sign_text}
@@ -15,20 +15,21 @@ use Rattle.std.proofs.lemmas.Int.{ints}
 use Rattle.std.proofs.lemmas.List.{length-drop}
 use Rattle.std.proofs.lemmas.List.Folds.{list_all-append}
 use Rattle.std.proofs.lemmas.List.Sums.{AllPass-from_list_all, prefix_len_is, suffix_len_is}
-use Rattle.pg_types.specs.Faults.{Outcome}
+use Rattle.pg_types.specs.Faults.{Outcome, Refusal}
 use Rattle.pg_numbers.specs.Laws.Numeric.{number_facts}
 use Rattle.pg_numbers.specs.Numeric.{Parts, is_number, max_scale, units_of}
 use Rattle.pg_numbers.specs.NumericCells.{is_numeric}
 use Rattle.pg_numbers.specs.NumericTexts.{IsSpelled, ParsesFinite, ParsesNumber, ParsesNumeric, ReadsNumeral}
-use Rattle.pg_numbers.specs.NumericTexts.{decimal_zeros, decimals_of, decimals_text, fits_numeral}
+use Rattle.pg_numbers.specs.NumericTexts.{decimal_zeros, decimals_of, decimals_text}
 use Rattle.pg_numbers.specs.NumericTexts.{integer_of, integer_text, is_numeral, is_space, max_integer, number_text}
 use Rattle.pg_numbers.specs.NumericTexts.{numeric_text, trimmed, trimmed_end, without_leading_zeros}
 use Rattle.pg_numbers.specs.NumericTexts.{word_value}
 use Rattle.pg_numbers.specs.declared.numeric.Numeric.{Numeric}
 use Rattle.pg_numbers.specs.declared.numeric.Numeric.TheVariants.{NaN, Infinity, NegativeInfinity, Finite}
+use Rattle.pg_numbers.proofs.Exponents.{plain_fault, plain_spelled}
 use Rattle.pg_numbers.proofs.NumberTexts.{decimals_are_digits, integer_is_digits, text_units}
 use Rattle.pg_numbers.proofs.OrderedValues.{known_by_units}
-use Rattle.pg_numbers.proofs.ParsedNumbers.{fraction_text, passes, signed_number, text_parts, text_sign}
+use Rattle.pg_numbers.proofs.ParsedNumbers.{fraction_text, signed_number, text_parts, text_sign}
 use Rattle.pg_numbers.proofs.WrittenDigits.{first_below}
 use Rattle.pg_base.proofs.CompletenessBits.{no_from_not}
 
@@ -41,13 +42,6 @@ some_numeral integer decimals some h k = elim (eqb_tells (length integer) 0) [
   | inr other ↦ rw (other.0, h, k) refl
 ]
 
-short_numeral : (integer decimals : List ℕ) → length integer ≤ max_integer → length decimals ≤ max_scale
-    → fits_numeral integer decimals ≡ true
-short_numeral integer decimals few short =
-    and_from (nat_le (length (without_leading_zeros integer)) max_integer) (nat_le (length decimals) max_scale)
-    (le-leb _ _ (omega (arith, few, length-drop (decimal_zeros integer) integer)))
-    (le-leb _ _ short)
-
 number_spelled : (p : Parts) → is_number p ≡ true
     → ReadsNumeral p.negative (integer_text p ++ fraction_text p) (Ok p)
 number_spelled p h =
@@ -56,17 +50,20 @@ number_spelled p h =
     let both = text_parts p facts.digits in
     let integer = integer_is_digits p facts.digits in
     let decimals = decimals_are_digits p facts.digits in
-    let few : length (integer_text p) ≤ max_integer =
-    omega (arith, integer.2, first_below p.weight (omega (arith, ints, facts.weight))) in
+    let few : length (without_leading_zeros (integer_of text)) ≤ max_integer =
+    omega (
+      arith,
+      ap length both.0,
+      integer.2,
+      first_below p.weight (omega (arith, ints, facts.weight)),
+      length-drop (decimal_zeros (integer_of text)) (integer_of text),
+    ) in
+    let short : length (decimals_of text) ≤ max_scale = omega (arith, ap length both.1, decimals.1, facts.scale) in
     let numeral : is_numeral (integer_of text) (decimals_of text) ≡ true =
     ap (λ xs. is_numeral xs (decimals_of text)) both.0 ∙ ap (is_numeral (integer_text p)) both.1
-    ∙ some_numeral (integer_text p) (decimals_text p) integer.1 integer.0 decimals.0 in
-    let fits : fits_numeral (integer_of text) (decimals_of text) ≡ true =
-    ap (λ xs. fits_numeral xs (decimals_of text)) both.0 ∙ ap (fits_numeral (integer_text p)) both.1
-    ∙ short_numeral (integer_text p) (decimals_text p) few (omega (arith, decimals.1, facts.scale)) in (
-      passes (is_numeral (integer_of text) (decimals_of text)) (fits_numeral (integer_of text) (decimals_of text))
-          numeral fits,
-      record {
+    ∙ some_numeral (integer_text p) (decimals_text p) integer.1 integer.0 decimals.0 in (
+      plain_fault text numeral ∙ rw (le-leb _ _ few, le-leb _ _ short) refl,
+      plain_spelled p.negative text p numeral record {
         number = h;
         scale = sym decimals.1 ∙ ap length (sym both.1);
         units = sym (text_units p facts.itself facts.digits)
@@ -189,6 +186,17 @@ number_no_word p h =
 no_word : (text rest : List ℕ) (v : Outcome Numeric) → trimmed text ≡ rest → word_value rest ≡ None
     → ParsesFinite rest v → ParsesNumeric text v
 no_word text rest v e none h = rw (e, none) h
+
+-- the fault of a number's text
+pub fault_back : (text bytes rest unsigned : List ℕ) (negative : Bool) (word : Option Numeric) (fault : Option Refusal)
+    → bytes ≡ text → rest ≡ trimmed bytes → word ≡ word_value rest → word ≡ None → negative ≡ starts_with_minus rest
+    → unsigned ≡ without_leading_sign rest → IfSome fault (λ r. ReadsNumeral negative unsigned (Err r))
+    → IfSome fault (λ r. ParsesNumeric text (Err r))
+fault_back text bytes rest unsigned negative word None same t w none s u h = tt
+fault_back text bytes rest unsigned negative word (Some r) same t w none s u h =
+    no_word text rest (Err r) (sym (t ∙ ap trimmed same)) (sym w ∙ none)
+    (subst (λ b. ReadsNumeral b (without_leading_sign rest) (Err r)) s
+    (subst (λ xs. ReadsNumeral negative xs (Err r)) u h))
 
 -- the text of a value is read as that value
 pub value_back : (v : Numeric) → is_numeric v ≡ true → ParsesNumeric (numeric_text v) (Ok v)

@@ -6,4 +6,5 @@ pub mod Laws
 pub mod Numeric
 pub mod NumericCells
 pub mod NumericOrder
+pub mod NumericExponents
 pub mod NumericTexts

@@ -1,16 +1,18 @@
 -- Texts of NUMERIC (numeric_out, numeric_in).
-use Rattle.std.specs.Prelude.{◌≡◌, ℕ, zero, suc, ◌-◌, ◌/◌, ◌%◌, ◌^◌, ◌==◌, ℤ, pos, negsuc, ◌-ℤ◌}
+use Rattle.std.specs.Prelude.{◌≡◌, ℕ, zero, suc, ◌+◌, ◌-◌, ◌*◌, ◌/◌, ◌%◌, ◌^◌, ◌==◌, ℤ, pos, negsuc, ◌-ℤ◌}
 use Rattle.std.specs.Prelude.{List, [], ◌∷◌, ◌++◌, codes, drop, length, not, slice_index, take, if◌then◌else◌}
 use Rattle.std.specs.Fmt.{decimal, sign_text}
 use Rattle.std.specs.List.{list_all, prefix_len, suffix_len}
 use Rattle.std.specs.Char.{is_ascii_digit}
-use Rattle.std.specs.Prelude.{Bool, true, ◌&&◌, ◌||◌, nat_le, nat_lt, MatchOption, Option, None, Some, Ok, Err}
+use Rattle.std.specs.Prelude.{Bool, true, false, ◌&&◌, ◌||◌, nat_le, nat_lt, MatchOption, Option, None, Some, Ok, Err}
 use Rattle.std.specs.Float.Parse.{is_infinity_text, is_nan_text}
 use Rattle.std.specs.Str.Parse.{digits_value, starts_with_minus, without_leading_sign}
 use Rattle.pg_calendar.specs.Texts.{padded_text}
 use Rattle.pg_base.specs.Formats.{Checks, first_fault_of}
 use Rattle.pg_types.specs.Faults.{Outcome, Refusal, user}
 use Rattle.pg_numbers.specs.Numeric.{Parts, is_number, max_scale, units_of}
+use Rattle.pg_numbers.specs.NumericExponents.{exponent_of, is_below, is_exponent, mantissa_of, moved_scale, moved_zeros}
+use Rattle.pg_numbers.specs.NumericExponents.{power_digits, power_limit, zeros_after}
 use Rattle.pg_numbers.specs.declared.numeric.Numeric.{Numeric}
 use Rattle.pg_numbers.specs.declared.numeric.Numeric.TheVariants.{NaN, Infinity, NegativeInfinity, Finite}
 
@@ -122,33 +124,75 @@ is_numeral integer decimals =
     not (length integer == 0 && length decimals == 0) && list_all is_ascii_digit integer
     && list_all is_ascii_digit decimals
 
--- whether they are not too many
-abbrev pub fits_numeral : List ℕ → List ℕ → Bool
-fits_numeral integer decimals =
-    nat_le (length (without_leading_zeros integer)) max_integer && nat_le (length decimals) max_scale
+-- whether these digits and the zeros after them are not too many before the point, nor after it
+abbrev pub fits_places : ℕ → ℕ → ℕ → Bool
+fits_places count zeros scale = nat_le (count + zeros - scale) max_integer && nat_le scale max_scale
 
--- the checks of a text without its sign: digits with a point or without are a number, and others are User; so are more
--- than 131,072 digits before the point, and more than 16,383 after it
+-- the digits of the number, where the decimals follow the others
+abbrev pub digits_of : List ℕ → List ℕ
+digits_of text = integer_of (mantissa_of text) ++ decimals_of (mantissa_of text)
+
+-- its exponent's absolute value, its scale, and the zeros after its digits
+abbrev pub power_of : List ℕ → ℕ
+power_of text = digits_value 10 (power_digits (exponent_of text))
+
+abbrev pub scale_of : List ℕ → ℕ
+scale_of text = moved_scale (is_below (exponent_of text)) (power_of text) (length (decimals_of (mantissa_of text)))
+
+abbrev pub zeros_of : List ℕ → ℕ
+zeros_of text = moved_zeros (is_below (exponent_of text)) (power_of text) (length (decimals_of (mantissa_of text)))
+
+-- whether digits with such an exponent are a number that is not too long
+abbrev pub fits_moved : List ℕ → Bool → ℕ → ℕ → Bool
+fits_moved digits below power decimals =
+    let count = length (without_leading_zeros digits) in
+    fits_places count (zeros_after count (moved_zeros below power decimals)) (moved_scale below power decimals)
+
+abbrev pub fits_numeral : List ℕ → Bool
+fits_numeral text =
+    nat_lt (power_of text) power_limit
+    && fits_moved (digits_of text) (is_below (exponent_of text)) (power_of text) (length (decimals_of (mantissa_of text)))
+
+-- the checks of a text without its sign: digits with a point or without, and after them an exponent or none, are a
+-- number, and others are User; so are an exponent that is too great, more than 131,072 digits before the point that the
+-- exponent has moved, where zeros at the front do not count, and more than 16,383 after it
 abbrev pub numeral_checks : List ℕ → Checks
-numeral_checks text =
-    (is_numeral (integer_of text) (decimals_of text), invalid_text)
-    ∷ (fits_numeral (integer_of text) (decimals_of text), too_long)
+numeral_checks text = (
+  is_numeral (integer_of (mantissa_of text)) (decimals_of (mantissa_of text)) && is_exponent (exponent_of text),
+  invalid_text,
+)
+    ∷ (fits_numeral text, too_long)
     ∷ []
 
--- the number of a text: it has as many decimals, and is as many units of the last of them as the digits spell
-pub record IsSpelled (negative : Bool) (text : List ℕ) (p : Parts) : Type 0 where
+-- the number of that sign and scale that is so many units of its last decimal
+pub record IsScaled (negative : Bool) (total places : ℕ) (p : Parts) : Type 0 where
   pub number : is_number p ≡ true
-  pub scale : p.scale ≡ length (decimals_of text)
-  pub units : units_of p ≡ digits_value 10 (integer_of text ++ decimals_of text)
+  pub scale : p.scale ≡ places
+  pub units : units_of p ≡ total
   -- 0 has no sign
   pub sign : p.negative ≡ (negative && nat_lt 0 (units_of p))
+
+-- the number of a text: it has as many decimals as its exponent leaves, and is as many units of the last of them as the
+-- digits, and the zeros after them, spell
+abbrev pub IsSpelled : Bool → List ℕ → Parts → Type 0
+IsSpelled negative text = IsScaled negative (digits_value 10 (digits_of text) * 10 ^ zeros_of text) (scale_of text)
+
+-- the number of digits, so many of them decimals, of which such an exponent moves the point, or the fault of one that is
+-- too long
+abbrev pub ReadsMoved : Bool → List ℕ → Bool → ℕ → ℕ → Outcome Parts → Type 0
+ReadsMoved negative digits below power decimals (Ok p) =
+    (fits_moved digits below power decimals ≡ true)
+    × IsScaled negative (digits_value 10 digits * 10 ^ moved_zeros below power decimals)
+    (moved_scale below power decimals) p
+ReadsMoved negative digits below power decimals (Err r) =
+    (fits_moved digits below power decimals ≡ false) × (r ≡ too_long)
 
 -- the number that a text spells after that sign, or the fault of the first check that it fails
 abbrev pub ReadsNumeral : Bool → List ℕ → Outcome Parts → Type 0
 ReadsNumeral negative text (Ok p) = (first_fault_of (numeral_checks text) ≡ None) × IsSpelled negative text p
 ReadsNumeral negative text (Err r) = first_fault_of (numeral_checks text) ≡ Some r
 
--- a text of a number (numeric_in, without exponents)
+-- a text of a number (numeric_in)
 abbrev pub ParsesNumber : List ℕ → Outcome Parts → Type 0
 ParsesNumber text = ReadsNumeral (starts_with_minus text) (without_leading_sign text)
 
@@ -182,7 +226,7 @@ abbrev pub ParsesFinite : List ℕ → Outcome Numeric → Type 0
 ParsesFinite text (Ok v) = (p : Parts) × (v ≡ Finite p) × ParsesNumber text (Ok p)
 ParsesFinite text (Err r) = ParsesNumber text (Err r)
 
--- a text of a value (numeric_in, without exponents): a word or a number, which may stand in white space
+-- a text of a value (numeric_in): a word or a number, which may stand in white space
 abbrev pub ParsesNumeric : List ℕ → Outcome Numeric → Type 0
 ParsesNumeric text outcome =
     MatchOption (word_value (trimmed text)) (ParsesFinite (trimmed text) outcome) (λ v. outcome ≡ Ok v)

@@ -10,6 +10,7 @@ ghost use Rattle.pg_numbers.specs.Numeric.{without_decimals, without_trailing};
 
 mod cell;
 mod conversions;
+mod exponent;
 mod integers;
 pub mod laws;
 mod order;

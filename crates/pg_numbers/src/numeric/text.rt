@@ -7,23 +7,26 @@ ghost use Rattle.std.specs.Fmt.{WritesOnOk};
 ghost use Rattle.std.specs.List.{list_all, prefix_len, suffix_len};
 ghost use Rattle.std.specs.Str.Parse.{digits_value, starts_with_minus, without_leading_sign};
 ghost use Rattle.pg_calendar.specs.Texts.{padded_text};
-ghost use Rattle.pg_types.specs.Faults.{Answers};
+ghost use Rattle.pg_types.specs.Faults.{Answers, refusal_of};
 ghost use Rattle.pg_types.specs.declared.fault.Fault.TheVariants.{Memory};
-ghost use Rattle.pg_numbers.specs.NumericTexts.{ParsesNumber, ParsesNumeric, ReadsNumeral};
+ghost use Rattle.pg_numbers.specs.Numeric.{max_scale};
+ghost use Rattle.pg_numbers.specs.NumericTexts.{IsScaled, ParsesNumber, ParsesNumeric, ReadsNumeral};
 ghost use Rattle.pg_numbers.specs.NumericTexts.{base_digits, decimal_zeros, decimals_of};
 ghost use Rattle.pg_numbers.specs.NumericTexts.{decimals_text, digit_of, digits_text, first_decimals};
 ghost use Rattle.pg_numbers.specs.NumericTexts.{first_weight, front_group, grouped, integer_of};
-ghost use Rattle.pg_numbers.specs.NumericTexts.{integer_text, is_numeral, is_space, number_text};
-ghost use Rattle.pg_numbers.specs.NumericTexts.{numeric_text, point_of, trimmed, trimmed_end};
-ghost use Rattle.pg_numbers.specs.NumericTexts.{trimmed_start, without_leading_zeros, word_value};
+ghost use Rattle.pg_numbers.specs.NumericTexts.{integer_text, is_numeral, is_space, max_integer};
+ghost use Rattle.pg_numbers.specs.NumericTexts.{number_text, numeric_text, point_of, too_long, trimmed};
+ghost use Rattle.pg_numbers.specs.NumericTexts.{trimmed_end, trimmed_start, without_leading_zeros};
+ghost use Rattle.pg_numbers.specs.NumericTexts.{word_value};
 
+use super::exponent::parse_scaled;
 use super::{Decimal, MAX_SCALE, Numeric};
 use postgres_types::Fault;
 use std::alloc::Global;
 use std::fmt;
 
 /// The most digits of a number before the point.
-const MAX_INTEGER: usize = 131_072;
+pub(super) const MAX_INTEGER: usize = 131_072;
 
 /// Writes `NaN`, `Infinity`, `-Infinity`, or the number (`numeric_out`).
 impl fmt::Display for Numeric {
@@ -143,7 +146,7 @@ fn write_first<W: fmt::Write>(digit: u16, count: u16, f: &mut fmt::Formatter<W>)
 impl Numeric {
     /// Parses `NaN`, which has no sign, or `Infinity` or `inf`, with a sign or without, each in any
     /// case, or a number as [`Decimal::parse`] does. White space is allowed before and after
-    /// (`numeric_in`, without exponents).
+    /// (`numeric_in`).
     ///
     /// The faults are those of [`Decimal::parse`].
     pub fn parse(alloc: Global, text: &str) -> Result<Numeric, Fault>
@@ -159,11 +162,15 @@ impl Numeric {
 }
 
 impl Decimal {
-    /// Parses a sign, which may be absent, and decimal digits, one at least, of which those after a
-    /// point are the decimals, whose number is the scale (`numeric_in`, without exponents).
+    /// Parses a sign, which may be absent, decimal digits, one at least, with a point or without,
+    /// and an exponent or none (`numeric_in`). An exponent is `e` or `E`, a sign, which may be
+    /// absent, and decimal digits, one at least; it moves the point to the right, or to the left if
+    /// it is negative: `1.5e-3` is 0.0015, and `1.50e1` is 15.0. The scale is the number of digits
+    /// after the moved point.
     ///
-    /// Any other text is `User`, and so is a number of more than 131,072 digits before the point,
-    /// where zeros at its front do not count, or more than 16,383 after it.
+    /// Any other text is `User`, and so is a number of more than 131,072 digits before the moved
+    /// point, where zeros at its front do not count, or more than 16,383 after it. An exponent of
+    /// 1,073,741,823 or more is `User` also where the number is 0.
     pub fn parse(alloc: Global, text: &str) -> Result<Decimal, Fault>
         ensures { Answers (ParsesNumber text.now) result }
     {
@@ -259,7 +266,7 @@ fn is_word(text: &[u8], word: &[u8]) -> bool
 }
 
 /// Returns whether the text begins with `-`, and the text after the sign.
-fn split_sign(text: &[u8]) -> (bool, &[u8])
+pub(super) fn split_sign(text: &[u8]) -> (bool, &[u8])
     ensures sign { result.0 ≡ starts_with_minus text.now }
     ensures unsigned { result.1.now ≡ without_leading_sign text.now }
 {
@@ -270,18 +277,43 @@ fn split_sign(text: &[u8]) -> (bool, &[u8])
     }
 }
 
-/// Parses the digits, with a point or without.
+/// Parses digits, with a point or without, and an exponent after them or none.
 fn parse_number(alloc: Global, negative: bool, text: &[u8]) -> Result<Decimal, Fault>
     ensures { Answers (ReadsNumeral negative text.now) result }
 {
     let (integer, decimals) = split_point(text);
     if !is_numeral(integer, decimals) {
-        return Err(Fault::user("invalid numeric text"));
+        return parse_scaled(alloc, negative, text);
     }
     let integer = without_zeros(integer);
     if integer.len() > MAX_INTEGER || decimals.len() > usize::from(MAX_SCALE) {
-        return Err(Fault::user("value overflows numeric format"));
+        return Err(too_long());
     }
+    number_of(alloc, negative, integer, decimals)
+}
+
+/// The fault of a number that is too long.
+pub(super) fn too_long() -> Fault
+    ensures { refusal_of result ≡ Some too_long }
+{
+    Fault::user("value overflows numeric format")
+}
+
+/// The number of the decimal digits before the point and after it.
+pub(super) fn number_of(
+    alloc: Global,
+    negative: bool,
+    integer: &[u8],
+    decimals: &[u8],
+) -> Result<Decimal, Fault>
+    requires integer { list_all is_ascii_digit integer.now ≡ true }
+    requires decimals { list_all is_ascii_digit decimals.now ≡ true }
+    requires few { length integer.now ≤ max_integer }
+    requires short { length decimals.now ≤ max_scale }
+    ensures ok { IfOk result
+        (IsScaled negative (digits_value 10 (integer.now ++ decimals.now)) (length decimals.now)) }
+    ensures refused { IfErr result (λ fault. fault ≡ Memory) }
+{
     let digits = base_digits(alloc, integer, decimals)?;
     let weight = integer.len().div_ceil(4) as i32 - 1;
     let number = Decimal::from_parts(negative, weight as i16, decimals.len() as u16, digits);
@@ -299,7 +331,7 @@ fn point_of(text: &[u8]) -> usize
 }
 
 /// Returns the text before the point and the text after it.
-fn split_point(text: &[u8]) -> (&[u8], &[u8])
+pub(super) fn split_point(text: &[u8]) -> (&[u8], &[u8])
     ensures integer { result.0.now ≡ integer_of text.now }
     ensures decimals { result.1.now ≡ decimals_of text.now }
 {
@@ -310,14 +342,14 @@ fn split_point(text: &[u8]) -> (&[u8], &[u8])
 }
 
 /// Whether these are decimal digits, one at least.
-fn is_numeral(integer: &[u8], decimals: &[u8]) -> bool
+pub(super) fn is_numeral(integer: &[u8], decimals: &[u8]) -> bool
     ensures { result ≡ is_numeral integer.now decimals.now }
 {
     !(integer.is_empty() && decimals.is_empty()) && are_decimal(integer) && are_decimal(decimals)
 }
 
 /// Whether each byte is a decimal digit.
-fn are_decimal(text: &[u8]) -> bool
+pub(super) fn are_decimal(text: &[u8]) -> bool
     ensures { result ≡ list_all is_ascii_digit text.now }
 {
     text.iter().all(|byte| byte.is_ascii_digit())
@@ -332,7 +364,7 @@ fn leading_zeros(digits: &[u8]) -> usize
 }
 
 /// The digits without the zeros at their front.
-fn without_zeros(digits: &[u8]) -> &[u8]
+pub(super) fn without_zeros(digits: &[u8]) -> &[u8]
     ensures { result.now ≡ without_leading_zeros digits.now }
 {
     &digits[leading_zeros(digits)..]
@@ -405,7 +437,7 @@ fn group(a: u8, b: u8, c: u8, d: u8) -> u16
 
 /// The value of a decimal digit.
 #[tactic(auto, using(crate::proofs::ReadTexts::ascii_range))]
-fn value(digit: u8) -> u16
+pub(super) fn value(digit: u8) -> u16
     requires { is_ascii_digit digit ≡ true }
     ensures value { result ≡ digit_value digit }
     ensures small { result < 10 }

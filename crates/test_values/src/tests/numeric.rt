@@ -1,5 +1,6 @@
 //! NUMERIC. The cells are those of a server's `numeric_send`, and the damaged ones were sent to it by COPY.
 
+mod exponents;
 mod integers;
 
 use pg_numbers::types::{numeric_array_type, numeric_type};
