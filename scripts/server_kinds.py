@@ -208,3 +208,43 @@ PGCELL_BEYOND = [
     ("int4[]", "array_send(ARRAY[[1, 2], [3, 4]])", 8, DIMENSIONS),
     ("item", 'record_send(ROW(NULL, 1, 2)::"InventoryItem")', 2, "NULL in a field of a struct that is no Option"),
 ]
+INTEGERS = (" 1", "1 ", "\t-7 ", "+7", "007", "-0")
+OFFSETS = ("+02", "-03:30", "+0530", "Z", "z", " +02", " UTC", "UTC", "+05:30:15", "-15:59")
+CLOCKS = (" 10:00", " 10:00:59", " 10:00:59.5", "T10:00:59", "T1:2:3.000001", " 10:00:00.000000")
+# Texts that people's files have, and copy_write takes as the server does.
+FORMS = {
+    "bool": ("true", "false", "yes", "no", "on", "off", "1", "0", "y", "n", "TRUE", "False", " t ", "tr", "of", "fal", "T", "F"),
+    "int2": INTEGERS, "int4": INTEGERS, "int8": INTEGERS, "oid": (" 1", "2 ", "+7", "007"),
+    "int4[]": ("{1,NULL}", "{}", '{"1"," 2"}'),
+    "float4": (" 1.5", "1.5 ", "1E5", ".5", "5.", "+1", "nan", "inf", "-Infinity", "INFINITY"),
+    "float8": (" 1.5", "1.5 ", "1E5", ".5", "5.", "+1", "nan", "inf", "-Infinity", "INFINITY"),
+    "numeric": (" 1.50", "1.5 ", ".5", "5.", "+1", "nan", "inf", "-Infinity", "-0.0", "1e3", "1.5e-3", "-1.50E+1"),
+    "bytea": ("\\x", "\\xAb", "abc", "a\\\\b", "\\000\\377", "", "\\134"),
+    "inet": ("1.2.3.4", "1.2.3.4/24", "1.2.3.4/08", "::1/8", "FE80::1", "::ffff:1.2.3.4"),
+    "cidr": ("10.0.0.0/8", "10.0.0.0/08", "1.2.3.4", "fe80::/10"),
+    "macaddr": ("08:00:2b:01:02:03", "08:00:2B:01:02:03"),
+    "uuid": ("A0EEBC999C0B4EF8BB6D6BB9BD380A11", "{a0eebc99-9c0b-4ef8-bb6d-6bb9bd380a11}"),
+    "pg_lsn": ("a/b", "00000001/00000002"),
+    "date": ("1999-01-08", "1999-1-8", " 1999-01-08 ", "0044-03-15 BC", "infinity", " -infinity "),
+    "time": ("04:05:06.789", "04:05", "4:5:6", " 04:05:06 "),
+    "timestamp": ("2000-01-31", " 2000-01-31 10:00 ", "0044-03-15 BC", *(f"2000-01-31{it}" for it in CLOCKS), "0044-03-15 10:00 BC"),
+    "timestamptz": (*(f"2000-01-31{clock}{offset}" for clock in CLOCKS for offset in OFFSETS), "2000-01-31 10:00+02 BC"),
+    "interval": ("1 day", "-1 mons +2 days", "04:05:06", "1 year 2 mons 3 days 04:05:06.5"),
+}
+# Texts that the server alone takes (docs/DIFFERENCES.md).
+LEFT_OUT = {
+    "oid": ("-1",),
+    "float8": ("0x1p3", "nan(0x1)"), "numeric": ("1e 5",),
+    "bytea": ("\\x 00 01",),
+    "inet": ("10.1", "10/8"), "cidr": ("10", "10.1.2"),
+    "macaddr": ("08-00-2b-01-02-03", "08002b:010203", "0800.2b01.0203", "08002b010203", "8:0:2b:1:2:3", " 08:00:2b:01:02:03"),
+    "uuid": ("a0ee-bc99-9c0b-4ef8-bb6d-6bb9-bd38-0a11", "{a0eebc999c0b4ef8bb6d6bb9bd380a11}"),
+    "date": ("19990108", "January 8, 1999", "1999.008", "J2451187", "1/8/1999", "today", "epoch", "2000-01-31 10:00"),
+    "time": ("040506", "04:05:06 PM", "allballs", "04:05:06.7890005"),
+    "timestamp": ("20000131T100000", "2000-01-31 10:00 PM", "Jan 31 10:00 2000", "2000-01-31 10:00:00.1234567", "2000-01-31 10:00+02"),
+    "timestamptz": ("2000-01-31 10:00", "2000-01-31 10:00 PST", "2000-01-31 10:00 Europe/Berlin", "2000-01-31 10:00+2"),
+    "interval": ("1-2", "P1Y2M", "1 week", "1.5 days", "1 day ago", "@ 1 day", "1 hour"),
+    "int4[]": ("{ 1, 2 }", "{{1},{2}}", "[0:1]={1,2}"),
+    "varbit": ("b101", "x1f"),
+    "hstore": ("a=>1", "a=>b, c=>d"),
+}

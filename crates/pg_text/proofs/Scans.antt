@@ -2,7 +2,8 @@
 use Rattle.std.proofs.Common.{◌≡◌, ◌*◌, ℕ, ℤ, List, [], IfSome, None, Option, Some, subst, sym}
 use Rattle.std.specs.Prelude.{SomeIff}
 use Rattle.jiff.specs.Types.{Date, Time}
-use Rattle.pg_text.specs.Scans.{SaysDate, SaysTime, TakesClock, TakesDay, TakesEra, TakesTimestamp}
+use Rattle.pg_calendar.specs.Calendar.{day_number}
+use Rattle.pg_text.specs.Scans.{IsServerDay, SaysDate, SaysTime, TakesClock, TakesTimestamp, TakesWholeDay}
 
 -- what holds of the value of a checked operation
 pub some_value : {A : Type 0} (r : Option A) (P : Type 0) (v : A) (Q : A → Type 0) → SomeIff r P v → Q v → IfSome r Q
@@ -18,14 +19,16 @@ same_timestamp text y z m n d e h i p q s t f year month day hour minute second 
 
 -- a date of the same fields
 pub date_said : (text : List ℕ) (d : Date) (year : ℤ) (month day : ℕ) → d.year ≡ year → d.month ≡ month → d.day ≡ day
-    → (inside : ℤ) × (rest : List ℕ) × TakesDay text inside month day rest × TakesEra rest inside year
-    → SaysDate text d
-date_said text d year month day y m e read = (
-  read.0,
-  read.1,
-  subst {A = ℕ × ℕ} (λ v. TakesDay text read.0 v.0 v.1 read.1) (λ k. (sym m k, sym e k)) read.2,
-  subst (TakesEra read.1 read.0) (sym y) read.3,
-)
+    → IsServerDay (day_number year month day) → TakesWholeDay text year month day → SaysDate text d
+date_said text d year month day y m e within read =
+    subst {A = ℤ × ℕ × ℕ} (λ v. TakesWholeDay text v.0 v.1 v.2 × IsServerDay (day_number v.0 v.1 v.2))
+    (λ k. (sym y k, sym m k, sym e k)) (read, within)
+
+-- a timestamp of a day of the same fields
+pub same_day : (y z : ℤ) (m n d e : ℕ) → y ≡ z → m ≡ n → d ≡ e → IsServerDay (day_number y m d)
+    → IsServerDay (day_number z n e)
+same_day y z m n d e year month day within =
+    subst {A = ℤ × ℕ × ℕ} (λ v. IsServerDay (day_number v.0 v.1 v.2)) (λ k. (year k, month k, day k)) within
 
 -- a time of day of the same fields
 pub time_said : (text : List ℕ) (t : Time) (hour minute second micros : ℕ) → t.hour ≡ hour → t.minute ≡ minute

@@ -8,12 +8,14 @@ ghost use Rattle.std.specs.List.{list_any, All};
 ghost use Rattle.pg_base.specs.NumberTexts.{SaysSigned, SaysUnsigned};
 ghost use Rattle.pg_text.specs.Lists.{SaysArray, SaysValue, SaysVector, ShowsArray, ShowsElement, vector_text};
 ghost use Rattle.pg_text.specs.Quotes.{element_text, is_array_sign, is_null_word};
+ghost use Rattle.pg_text.specs.Spaces.{Plain, Trimmed};
 ghost use Rattle.pg_text.specs.Texts.{Shows};
 
 use crate::digits::push_number;
 use crate::items::{Items, between, said};
 use crate::quotes::{Escape, is_escaped, is_null_word, is_space, push_quoted};
 use crate::separators::push_separator;
+use crate::spaces::trimmed;
 use crate::{FromText, ToText, no_value};
 use itoa::Integer;
 use postgres_types::Fault;
@@ -137,18 +139,28 @@ fn push_vector<I: Integer>(numbers: &[I], out: &mut Vec<u8>) -> Result<(), Alloc
     Ok(())
 }
 
-/// Parses numbers with single spaces between them.
+/// Parses numbers with single spaces between them, and no other white space.
 fn parse_vector<T: FromText>(alloc: Global, text: &str) -> Result<Vec<T>, Fault>
-    ensures { IfOk result (λ v. SaysVector T.says text.now v.items) }
+    ensures { IfOk result (λ v. SaysVector (Plain T.says) text.now v.items) }
 {
     let mut numbers = Vec::new(alloc);
     if text.is_empty() {
         return Ok(numbers);
     }
     for number in text.split(' ') {
-        numbers.push(T::from_text(alloc, number)?)?;
+        numbers.push(parse_plain(alloc, number)?)?;
     }
     Ok(numbers)
+}
+
+/// Parses a number that has no white space around it.
+fn parse_plain<T: FromText>(alloc: Global, text: &str) -> Result<T, Fault>
+    ensures { IfOk result (Plain T.says text.now) }
+{
+    if trimmed(text) != text {
+        return Err(no_value());
+    }
+    T::from_text(alloc, text)
 }
 
 /// Writes the numbers with spaces between them (`int2vectorout`).
@@ -161,7 +173,7 @@ impl ToText for Vec<i16> {
 }
 
 impl FromText for Vec<i16> {
-    ghost says = { λ text v. SaysVector SaysSigned text v.items };
+    ghost says = { λ text v. SaysVector (Plain (Trimmed SaysSigned)) text v.items };
 
     fn from_text(alloc: Global, text: &str) -> Result<Vec<i16>, Fault> {
         parse_vector(alloc, text)
@@ -178,7 +190,7 @@ impl ToText for Vec<u32> {
 }
 
 impl FromText for Vec<u32> {
-    ghost says = { λ text v. SaysVector SaysUnsigned text v.items };
+    ghost says = { λ text v. SaysVector (Plain (Trimmed SaysUnsigned)) text v.items };
 
     fn from_text(alloc: Global, text: &str) -> Result<Vec<u32>, Fault> {
         parse_vector(alloc, text)

@@ -1,10 +1,12 @@
 //! The texts of byte strings.
-ghost use Rattle.std.specs.Prelude.{◌≡◌, ◌++◌, OnOk, ◌↔◌, ℕ, [], List, Vec};
+ghost use Rattle.std.specs.Prelude.{◌≡◌, ◌<◌, ◌++◌, IfSome, MatchResult, Ok, OnOk, ◌↔◌, ℕ, [], List, Vec, length, option_map};
 ghost use Rattle.std.specs.Global.{Global};
 ghost use Rattle.std.specs.Borrow.{Bor};
-ghost use Rattle.hex.specs.Hex.{encode_lower, IsBytes};
-ghost use Rattle.pg_text.specs.Texts.{SaysAny, SaysBytes, Shows, bytes_text};
+ghost use Rattle.hex.specs.Hex.{decode_of, encode_lower, IsBytes};
+ghost use Rattle.pg_types.specs.declared.fault.Fault.TheVariants.{Memory};
+ghost use Rattle.pg_text.specs.Texts.{SaysAny, SaysBytes, SaysEscaped, Shows, bytes_text, escaped_byte};
 
+use crate::numbers::octal;
 use crate::{FromText, ToText, no_value};
 use hex::FromHexError;
 use postgres_types::Fault;
@@ -35,7 +37,9 @@ pub fn push_hex(bytes: &[u8], out: &mut Vec<u8>) -> Result<(), AllocError>
     }
 }
 
-/// Parses `\x` and two hexadecimal digits of either case for each byte.
+/// Parses `\x` and two hexadecimal digits of either case for each byte, or the escape format, in
+/// which a backslash stands before a backslash and before the three octal digits of a byte
+/// (`byteain`).
 impl FromText for Vec<u8> {
     ghost says = { λ text v. SaysBytes text v.items };
 
@@ -43,13 +47,51 @@ impl FromText for Vec<u8> {
 
     fn from_text(alloc: Global, text: &str) -> Result<Vec<u8>, Fault> {
         let Some(digits) = text.strip_prefix("\\x") else {
+            return unescape(alloc, text);
+        };
+        decode(alloc, digits)
+    }
+}
+
+/// Parses two hexadecimal digits for each byte.
+fn decode(alloc: Global, digits: &str) -> Result<Vec<u8>, Fault>
+    ensures { MatchResult result (λ bytes. decode_of digits.now ≡ Ok bytes.items)
+        (λ fault. SaysAny (λ text bytes. decode_of text ≡ Ok bytes) digits.now → fault ≡ Memory) }
+{
+    match hex::decode(alloc, digits) {
+        Ok(bytes) => Ok(bytes),
+        Err(FromHexError::OutOfMemory) => Err(Fault::Memory),
+        Err(_) => Err(no_value()),
+    }
+}
+
+/// Parses the escape format.
+fn unescape(alloc: Global, text: &str) -> Result<Vec<u8>, Fault>
+    ensures { MatchResult result (λ bytes. SaysEscaped text.now bytes.items)
+        (λ fault. SaysAny SaysEscaped text.now → fault ≡ Memory) }
+{
+    let mut bytes = Vec::new(alloc);
+    let mut rest = text.as_bytes();
+    while !rest.is_empty() {
+        let Some((byte, after)) = escaped_byte(rest) else {
             return Err(no_value());
         };
-        match hex::decode(alloc, digits) {
-            Ok(bytes) => Ok(bytes),
-            Err(FromHexError::OutOfMemory) => Err(Fault::Memory),
-            Err(_) => Err(no_value()),
-        }
+        bytes.push(byte)?;
+        rest = after;
+    }
+    Ok(bytes)
+}
+
+/// Returns the first byte of the escape format and what follows it; `None` if there is none.
+fn escaped_byte(text: &[u8]) -> Option<(u8, &[u8])>
+    ensures byte { option_map (λ byte. (byte.0, byte.1.now)) result ≡ escaped_byte text.now }
+    ensures shorter { IfSome result (λ byte. length byte.1.now < length text.now) }
+{
+    match text {
+        [b'\\', b'\\', rest @ ..] => Some((b'\\', rest)),
+        [b'\\', a, b, c, rest @ ..] => Some((octal(*a, *b, *c)?, rest)),
+        [b'\\', ..] | [] => None,
+        [byte, rest @ ..] => Some((*byte, rest)),
     }
 }
 

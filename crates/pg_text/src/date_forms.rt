@@ -1,8 +1,9 @@
 //! The parts of the texts of dates, times of day and timestamps.
-ghost use Rattle.std.specs.Prelude.{◌≡◌, ◌<◌, ◌++◌, ◌∷◌, [], ℕ, ℤ, List, IfSome, OnOk, pos};
+ghost use Rattle.std.specs.Prelude.{◌≡◌, ◌<◌, ◌⊎◌, ◌++◌, ◌∷◌, [], IfSome, MatchBool, OnOk, pos};
 ghost use Rattle.std.specs.Prelude.{◌+ℤ◌, ◌*ℤ◌, if◌then◌else◌};
-ghost use Rattle.pg_text.specs.Scans.{TakesClock, TakesDateTime, TakesDay, TakesEra, TakesOffset};
-ghost use Rattle.pg_text.specs.Scans.{SaysMicros, SaysUtcMicros, TakesSixtieths, TakesTimestamp};
+ghost use Rattle.pg_text.specs.Scans.{SaysMicros, SaysUtcMicros, TakesClock, TakesDateTime, TakesDay, TakesEra};
+ghost use Rattle.pg_text.specs.Scans.{TakesLaterClock, TakesMinutes, TakesOffset, TakesSeconds, TakesSigned, TakesSixtieths, TakesTime};
+ghost use Rattle.pg_text.specs.Scans.{TakesTimestamp, TakesUtc, TakesWholeDay};
 ghost use Rattle.pg_calendar.specs.Texts.{clock_text, day_text, era_text, seconds_text, timestamp_text, year_of_era};
 
 use crate::digits::{push_fraction, push_padded};
@@ -172,7 +173,19 @@ fn take_era(year: i64, scanner: &mut Scanner<'_>) -> Option<i64>
     if scanner.is_done() { Some(year) } else { None }
 }
 
-/// Takes a time of day.
+/// Takes a colon, the seconds and their fraction, and returns the seconds and the microseconds;
+/// both are 0 if there is no colon.
+fn take_seconds(scanner: &mut Scanner<'_>) -> Option<(u32, u32)>
+    ensures { IfSome result (λ s. TakesSeconds scanner.old.rest.now s.0 s.1 scanner.new.rest.now) }
+{
+    if !scanner.take(b":") {
+        return Some((0, 0));
+    }
+    let second = scanner.number_u32()?;
+    Some((second, scanner.fraction()?))
+}
+
+/// Takes a time of day, with seconds or without.
 fn take_clock(scanner: &mut Scanner<'_>) -> Option<Clock>
     ensures { IfSome result (λ c. TakesClock scanner.old.rest.now c.hour c.minute c.second c.micros
         scanner.new.rest.now) }
@@ -180,9 +193,7 @@ fn take_clock(scanner: &mut Scanner<'_>) -> Option<Clock>
     let hour = scanner.number_u32()?;
     scanner.expect(b":")?;
     let minute = scanner.number_u32()?;
-    scanner.expect(b":")?;
-    let second = scanner.number_u32()?;
-    let micros = scanner.fraction()?;
+    let (second, micros) = take_seconds(scanner)?;
     Some(Clock {
         hour,
         minute,
@@ -232,7 +243,42 @@ fn take_short_datetime(scanner: &mut Scanner<'_>) -> Option<DateTime>
     Some(DateTime { date, clock })
 }
 
-/// Takes a date and a time of day.
+/// Takes a space or `T`; `None` if neither is there.
+fn take_separator(scanner: &mut Scanner<'_>) -> Option<()>
+    ensures { IfSome result (λ _. (scanner.old.rest.now ≡ 32 ∷ scanner.new.rest.now)
+        ⊎ (scanner.old.rest.now ≡ 84 ∷ scanner.new.rest.now)) }
+{
+    if scanner.take(b" ") {
+        return Some(());
+    }
+    scanner.expect(b"T")
+}
+
+/// Takes a space or `T`, and a time of day.
+fn take_later_clock(scanner: &mut Scanner<'_>) -> Option<Clock>
+    ensures { IfSome result (λ c. TakesLaterClock scanner.old.rest.now c.hour c.minute c.second c.micros
+        scanner.new.rest.now) }
+{
+    take_separator(scanner)?;
+    take_clock(scanner)
+}
+
+/// Takes a space or `T`, and a time of day; takes nothing if they are not there, which is midnight.
+fn take_time(scanner: &mut Scanner<'_>) -> Clock
+    ensures { TakesTime scanner.old.rest.now result.hour result.minute result.second result.micros
+        scanner.new.rest.now }
+{
+    let mut rest = *scanner;
+    match take_later_clock(&mut rest) {
+        Some(clock) => {
+            *scanner = rest;
+            clock
+        }
+        None => Clock::new(0, 0),
+    }
+}
+
+/// Takes a date and a time of day, if there is one.
 #[inline(always)]
 fn take_datetime(scanner: &mut Scanner<'_>) -> Option<DateTime>
     ensures { IfSome result (λ dt. TakesDateTime scanner.old.rest.now dt.date.year dt.date.month dt.date.day
@@ -244,15 +290,13 @@ fn take_datetime(scanner: &mut Scanner<'_>) -> Option<DateTime>
         return Some(datetime);
     }
     let date = take_date(scanner)?;
-    scanner.expect(b" ")?;
-    let clock = take_clock(scanner)?;
+    let clock = take_time(scanner);
     Some(DateTime { date, clock })
 }
 
 /// Parses a date; `None` if the text is not one.
 pub fn parse_date(text: &str) -> Option<Civil>
-    ensures { IfSome result (λ d. (inside : ℤ) × (rest : List ℕ) × TakesDay text.now inside d.month d.day rest
-        × TakesEra rest inside d.year) }
+    ensures { IfSome result (λ d. TakesWholeDay text.now d.year d.month d.day) }
 {
     let mut scanner = Scanner::new(text);
     let date = take_date(&mut scanner)?;
@@ -322,24 +366,69 @@ fn take_sign(scanner: &mut Scanner<'_>) -> Option<bool>
     Some(true)
 }
 
-/// Takes an offset from UTC, such as `+05:30`, `-03` or `Z`, and returns its seconds, which are
-/// positive east of Greenwich.
+/// Takes the minutes and seconds after the hours of an offset, if there are any: with colons before
+/// them, or two digits of minutes without one.
 #[inline(always)]
-fn take_offset(scanner: &mut Scanner<'_>) -> Option<i32>
-    ensures { IfSome result (λ seconds. TakesOffset scanner.old.rest.now seconds scanner.new.rest.now) }
+fn take_minutes(scanner: &mut Scanner<'_>) -> Option<(u32, u32)>
+    ensures taken { IfSome result (λ m. TakesMinutes scanner.old.rest.now m.0 m.1 scanner.new.rest.now) }
+    ensures bound { IfSome result (λ m. (m.0 < 60) × (m.1 < 60)) }
 {
-    if scanner.take(b"Z") {
-        return Some(0);
+    let mut rest = *scanner;
+    if let Some(minutes) = rest.pair() {
+        *scanner = rest;
+        return if minutes < 60 {
+            Some((minutes, 0))
+        } else {
+            None
+        };
     }
+    let minutes = take_sixtieths(scanner)?;
+    Some((minutes, take_sixtieths(scanner)?))
+}
+
+/// Takes a sign, the hours and the minutes and seconds of an offset, and returns its seconds.
+#[inline(always)]
+fn take_signed(scanner: &mut Scanner<'_>) -> Option<i32>
+    ensures { IfSome result (λ seconds. TakesSigned scanner.old.rest.now seconds scanner.new.rest.now) }
+{
     let is_minus = take_sign(scanner)?;
     let hours = scanner.pair()?;
     if hours > 15 {
         return None;
     }
-    let minutes = take_sixtieths(scanner)?;
-    let seconds = take_sixtieths(scanner)?;
+    let (minutes, seconds) = take_minutes(scanner)?;
     let offset = (hours * 3_600 + minutes * 60 + seconds) as i32;
     Some(if is_minus { -offset } else { offset })
+}
+
+/// Takes `Z`, `z` or `UTC`, and returns whether it is there.
+#[inline(always)]
+fn take_utc(scanner: &mut Scanner<'_>) -> bool
+    ensures { MatchBool result (TakesUtc scanner.old.rest.now scanner.new.rest.now)
+        (scanner.new.rest.now ≡ scanner.old.rest.now) }
+{
+    scanner.take(b"Z") || scanner.take(b"z") || scanner.take(b"UTC")
+}
+
+/// Takes an offset from UTC, such as `+05:30`, `-03` or `Z`, with a space before it or none, and
+/// returns its seconds, which are positive east of Greenwich.
+#[inline(always)]
+fn take_offset(scanner: &mut Scanner<'_>) -> Option<i32>
+    ensures { IfSome result (λ seconds. TakesOffset scanner.old.rest.now seconds scanner.new.rest.now) }
+{
+    skip_space(scanner);
+    if take_utc(scanner) {
+        return Some(0);
+    }
+    take_signed(scanner)
+}
+
+/// Takes a space, if there is one.
+#[inline(always)]
+fn skip_space(scanner: &mut Scanner<'_>)
+    ensures { (scanner.old.rest.now ≡ scanner.new.rest.now) ⊎ (scanner.old.rest.now ≡ 32 ∷ scanner.new.rest.now) }
+{
+    let _ = scanner.take(b" ");
 }
 
 /// Parses a date and a time of day with an offset from UTC, and returns the microseconds from

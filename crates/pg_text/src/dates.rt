@@ -1,8 +1,10 @@
 //! The texts of dates, times of day and timestamps, of `jiff` and of this library, which may be
 //! infinite.
-ghost use Rattle.std.specs.Prelude.{◌≡◌, ◌*◌, ◌/◌, [], IfSome};
+ghost use Rattle.std.specs.Prelude.{◌≡◌, ◌*◌, ◌/◌, [], IfSome, IsTrue};
 ghost use Rattle.postgres_types.specs.Special.{date_view, timestamp_view};
-ghost use Rattle.pg_text.specs.Scans.{SaysDate, SaysDateTime, SaysInstant, SaysTime, SaysTimestamp};
+ghost use Rattle.pg_calendar.specs.Calendar.{day_number};
+ghost use Rattle.pg_text.specs.Spaces.{Trimmed, trimmed};
+ghost use Rattle.pg_text.specs.Scans.{IsServerDay, SaysDate, SaysDateTime, SaysInstant, SaysTime, SaysTimestamp};
 ghost use Rattle.pg_text.specs.Specials.{ParsesSpecial, SaysSpecial, ShowsSpecial};
 ghost use Rattle.pg_text.specs.Texts.{Shows};
 ghost use Rattle.pg_base.specs.DateTexts.{civil_date_text, civil_datetime_text, civil_time_text};
@@ -12,6 +14,7 @@ use crate::date_forms::{
     parse_clock, parse_date, parse_datetime, parse_instant, parse_micros, push_clock, push_date,
     push_datetime, push_era,
 };
+use crate::spaces::trimmed;
 use crate::{FromText, ToText, no_value};
 use jiff::civil;
 use pg_base::calendar::{clock_of, datetime_of, day_of};
@@ -25,10 +28,36 @@ const POSTGRES_EPOCH_DAY: i64 = 10_957;
 /// The zone with which a timestamp with time zone is written.
 const UTC: &[u8] = b"+00";
 
-/// Returns the date as a date of `jiff`, or `None` if it has no such date.
-fn jiff_date(date: Civil) -> Option<civil::Date>
-    ensures { IfSome result (λ d. (d.year ≡ date.year) × (d.month ≡ date.month) × (d.day ≡ date.day)) }
+/// 4714-11-24 BC, with which the server's calendar begins, in days from 1970-01-01.
+const FIRST_DAY: i64 = -2_440_588;
+
+/// That day in microseconds from 1970-01-01.
+const FIRST_MICROS: i64 = -210_866_803_200_000_000;
+
+/// That day in microseconds from 2000-01-01.
+const FIRST_POSTGRES_MICROS: i64 = -211_813_488_000_000_000;
+
+/// 294277-01-01, before which the server's timestamps are, in microseconds from 2000-01-01.
+const END_MICROS: i64 = 9_223_371_331_200_000_000;
+
+/// Whether the server's calendar has this day.
+fn is_server_day(date: Civil) -> bool
+    ensures { IsTrue result → IsServerDay (day_number date.year date.month date.day) }
 {
+    match date.to_day() {
+        Some(day) => day >= FIRST_DAY,
+        None => false,
+    }
+}
+
+/// Returns the date as a date of `jiff`, or `None` if it has no such date or the server has none.
+fn jiff_date(date: Civil) -> Option<civil::Date>
+    ensures { IfSome result (λ d. (d.year ≡ date.year) × (d.month ≡ date.month) × (d.day ≡ date.day)
+        × IsServerDay (day_number date.year date.month date.day)) }
+{
+    if !is_server_day(date) {
+        return None;
+    }
     let year = i16::try_from(date.year).ok()?;
     let month = i8::try_from(date.month).ok()?;
     let day = i8::try_from(date.day).ok()?;
@@ -65,7 +94,7 @@ fn parse_civil_date(text: &str) -> Option<civil::Date>
     jiff_date(parse_date(text)?)
 }
 
-/// Parses a date in which the month and the day may have one digit.
+/// Parses a date, from 4714-11-24 BC on, in which the month and the day may have one digit.
 impl FromText for civil::Date {
     ghost says = { SaysDate };
 
@@ -90,12 +119,13 @@ fn parse_civil_time(text: &str) -> Option<civil::Time>
     jiff_time(parse_clock(text)?)
 }
 
-/// Parses a time of day in which the numbers may have one digit.
+/// Parses a time of day in which the numbers may have one digit, and which may have no seconds
+/// (`time_in`); white space may stand around it.
 impl FromText for civil::Time {
-    ghost says = { SaysTime };
+    ghost says = { Trimmed SaysTime };
 
     fn from_text(_alloc: Global, text: &str) -> Result<civil::Time, Fault> {
-        parse_civil_time(text).ok_or_else(no_value)
+        parse_civil_time(trimmed(text)).ok_or_else(no_value)
     }
 }
 
@@ -122,7 +152,7 @@ fn parse_civil(text: &str) -> Option<civil::DateTime>
     Some(date.to_datetime(time))
 }
 
-/// Parses a timestamp in which all numbers but the year may have one digit.
+/// Parses a date, as above, and a time of day, which may be absent, after a space or `T`.
 impl FromText for civil::DateTime {
     ghost says = { SaysDateTime };
 
@@ -145,11 +175,13 @@ fn parse_timestamp(text: &str) -> Option<jiff::Timestamp>
     ensures { IfSome result (SaysInstant text.now) }
 {
     let micros = parse_instant(text)?;
+    if micros < FIRST_MICROS {
+        return None;
+    }
     jiff::Timestamp::from_microsecond(micros).ok()
 }
 
-/// Parses a timestamp with an offset from UTC, such as `+00`, `+05:30` or `Z`, in which all numbers
-/// but the year, and those of the offset, may have one digit.
+/// Parses a timestamp with an offset from UTC, such as `+00`, `-0330`, `+05:30`, `Z` or ` UTC`.
 impl FromText for jiff::Timestamp {
     ghost says = { SaysInstant };
 
@@ -172,10 +204,13 @@ fn parse_unix_time(text: &str) -> Option<UnixTime>
     ensures { IfSome result (SaysTimestamp text.now) }
 {
     let micros = parse_micros(text, POSTGRES_EPOCH_DAY)?;
+    if micros < FIRST_POSTGRES_MICROS || micros >= END_MICROS {
+        return None;
+    }
     Some(UnixTime::from_postgres_micros(micros))
 }
 
-/// Parses a timestamp in which all numbers but the year may have one digit.
+/// Parses a timestamp of the server's years as above, that of a `civil::DateTime`.
 impl FromText for UnixTime {
     ghost says = { SaysTimestamp };
 
@@ -197,12 +232,14 @@ impl<T: ToText> ToText for Date<T> {
     }
 }
 
+/// Parses `infinity`, `-infinity` or a date (`date_in`); white space may stand around them.
 impl<T: FromText> FromText for Date<T> {
-    ghost says = { λ text v. SaysSpecial T.says text (date_view v) };
+    ghost says = { λ text v. SaysSpecial T.says (trimmed text) (date_view v) };
 
-    ghost parses = { ParsesSpecial T.parses };
+    ghost parses = { λ text. ParsesSpecial T.parses (trimmed text) };
 
     fn from_text(alloc: Global, text: &str) -> Result<Date<T>, Fault> {
+        let text = trimmed(text);
         match text {
             "infinity" => Ok(Date::PosInfinity),
             "-infinity" => Ok(Date::NegInfinity),
@@ -226,14 +263,17 @@ impl<T: ToText> ToText for Timestamp<T> {
     }
 }
 
+/// Parses `infinity`, `-infinity` or a timestamp (`timestamp_in`); white space may stand around
+/// them.
 impl<T: FromText> FromText for Timestamp<T> {
-    ghost says = { λ text v. SaysSpecial T.says text (timestamp_view v) };
+    ghost says = { λ text v. SaysSpecial T.says (trimmed text) (timestamp_view v) };
 
-    ghost parses = { ParsesSpecial T.parses };
+    ghost parses = { λ text. ParsesSpecial T.parses (trimmed text) };
 
     // A call would return a `Result` with a fault through memory.
     #[inline(always)]
     fn from_text(alloc: Global, text: &str) -> Result<Timestamp<T>, Fault> {
+        let text = trimmed(text);
         match text {
             "infinity" => Ok(Timestamp::PosInfinity),
             "-infinity" => Ok(Timestamp::NegInfinity),

@@ -5,6 +5,7 @@ ghost use Rattle.pg_text.specs.Floats.{SaysFloat, ShowsFloat};
 ghost use Rattle.pg_text.specs.ReadBack.{IsReadBack};
 ghost use Rattle.pg_text.specs.Texts.{SaysAny};
 
+use crate::spaces::trimmed;
 use crate::{FromText, ToText, no_value};
 use pg_numbers::{Float4, Float8};
 use postgres_types::Fault;
@@ -19,14 +20,17 @@ impl ToText for Float4 {
     }
 }
 
-/// Parses the texts that `Float4::from_str` does (`float4in`).
+/// Parses the texts that `Float4::from_str` does (`float4in`); white space may stand around them.
 impl FromText for Float4 {
     ghost says = { SaysFloat binary32 };
 
     ghost parses = { SaysAny (SaysFloat binary32) };
 
     fn from_text(_alloc: Global, text: &str) -> Result<Float4, Fault> {
-        text.parse::<Float4>().map_err(|_| no_value())
+        match text.parse::<Float4>() {
+            Ok(value) => Ok(value),
+            Err(_) => trimmed(text).parse::<Float4>().map_err(|_| no_value()),
+        }
     }
 }
 
@@ -39,14 +43,17 @@ impl ToText for Float8 {
     }
 }
 
-/// Parses the texts that `Float8::from_str` does (`float8in`).
+/// Parses the texts that `Float8::from_str` does (`float8in`); white space may stand around them.
 impl FromText for Float8 {
     ghost says = { SaysFloat binary64 };
 
     ghost parses = { SaysAny (SaysFloat binary64) };
 
     fn from_text(_alloc: Global, text: &str) -> Result<Float8, Fault> {
-        text.parse::<Float8>().map_err(|_| no_value())
+        match text.parse::<Float8>() {
+            Ok(value) => Ok(value),
+            Err(_) => trimmed(text).parse::<Float8>().map_err(|_| no_value()),
+        }
     }
 }
 

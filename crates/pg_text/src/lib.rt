@@ -28,6 +28,7 @@ mod scanner;
 pub mod separators;
 mod shown;
 pub mod small;
+mod spaces;
 pub mod texts;
 
 use postgres_types::Fault;

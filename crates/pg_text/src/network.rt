@@ -2,9 +2,10 @@
 ghost use Rattle.std.specs.Prelude.{◌≡◌, length};
 ghost use Rattle.std.specs.Net.Grammar.{IsIpText};
 ghost use Rattle.hex.specs.Hex.{IsBytes};
-ghost use Rattle.pg_base.specs.NetworkTexts.{SaysMacaddr, SaysNetwork, address_text, cidr_text, inet_text};
+ghost use Rattle.pg_base.specs.NetworkTexts.{SaysMacaddr, address_text, cidr_text, inet_text};
 ghost use Rattle.pg_base.specs.NetworkTexts.{macaddr_text};
 ghost use Rattle.pg_base.specs.Network.{NetmaskFits, NoHostBits};
+ghost use Rattle.pg_text.specs.Network.{SaysAddress, has_plain_length, is_plain_length};
 ghost use Rattle.pg_text.specs.ReadBack.{IsReadBack};
 ghost use Rattle.pg_text.specs.Texts.{SaysAny, Shows};
 
@@ -26,14 +27,40 @@ impl ToText for IpInet {
 }
 
 /// Parses an address, in each of the forms of the standard library, and `/` and the length of the
-/// netmask, if any.
+/// netmask, if any. As in the server, the length has no sign and, after an IPv6 address, no zero
+/// before other digits (`inet_in`).
 impl FromText for IpInet {
-    ghost says = { SaysNetwork };
+    ghost says = { SaysAddress };
 
-    ghost parses = { SaysAny (λ text n. SaysNetwork text n × NetmaskFits n) };
+    ghost parses = { SaysAny (λ text n. SaysAddress text n × NetmaskFits n) };
 
     fn from_text(_alloc: Global, text: &str) -> Result<IpInet, Fault> {
+        if !has_plain_length(text) {
+            return Err(no_value());
+        }
         text.parse()
+    }
+}
+
+/// Whether the length of the netmask, if any, has neither a sign nor, after an IPv6 address, a zero
+/// before other digits.
+fn has_plain_length(text: &str) -> bool
+    ensures { result ≡ has_plain_length text.now }
+{
+    match text.split_once('/') {
+        Some((_, len)) => is_plain_length(text.as_bytes().contains(&b':'), len),
+        None => true,
+    }
+}
+
+/// Whether the length has neither a sign nor, for IPv6, a zero before other digits.
+fn is_plain_length(is_ipv6: bool, len: &str) -> bool
+    ensures { result ≡ is_plain_length is_ipv6 len.now }
+{
+    match len.as_bytes() {
+        [b'+', ..] => false,
+        [b'0', _, ..] => !is_ipv6,
+        _ => true,
     }
 }
 
@@ -69,13 +96,17 @@ impl ToText for IpCidr {
     }
 }
 
-/// Parses a network as an [`IpInet`]; no bit of the address after the netmask may be 1.
+/// Parses a network as an [`IpInet`]; no bit of the address after the netmask may be 1
+/// (`cidr_in`).
 impl FromText for IpCidr {
-    ghost says = { SaysNetwork };
+    ghost says = { SaysAddress };
 
-    ghost parses = { SaysAny (λ text n. SaysNetwork text n × NetmaskFits n × NoHostBits n) };
+    ghost parses = { SaysAny (λ text n. SaysAddress text n × NetmaskFits n × NoHostBits n) };
 
     fn from_text(_alloc: Global, text: &str) -> Result<IpCidr, Fault> {
+        if !has_plain_length(text) {
+            return Err(no_value());
+        }
         text.parse()
     }
 }

@@ -1,12 +1,15 @@
 //! The texts of integers, booleans and `"char"`.
-ghost use Rattle.std.specs.Prelude.{decimal, Bool, FitsSigned, ◌≡◌, ◌<◌, ◌^◌, ℕ};
+ghost use Rattle.std.specs.Prelude.{decimal, Bool, FitsSigned, IsTrue, ◌↔◌, ◌≡◌, ◌<◌, ◌^◌, ℕ, false, true};
 ghost use Rattle.std.specs.Int.{w16, w32, w64, w8};
 ghost use Rattle.std.specs.Fmt.{signed_decimal};
 ghost use Rattle.pg_base.specs.NumberTexts.{SaysSigned, SaysUnsigned};
 ghost use Rattle.pg_text.specs.ReadBack.{IsReadBack};
-ghost use Rattle.pg_text.specs.Texts.{SaysAny, SaysBool, SaysChar, Shows, bool_text, char_text, octal_of};
+ghost use Rattle.pg_text.specs.Spaces.{Trimmed};
+ghost use Rattle.pg_text.specs.Texts.{IsPrefix, SaysAny, SaysBool, SaysChar, Shows, bool_text, char_text};
+ghost use Rattle.pg_text.specs.Texts.{octal_of};
 
 use crate::digits::push_number;
+use crate::spaces::trimmed;
 use crate::{FromText, ToText, no_value};
 use postgres_types::Fault;
 use std::alloc::{AllocError, Global};
@@ -20,18 +23,53 @@ impl ToText for bool {
     }
 }
 
-/// Parses `t`, `f`, `true` or `false`.
+/// Parses `true`, `yes`, `on`, `1`, `false`, `no`, `off` and `0`, in either case, or their first
+/// letters, of which `on` and `off` need two (`boolin`); white space may stand around them.
 impl FromText for bool {
-    ghost says = { SaysBool };
+    ghost says = { Trimmed SaysBool };
 
-    ghost parses = { SaysAny SaysBool };
+    ghost parses = { SaysAny (Trimmed SaysBool) };
 
     fn from_text(_alloc: Global, text: &str) -> Result<bool, Fault> {
-        match text {
-            "t" | "true" => Ok(true),
-            "f" | "false" => Ok(false),
-            _ => Err(no_value()),
+        let text = trimmed(text);
+        if is_true(text) {
+            Ok(true)
+        } else if is_false(text) {
+            Ok(false)
+        } else {
+            Err(no_value())
         }
+    }
+}
+
+/// Whether the text is a word for true.
+fn is_true(text: &str) -> bool
+    ensures { IsTrue result ↔ SaysBool text.now true }
+{
+    is_prefix(text, 1, "true")
+        || is_prefix(text, 1, "yes")
+        || is_prefix(text, 2, "on")
+        || is_prefix(text, 1, "1")
+}
+
+/// Whether the text is a word for false.
+fn is_false(text: &str) -> bool
+    ensures { IsTrue result ↔ SaysBool text.now false }
+{
+    is_prefix(text, 1, "false")
+        || is_prefix(text, 1, "no")
+        || is_prefix(text, 2, "off")
+        || is_prefix(text, 1, "0")
+}
+
+/// Whether the text has the first letters of the word, in either case, and at least so many.
+fn is_prefix(text: &str, least: usize, word: &str) -> bool
+    ensures { IsTrue result ↔ IsPrefix least word.now text.now }
+{
+    let letters = text.as_bytes();
+    match word.as_bytes().get(..letters.len()) {
+        Some(front) => letters.len() >= least && letters.eq_ignore_ascii_case(front),
+        None => false,
     }
 }
 
@@ -75,7 +113,7 @@ impl FromText for i8 {
 }
 
 /// Returns the byte of three octal digits, or `None` if they are not one.
-fn octal(high: u8, middle: u8, low: u8) -> Option<u8>
+pub fn octal(high: u8, middle: u8, low: u8) -> Option<u8>
     ensures { result ≡ octal_of high middle low }
 {
     match (high, middle, low) {
@@ -95,14 +133,14 @@ impl ToText for i16 {
     }
 }
 
-/// Parses decimal digits, after a sign, if any.
+/// Parses decimal digits, after a sign, if any; white space may stand around them.
 impl FromText for i16 {
-    ghost says = { SaysSigned };
+    ghost says = { Trimmed SaysSigned };
 
-    ghost parses = { SaysAny (λ text v. SaysSigned text v × FitsSigned w16 v) };
+    ghost parses = { SaysAny (Trimmed (λ text v. SaysSigned text v × FitsSigned w16 v)) };
 
     fn from_text(_alloc: Global, text: &str) -> Result<i16, Fault> {
-        text.parse().map_err(|_| no_value())
+        trimmed(text).parse().map_err(|_| no_value())
     }
 }
 
@@ -115,14 +153,14 @@ impl ToText for i32 {
     }
 }
 
-/// Parses decimal digits, after a sign, if any.
+/// Parses decimal digits, after a sign, if any; white space may stand around them.
 impl FromText for i32 {
-    ghost says = { SaysSigned };
+    ghost says = { Trimmed SaysSigned };
 
-    ghost parses = { SaysAny (λ text v. SaysSigned text v × FitsSigned w32 v) };
+    ghost parses = { SaysAny (Trimmed (λ text v. SaysSigned text v × FitsSigned w32 v)) };
 
     fn from_text(_alloc: Global, text: &str) -> Result<i32, Fault> {
-        text.parse().map_err(|_| no_value())
+        trimmed(text).parse().map_err(|_| no_value())
     }
 }
 
@@ -135,14 +173,14 @@ impl ToText for i64 {
     }
 }
 
-/// Parses decimal digits, after a sign, if any.
+/// Parses decimal digits, after a sign, if any; white space may stand around them.
 impl FromText for i64 {
-    ghost says = { SaysSigned };
+    ghost says = { Trimmed SaysSigned };
 
-    ghost parses = { SaysAny (λ text v. SaysSigned text v × FitsSigned w64 v) };
+    ghost parses = { SaysAny (Trimmed (λ text v. SaysSigned text v × FitsSigned w64 v)) };
 
     fn from_text(_alloc: Global, text: &str) -> Result<i64, Fault> {
-        text.parse().map_err(|_| no_value())
+        trimmed(text).parse().map_err(|_| no_value())
     }
 }
 
@@ -155,14 +193,14 @@ impl ToText for u32 {
     }
 }
 
-/// Parses decimal digits, after a plus sign, if any.
+/// Parses decimal digits, after a plus sign, if any; white space may stand around them.
 impl FromText for u32 {
-    ghost says = { SaysUnsigned };
+    ghost says = { Trimmed SaysUnsigned };
 
-    ghost parses = { SaysAny (λ text n. SaysUnsigned text n × (n < 2 ^ 32)) };
+    ghost parses = { SaysAny (Trimmed (λ text n. SaysUnsigned text n × (n < 2 ^ 32))) };
 
     fn from_text(_alloc: Global, text: &str) -> Result<u32, Fault> {
-        text.parse().map_err(|_| no_value())
+        trimmed(text).parse().map_err(|_| no_value())
     }
 }
 

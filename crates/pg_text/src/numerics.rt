@@ -24,7 +24,7 @@ impl ToText for Numeric {
     }
 }
 
-/// Parses the texts that [`Numeric::parse`] does (`numeric_in`, without exponents).
+/// Parses the texts that [`Numeric::parse`] does (`numeric_in`).
 impl FromText for Numeric {
     ghost says = { SaysNumeric };
 

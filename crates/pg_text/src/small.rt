@@ -1,9 +1,10 @@
 //! The texts of UUIDs and log sequence numbers.
-ghost use Rattle.std.specs.Prelude.{◌≡◌, Some, ◌<◌, ◌^◌, ℕ, length};
+ghost use Rattle.std.specs.Prelude.{◌≡◌, ◌<◌, ◌^◌, ℕ, length};
 ghost use Rattle.std.specs.List.{All};
-ghost use Rattle.uuid.specs.Text.{hyphenated_text, lower, parsed};
-ghost use Rattle.postgres_types.specs.Lsn.{lsn_of, lsn_text};
+ghost use Rattle.uuid.specs.Text.{hyphenated_text, lower};
+ghost use Rattle.postgres_types.specs.Lsn.{lsn_text};
 ghost use Rattle.pg_text.specs.ReadBack.{IsReadBack};
+ghost use Rattle.pg_text.specs.Small.{SaysLsn, SaysUuid, is_half};
 ghost use Rattle.pg_text.specs.Texts.{SaysAny, Shows};
 
 use crate::digits::push_upper_hex;
@@ -11,6 +12,9 @@ use crate::{FromText, ToText, no_value};
 use postgres_types::{Fault, PgLsn};
 use std::alloc::{AllocError, Global};
 use uuid::Uuid;
+
+/// The bytes of the longest text of a UUID: one in five groups and braces.
+const MAX_UUID: usize = 38;
 
 /// Writes hexadecimal digits in five groups (`uuid_out`).
 impl ToText for Uuid {
@@ -23,14 +27,18 @@ impl ToText for Uuid {
     }
 }
 
-/// Parses 32 hexadecimal digits of either case: in five groups, alone, in braces, or after
-/// `urn:uuid:`.
+/// Parses 32 hexadecimal digits of either case: in five groups, alone, or in groups and braces
+/// (`uuid_in`).
 impl FromText for Uuid {
-    ghost says = { λ text v. parsed text ≡ Some v };
+    ghost says = { SaysUuid };
 
-    ghost parses = { SaysAny (λ text v. parsed text ≡ Some v) };
+    ghost parses = { SaysAny SaysUuid };
 
     fn from_text(_alloc: Global, text: &str) -> Result<Uuid, Fault> {
+        // The server does not take the longer texts, which begin with `urn:uuid:`.
+        if text.len() > MAX_UUID {
+            return Err(no_value());
+        }
         Uuid::try_parse(text).map_err(|_| no_value())
     }
 }
@@ -47,15 +55,28 @@ impl ToText for PgLsn {
     }
 }
 
-/// Parses the texts that `PgLsn::from_str` does.
+/// Parses two halves of one to eight hexadecimal digits of either case, with `/` between them
+/// (`pg_lsn_in`).
 impl FromText for PgLsn {
-    ghost says = { λ text v. lsn_of text ≡ Some v };
+    ghost says = { SaysLsn };
 
-    ghost parses = { SaysAny (λ text v. lsn_of text ≡ Some v) };
+    ghost parses = { SaysAny SaysLsn };
 
     fn from_text(_alloc: Global, text: &str) -> Result<PgLsn, Fault> {
-        text.parse().map_err(|_| no_value())
+        match text.split_once('/') {
+            Some((high, low)) if is_half(high) && is_half(low) => {
+                text.parse().map_err(|_| no_value())
+            }
+            _ => Err(no_value()),
+        }
     }
+}
+
+/// Whether the text has no more than eight bytes, and no sign.
+fn is_half(text: &str) -> bool
+    ensures { result ≡ is_half text.now }
+{
+    text.len() <= 8 && !text.starts_with("+")
 }
 
 /// The text of a log sequence number says it, and no other.

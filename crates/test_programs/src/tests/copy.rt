@@ -270,7 +270,7 @@ fn values_have_the_servers_texts(rt: HostRuntime) -> Result<(), Fail> {
 }
 
 /// Texts that are not values of their types.
-const NO_VALUES: [&[(&str, &[u8])]; 10] = [
+const NO_VALUES: [&[(&str, &[u8])]; 11] = [
     bits::NO_VALUES,
     bytea::NO_VALUES,
     dates::NO_VALUES,
@@ -278,6 +278,7 @@ const NO_VALUES: [&[(&str, &[u8])]; 10] = [
     hstore::NO_VALUES,
     intervals::NO_VALUES,
     lsn::NO_VALUES,
+    network::NO_VALUES,
     numbers::NO_VALUES,
     numerics::NO_VALUES,
     uuids::NO_VALUES,
@@ -292,11 +293,16 @@ fn other_texts_have_no_values(rt: HostRuntime) -> Result<(), Fail> {
 }
 
 /// Texts that mean the same as the server's.
-const OTHER_TEXTS: [&[(&str, &[u8], &[u8])]; 4] = [
+const OTHER_TEXTS: [&[(&str, &[u8], &[u8])]; 9] = [
+    bytea::OTHER_TEXTS,
     dates::OTHER_TEXTS,
     floats::OTHER_TEXTS,
     intervals::OTHER_TEXTS,
+    lsn::OTHER_TEXTS,
+    network::OTHER_TEXTS,
+    numbers::OTHER_TEXTS,
     numerics::OTHER_TEXTS,
+    uuids::OTHER_TEXTS,
 ];
 
 #[test]

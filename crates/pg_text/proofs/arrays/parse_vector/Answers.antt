@@ -6,13 +6,14 @@ use Rattle.std.proofs.lemmas.Iterator.Splits.{YieldsList-from_str_split}
 use Rattle.std.proofs.lemmas.List.{map_push}
 use Rattle.std.proofs.lemmas.List.Splits.{join_with_byte-slice_split}
 use Rattle.pg_text.proofs.Joins.{zip_push}
+use Rattle.pg_text.specs.Spaces.{Plain}
 use Rattle.pg_text.proofs.arrays.parse_vector.Goals as goal
 
 pub loop-number-preserved : goal.loop-number-preserved
 loop-number-preserved g c =
     rw (map_push (λ x. x.now) c.loop-number.yielded c.in-Some.number, c.in_ok-push.ensures.items)
-    (zip_push g.T.FromText.says (map (λ x. x.now) c.loop-number.yielded) c.loop-number.numbers.items
-    c.in-Some.number.now c.in_ok-from_text.field-0 c.loop-number.invariant c.in_ok-from_text.ensures)
+    (zip_push (Plain g.T.FromText.says) (map (λ x. x.now) c.loop-number.yielded) c.loop-number.numbers.items
+    c.in-Some.number.now c.in_ok-parse_plain.field-0 c.loop-number.invariant c.in_ok-parse_plain.ensures)
 
 pub returns : goal.returns
 returns g c =

@@ -1,10 +1,9 @@
 -- What the proof of `parse_instant` answers by hand.
-use Rattle.std.proofs.Common.{rules, arith, ◌≡◌, ◌∷◌, ◌∙◌, ◌+ℤ◌, ◌-ℤ◌, ◌*ℤ◌, FitsSigned, ap, pos, subst, w32, w64, to_z, of_z}
+use Rattle.std.proofs.Common.{rules, arith, ◌≡◌, ◌∙◌, ◌+ℤ◌, ◌-ℤ◌, ◌*ℤ◌, FitsSigned, ap, pos, subst, w32, w64, to_z, of_z}
 use Rattle.std.proofs.Math.Facts.{to_z-of_z}
 use Rattle.std.proofs.lemmas.Int.{ints}
-use Rattle.jiff_core.proofs.SignedLemmas.{signed_arith}
 use Rattle.pg_calendar.specs.Calendar.{IsTimestamp}
-use Rattle.pg_text.specs.Scans.{SaysUtcMicros, TakesDay, TakesInstant}
+use Rattle.pg_text.specs.Scans.{SaysUtcMicros, TakesDateTime, TakesInstant}
 use Rattle.pg_text.proofs.Scans.{some_value}
 use Rattle.pg_text.proofs.date_forms.parse_instant.Goals as goal
 
@@ -13,16 +12,15 @@ returns c =
     let text = c.args.text.now in
     let date = c.in_ok-datetime.datetime.date in
     let clock = c.in_ok-datetime.datetime.clock in
-    let read = c.in_ok-datetime.ensures in
+    let rest = c.take_datetime.new.scanner.rest.now in
     let inside : to_z w64 (of_z w64 date.year) ≡ date.year = search rules in
     let instant : TakesInstant text c.in_ok-year.year date.month date.day clock.hour clock.minute clock.second
     clock.micros c.in_ok-offset.offset = (
       date.year,
-      read.0,
-      c.take_datetime.new.scanner.rest.now,
+      rest,
       c.take_offset.new.scanner.rest.now,
-      subst (λ text. TakesDay text date.year date.month date.day (32 ∷ read.0)) c.new-scanner.ensures read.1,
-      read.2,
+      subst (λ text. TakesDateTime text date.year date.month date.day clock.hour clock.minute clock.second clock.micros
+          rest) c.new-scanner.ensures c.in_ok-datetime.ensures,
       c.in_ok-offset.ensures,
       rw inside at c.in_ok-year.ensures,
     ) in

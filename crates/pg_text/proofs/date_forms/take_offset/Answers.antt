@@ -1,48 +1,16 @@
 -- What the proof of `take_offset` answers by hand.
-use Rattle.std.proofs.Common.{rules, arith, ◌≡◌, ◌+◌, ◌*◌, ◌-ℤ◌, ◌∷◌, ◌∙◌, FitsSigned, inl, inr, pos, refl, sym, to_z, w32}
-use Rattle.std.proofs.lemmas.Int.{ints}
-use Rattle.std.proofs.Math.Facts.{to_z-of_z}
+use Rattle.std.proofs.Common.{inl, inr, refl, subst}
+use Rattle.std.proofs.lemmas.Option.{IfSome_then}
+use Rattle.pg_text.specs.Scans.{TakesSigned}
 use Rattle.pg_text.proofs.date_forms.take_offset.Goals as goal
 
-pub returns-then-is_minus : goal.returns-then-is_minus
-returns-then-is_minus c =
-    let sign : c.args.scanner.now.rest.now ≡ 45 ∷ c.take_sign.new.scanner.rest.now =
-    sym c.if-take.ensures ∙ rw c.if-is_minus.true at c.in_ok-is_minus.ensures in
-    let n = c.in_ok-hours.hours * 3600 + c.in_ok-minutes.minutes * 60 + c.in_ok-seconds.seconds in
-    let offset : to_z w32 n ≡ pos n = search rules in
-    let fits : FitsSigned w32 (pos 0 -ℤ pos n) = omega (arith, ints) in
-    inr (
-      45,
-      c.in_ok-hours.hours,
-      c.in_ok-minutes.minutes,
-      c.in_ok-seconds.seconds,
-      c.take_sign.new.scanner.rest.now,
-      c.pair.new.self.rest.now,
-      c.take_sixtieths.new.scanner.rest.now,
-      sign,
-      c.in_ok-hours.ensures.digits,
-      omega arith,
-      c.in_ok-minutes.ensures.number,
-      c.in_ok-seconds.ensures.number,
-      inr (refl, rw offset (to_z-of_z fits)),
-    )
+pub returns-then-take_utc : goal.returns-then-take_utc
+returns-then-take_utc c = (c.skip_space.new.scanner.rest.now, c.skip_space.ensures, inl (c.if-take_utc.ensures, refl))
 
-pub returns-else-is_minus : goal.returns-else-is_minus
-returns-else-is_minus c =
-    let sign : c.args.scanner.now.rest.now ≡ 43 ∷ c.take_sign.new.scanner.rest.now =
-    sym c.if-take.ensures ∙ rw c.if-is_minus.false at c.in_ok-is_minus.ensures in
-    inr (
-      43,
-      c.in_ok-hours.hours,
-      c.in_ok-minutes.minutes,
-      c.in_ok-seconds.seconds,
-      c.take_sign.new.scanner.rest.now,
-      c.pair.new.self.rest.now,
-      c.take_sixtieths.new.scanner.rest.now,
-      sign,
-      c.in_ok-hours.ensures.digits,
-      omega arith,
-      c.in_ok-minutes.ensures.number,
-      c.in_ok-seconds.ensures.number,
-      inl (refl, search rules),
-    )
+pub returns : goal.returns
+returns c =
+    IfSome_then c.take_signed.result c.take_signed.ensures (λ seconds said. (
+      c.skip_space.new.scanner.rest.now,
+      c.skip_space.ensures,
+      inr (subst (λ text. TakesSigned text seconds c.take_signed.new.scanner.rest.now) c.if-take_utc.ensures said),
+    ))

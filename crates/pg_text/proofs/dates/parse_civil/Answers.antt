@@ -1,6 +1,6 @@
 -- What the proof of `parse_civil` answers by hand.
 use Rattle.std.proofs.Common.{ap, sym, ◌∙◌}
-use Rattle.pg_text.proofs.Scans.{same_timestamp}
+use Rattle.pg_text.proofs.Scans.{same_day, same_timestamp}
 use Rattle.pg_text.proofs.dates.parse_civil.Goals as goal
 
 pub returns : goal.returns
@@ -20,4 +20,5 @@ returns c =
       same_timestamp c.args.text.now _ _ _ _ _ _ _ _ _ _ _ _ _ (sym year) (sym month) (sym day) (sym hour)
           (sym minute) (sym second) read.ensures,
       ap (λ t. t.subsec_nanosecond) same_time ∙ time.3,
+      same_day _ _ _ _ _ _ (sym year) (sym month) (sym day) date.3,
     )

@@ -7,4 +7,4 @@ pub returns : goal.returns
 returns c =
     let read = c.in_ok-parse_date.field-0 in
     IfSome_then c.jiff_date.result c.jiff_date.ensures
-    (λ d e. date_said c.args.text.now d read.year read.month read.day e.0 e.1 e.2 c.in_ok-parse_date.ensures)
+    (λ d e. date_said c.args.text.now d read.year read.month read.day e.0 e.1 e.2 e.3 c.in_ok-parse_date.ensures)

@@ -8,4 +8,9 @@ pub returns : goal.returns
 returns c =
     let micros : to_z w64 (of_z w64 c.in_ok-micros.micros) ≡ c.in_ok-micros.micros = search rules in
     rw c.ok.ensures.value (IfSome_of_ok c.from_microsecond.result (rw micros at c.from_microsecond.ensures.value)
-    (λ t e. (c.in_ok-micros.micros, c.in_ok-micros.ensures, omega (arith, signed_arith))))
+    (λ t e. (
+      c.in_ok-micros.micros,
+      c.in_ok-micros.ensures,
+      (omega (arith, signed_arith), omega (arith, signed_arith)),
+      omega (arith, signed_arith),
+    )))

@@ -9,5 +9,6 @@ returns c =
     let nanos = rw micros at c.from_postgres_micros.ensures in (
       c.in_ok-micros.micros +ℤ pos 10_957 *ℤ pos 86_400_000_000,
       c.in_ok-micros.ensures,
+      (omega (arith, signed_arith), omega (arith, signed_arith)),
       omega (arith, signed_arith),
     )

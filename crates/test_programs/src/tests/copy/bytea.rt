@@ -7,6 +7,7 @@ pub const BYTES: &[Row] = &[
     ("bytea", Some(b""), b"\\\\x"),
     ("bytea", Some(b"\x00\xff\\"), b"\\\\x00ff5c"),
     ("bytea", Some(b"ab"), b"\\\\x6162"),
+    ("raw", Some(b"\x00\x01"), b"\\\\x0001"),
     (
         "bytea[]",
         Some(
@@ -19,7 +20,13 @@ pub const BYTES: &[Row] = &[
 
 /// Texts that are not values of their types.
 pub const NO_VALUES: &[(&str, &[u8])] = &[
-    ("bytea", b"abc"),
+    ("bytea", b"a\\\\x"),
     ("bytea", b"\\\\xabc"),
     ("bytea", b"\\\\xgg"),
+];
+
+/// Other texts of the same values, as the server reads them.
+pub const OTHER_TEXTS: &[(&str, &[u8], &[u8])] = &[
+    ("bytea", b"abc", b"\\\\x616263"),
+    ("bytea", b"\\\\000\\\\377\\\\\\\\", b"\\\\x00ff5c"),
 ];

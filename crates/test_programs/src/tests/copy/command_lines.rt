@@ -69,8 +69,8 @@ const COLUMNS: [(&str, &str); 17] = [
         "timestamptz[] int4[] bit[]",
     ),
     (
-        "char|char(3)|int|varchar(3)|timestamptz|TEXT|Int4",
-        "bpchar bpchar int4 varchar timestamptz text int4",
+        "char|char(3)|int|varchar(3)|timestamptz|TEXT|Int4|smallserial|serial|bigserial|dec(3)|raw",
+        "bpchar bpchar int4 varchar timestamptz text int4 int2 int4 int8 numeric bytea",
     ),
     (
         "real|double precision|float4[]|Double Precision[]",

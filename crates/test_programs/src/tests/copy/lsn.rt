@@ -19,4 +19,11 @@ pub const POSITIONS: &[Row] = &[
 ];
 
 /// Texts that are not values of their types.
-pub const NO_VALUES: &[(&str, &[u8])] = &[("pg_lsn", b"0")];
+pub const NO_VALUES: &[(&str, &[u8])] = &[
+    ("pg_lsn", b"0"),
+    ("pg_lsn", b"000000001/0"),
+    ("pg_lsn", b"0/+1"),
+];
+
+/// Other texts of the same values, as the server reads them.
+pub const OTHER_TEXTS: &[(&str, &[u8], &[u8])] = &[("pg_lsn", b"a/0000000b", b"A/B")];

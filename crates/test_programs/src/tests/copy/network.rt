@@ -211,3 +211,16 @@ fn other_texts_are_no_addresses(rt: HostRuntime) -> Result<(), Fail> {
     are_refused(rt.alloc(), "no MAC address", NO_MAC_ADDRESSES)?;
     are_refused(rt.alloc(), "no network address", NO_ADDRESSES)
 }
+
+/// Texts that are not values of their types.
+pub const NO_VALUES: &[(&str, &[u8])] = &[
+    ("inet", b"::1/08"),
+    ("inet", b"1.2.3.4/+8"),
+    ("cidr", b"fe80::/010"),
+];
+
+/// Other texts of the same values, as the server reads them.
+pub const OTHER_TEXTS: &[(&str, &[u8], &[u8])] = &[
+    ("inet", b"1.2.3.4/08", b"1.2.3.4/8"),
+    ("cidr", b"10.0.0.0/08", b"10.0.0.0/8"),
+];

@@ -124,11 +124,23 @@ pub const NUMBERS: &[Row] = &[
 
 /// Texts that are not values of their types.
 pub const NO_VALUES: &[(&str, &[u8])] = &[
-    ("bool", b"yes"),
+    ("bool", b"o"),
     ("\"char\"", b"ab"),
     ("\"char\"", b"\\\\400"),
     ("int2", b"32768"),
-    ("int4", b"1 "),
+    ("int4", b"1 1"),
     ("oid", b"-1"),
     ("int2vector", b"1  2"),
+];
+
+/// Other texts of the same values, as the server reads them.
+pub const OTHER_TEXTS: &[(&str, &[u8], &[u8])] = &[
+    ("bool", b" TRUE ", b"t"),
+    ("bool", b"y", b"t"),
+    ("bool", b"of", b"f"),
+    ("bool", b"0", b"f"),
+    ("int2", b" -7", b"-7"),
+    ("int4", b"1 ", b"1"),
+    ("int8", b"\\t+8", b"8"),
+    ("oid", b" 007", b"7"),
 ];

@@ -149,6 +149,8 @@ pub const NO_VALUES: &[(&str, &[u8])] = &[
     ("numeric", b"one"),
     ("numeric", b"-NaN"),
     ("numeric", b"infinit"),
+    ("numeric", b"1e"),
+    ("numeric", b"1e131072"),
     ("numeric[]", b"{1,x}"),
 ];
 
@@ -172,5 +174,8 @@ pub const OTHER_TEXTS: &[(&str, &[u8], &[u8])] = &[
     ("numeric", b"007", b"7"),
     ("numeric", b"1.", b"1"),
     ("numeric", b"-.5", b"-0.5"),
+    ("numeric", b"1.50e1", b"15.0"),
+    ("numeric", b"-1.5E-3", b"-0.0015"),
+    ("numeric", b"0e200000", b"0"),
     ("numeric", b"-0.00", b"0.00"),
 ];

@@ -17,4 +17,14 @@ pub const UUIDS: &[Row] = &[
 ];
 
 /// Texts that are not values of their types.
-pub const NO_VALUES: &[(&str, &[u8])] = &[("uuid", b"a0eebc99")];
+pub const NO_VALUES: &[(&str, &[u8])] = &[
+    ("uuid", b"a0eebc99"),
+    ("uuid", b"urn:uuid:a0eebc99-9c0b-4ef8-bb6d-6bb9bd380a11"),
+];
+
+/// Other texts of the same values, as the server reads them.
+pub const OTHER_TEXTS: &[(&str, &[u8], &[u8])] = &[(
+    "uuid",
+    b"{A0EEBC99-9C0B-4EF8-BB6D-6BB9BD380A11}",
+    b"a0eebc99-9c0b-4ef8-bb6d-6bb9bd380a11",
+)];
