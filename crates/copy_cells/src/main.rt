@@ -43,7 +43,7 @@ scripts/columns t prints them too where the table has enumerated types, domains 
 const NOTES: &str = "\
 Names are those that format_type prints, too: integer, character varying(20), timestamp(3) with time zone.
 [] after a type says arrays of it. A domain is named by its base type, an enumerated type enum, and a composite type
-by its fields: (name text, price bigint).
+by its fields: (name text, price bigint). raw is a column of any type, as the bytes of its cells, like those of bytea.
 Whole rows alone are written, and after a fault an end by which a server that reads them refuses them all. Standard
 error tells the fault, with its row or line and its column, and the status is 1. Where standard error is a terminal and
 standard output is none, the rows and the MB that were read are shown there.

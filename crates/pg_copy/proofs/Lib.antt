@@ -1,12 +1,15 @@
 -- The lemmas of this crate's proofs.
+mod ArgumentLaws
 mod ArrayBounds
 mod CellTexts
+mod ColumnLaws
 mod CompositeSteps
 mod EndLaws
 mod EscapeLaws
 mod EscapeTable
 mod LineLaws
 mod PlainLanes
+mod QuoteLaws
 mod ReadingLaws
 mod ReadingRuns
 mod RecordFaults
@@ -17,5 +20,6 @@ mod StopLaws
 mod TextLaws
 mod TypeTexts
 pub mod Wires
+mod WordLaws
 mod WrittenLaws
 pub mod WrittenRecords

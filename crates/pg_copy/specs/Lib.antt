@@ -1,4 +1,5 @@
 -- Definitions for the contracts of this crate.
+pub mod Arguments
 pub mod CellRefusals
 pub mod ColumnTypes
 pub mod Composites
@@ -11,6 +12,7 @@ pub mod Rows
 pub mod TextLines
 pub mod TypeNames
 pub mod Values
+pub mod Words
 pub mod WrittenCells
 pub mod WrittenComposites
 pub mod WrittenRows

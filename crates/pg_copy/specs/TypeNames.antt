@@ -1,9 +1,11 @@
 -- The names of the types of columns, as PostgreSQL has them.
-use Rattle.std.specs.Borrow.{Bor}
 use Rattle.std.specs.Cmp.Lexicographic.{pointwise}
-use Rattle.std.specs.List.{find, list_any, starts_with}
-use Rattle.std.specs.Prelude.{◌≡◌, ◌≢◌, ◌==◌, ℕ, Bool, true, false, List, [], ◌∷◌, ◌++◌, Option, Some, None}
-use Rattle.std.specs.Prelude.{MatchBool, MatchOption, codes}
+use Rattle.std.specs.List.{after_last, find, list_any, starts_with}
+use Rattle.std.specs.Option.{option_or}
+use Rattle.std.specs.Prelude.{◌≡◌, ◌≢◌, ◌==◌, ℕ, zero, suc, Bool, true, false, List, [], ◌∷◌, ◌++◌, Option, Some, None}
+use Rattle.std.specs.Prelude.{if◌then◌else◌, codes, nat_lt, option_and_then, option_map, reverse}
+use Rattle.std.specs.Str.{str_to_ascii_lowercase, trim_end}
+use Rattle.pg_copy.specs.Words.{parts_around}
 use Rattle.pg_copy.specs.declared.types.Base.{Base}
 use Rattle.pg_copy.specs.declared.types.Base.TheVariants as base
 
@@ -12,7 +14,7 @@ abbrev pub names_of : Base → List (List ℕ)
 names_of base.Bit = codes "bit" ∷ []
 names_of base.Bool = codes "bool" ∷ codes "boolean" ∷ []
 names_of base.Bpchar = codes "bpchar" ∷ codes "character" ∷ codes "char" ∷ []
-names_of base.Bytea = codes "bytea" ∷ []
+names_of base.Bytea = codes "bytea" ∷ codes "raw" ∷ []
 names_of base.Char = codes "\"char\"" ∷ []
 names_of base.Cidr = codes "cidr" ∷ []
 names_of base.Citext = codes "citext" ∷ []
@@ -23,10 +25,10 @@ names_of base.Float4 = codes "float4" ∷ codes "real" ∷ []
 names_of base.Float8 = codes "float8" ∷ codes "double precision" ∷ []
 names_of base.Hstore = codes "hstore" ∷ []
 names_of base.Inet = codes "inet" ∷ []
-names_of base.Int2 = codes "int2" ∷ codes "smallint" ∷ []
+names_of base.Int2 = codes "int2" ∷ codes "smallint" ∷ codes "smallserial" ∷ []
 names_of base.Int2Vector = codes "int2vector" ∷ []
-names_of base.Int4 = codes "int4" ∷ codes "integer" ∷ codes "int" ∷ []
-names_of base.Int8 = codes "int8" ∷ codes "bigint" ∷ []
+names_of base.Int4 = codes "int4" ∷ codes "integer" ∷ codes "int" ∷ codes "serial" ∷ []
+names_of base.Int8 = codes "int8" ∷ codes "bigint" ∷ codes "bigserial" ∷ []
 names_of base.Interval = codes "interval" ∷ []
 names_of base.Json = codes "json" ∷ []
 names_of base.Jsonb = codes "jsonb" ∷ []
@@ -35,7 +37,7 @@ names_of base.Ltree = codes "ltree" ∷ []
 names_of base.Ltxtquery = codes "ltxtquery" ∷ []
 names_of base.Macaddr = codes "macaddr" ∷ []
 names_of base.Name = codes "name" ∷ []
-names_of base.Numeric = codes "numeric" ∷ codes "decimal" ∷ []
+names_of base.Numeric = codes "numeric" ∷ codes "decimal" ∷ codes "dec" ∷ []
 names_of base.Oid = codes "oid" ∷ []
 names_of base.OidVector = codes "oidvector" ∷ []
 names_of base.PgLsn = codes "pg_lsn" ∷ []
@@ -72,34 +74,54 @@ has_arrays base.OidVector = false
 has_arrays base.Unknown = false
 has_arrays other = true
 
--- what follows the name of a type: nothing, or, if it is one of arrays, a text that ends with brackets
-abbrev pub IsForm : Bool → List ℕ → Type 0
-IsForm false rest = rest ≡ []
-IsForm true rest = (front : List ℕ) × (rest ≡ front ++ codes "[]")
+-- the text without so many pairs of brackets at its end, and without the white space before each of them
+abbrev pub IsWithoutPairs : ℕ → List ℕ → List ℕ → Type 0
+IsWithoutPairs zero name text = name ≡ text
+IsWithoutPairs (suc n) name text =
+    (longer : List ℕ) × (before : List ℕ) × IsWithoutPairs n longer text × (longer ≡ before ++ codes "[]")
+    × (name ≡ trim_end before)
 
--- the text of a type is this name, which does not end with brackets, and what follows it
+-- the text of a type is this name, or it is followed by a pair of brackets for each dimension of an array
 abbrev pub IsTypeText : List ℕ → Bool → List ℕ → Type 0
 IsTypeText name is_array text =
-    ((front : List ℕ) → name ≢ front ++ codes "[]") × ((rest : List ℕ) × (text ≡ name ++ rest) × IsForm is_array rest)
+    (dimensions : ℕ) × IsWithoutPairs dimensions name text × ((front : List ℕ) → name ≢ front ++ codes "[]")
+    × (is_array ≡ nat_lt 0 dimensions)
+
+-- the text without this byte at its start, if it has it there
+abbrev pub without_first : ℕ → List ℕ → Option (List ℕ)
+without_first sought [] = None
+without_first sought (byte ∷ text) = if byte == sought then Some text else None
+
+-- the text without this byte at its end, if it has it there
+abbrev pub without_last : ℕ → List ℕ → Option (List ℕ)
+without_last sought text = option_map reverse (without_first sought (reverse text))
 
 -- what stands between this first byte and this last one, if the text begins and ends with them
-abbrev pub IsBetween : ℕ → ℕ → List ℕ → Option (Bor (List ℕ)) → Type 0
-IsBetween first last text None = (own : List ℕ) → text ≢ first ∷ (own ++ last ∷ [])
-IsBetween first last text (Some own) = text ≡ first ∷ (own.now ++ last ∷ [])
-
--- the type of a quoted name
-abbrev pub IsQuoted : List ℕ → Option Base → Type 0
-IsQuoted name result =
-    (own : Option (Bor (List ℕ))) × IsBetween 34 34 name own
-    × MatchOption own (result ≡ None) (λ s. result ≡ base_of s.now)
+abbrev pub between : ℕ → ℕ → List ℕ → Option (List ℕ)
+between first last text = option_and_then (without_last last) (without_first first text)
 
 -- the type of a name in lower case, without a schema or a modifier: interval may have fields after it, and the name of
 -- another type may be quoted
-abbrev pub IsUnquoted : Option Base → List ℕ → Option Base → Type 0
-IsUnquoted (Some base) name result = result ≡ Some base
-IsUnquoted None name result = IsQuoted name result
+abbrev pub plain_type : List ℕ → Option Base
+plain_type name =
+    if starts_with ◌==◌ name (codes "interval ") then Some base.Interval
+    else option_or (base_of name) (option_and_then base_of (between 34 34 name))
 
-abbrev pub IsTypeNamed : List ℕ → Option Base → Type 0
-IsTypeNamed name result =
-    MatchBool (starts_with ◌==◌ name (codes "interval ")) (result ≡ Some base.Interval)
-    (IsUnquoted (base_of name) name result)
+-- a name without its modifier, which is in parentheses, and the white space before it: what stood around the first
+-- parenthesis is given. A parenthesis that is not closed has no name
+abbrev pub unmodified : List ℕ → Option (List ℕ × List ℕ) → Option (List ℕ)
+unmodified name None = Some name
+unmodified name (Some (before, rest)) = option_map (λ parts. trim_end before ++ parts.1) (parts_around 41 rest)
+
+-- a name without its modifier
+abbrev pub without_modifier : List ℕ → Option (List ℕ)
+without_modifier name = unmodified name (parts_around 40 name)
+
+-- a name without its schema, which ends at the last point
+abbrev pub without_schema : List ℕ → List ℕ
+without_schema name = after_last (λ byte. byte == 46) name
+
+-- the type of a name, as PostgreSQL prints it
+abbrev pub type_named : List ℕ → Option Base
+type_named name =
+    option_and_then (λ plain. plain_type (without_schema (str_to_ascii_lowercase plain))) (without_modifier name)

@@ -17,7 +17,10 @@ use Rattle.pg_numbers.specs.NumericTexts.{numeric_text}
 use Rattle.pg_text.specs.Floats.{SaysFloat, ShowsFloat}
 use Rattle.pg_text.specs.Lists.{SaysArray, SaysVector, ShowsArray, vector_text}
 use Rattle.pg_text.specs.Maps.{ShowsMap}
+use Rattle.pg_text.specs.Network.{SaysAddress}
 use Rattle.pg_text.specs.Numerics.{SaysNumeric}
+use Rattle.pg_text.specs.Small.{SaysLsn, SaysUuid}
+use Rattle.pg_text.specs.Spaces.{Plain, Trimmed, trimmed}
 use Rattle.pg_text.specs.Specials.{SaysSpecial, ShowsSpecial}
 use Rattle.pg_text.specs.Intervals.{SaysInterval}
 use Rattle.pg_text.specs.Texts.{AnyText, AnyValue, SaysBool, SaysBytes, SaysChar, Shows}
@@ -40,7 +43,7 @@ use Rattle.postgres_types.specs.Hstore.{ReadsHstore, owned_entry, wire_hstore}
 use Rattle.postgres_types.specs.Interval.{ReadsInterval, wire_interval}
 use Rattle.postgres_types.specs.IntervalTexts.{interval_text}
 use Rattle.postgres_types.specs.Network.{ReadsCidr, ReadsInet, wire_cidr, wire_inet}
-use Rattle.postgres_types.specs.NetworkTexts.{SaysMacaddr, SaysNetwork, cidr_text, inet_text, macaddr_text}
+use Rattle.postgres_types.specs.NetworkTexts.{SaysMacaddr, cidr_text, inet_text, macaddr_text}
 use Rattle.postgres_types.specs.NumberTexts.{SaysSigned, SaysUnsigned}
 use Rattle.postgres_types.specs.Numbers.{ReadsBool, ReadsSigned, ReadsUnsigned, wire_bool, wire_signed, wire_unsigned}
 use Rattle.postgres_types.specs.OptionReading.{ReadsOption}
@@ -50,10 +53,9 @@ use Rattle.postgres_types.specs.Special.{ReadsSpecial, date_view, timestamp_view
 use Rattle.postgres_types.specs.Texts.{ReadsText, has_version, wire_text}
 use Rattle.postgres_types.specs.Timestamps.{ReadsTimestamp, nanos_of, wire_timestamp}
 use Rattle.postgres_types.specs.JsonTexts.{ReadsDocument, wire_document}
-use Rattle.postgres_types.specs.Lsn.{lsn_of, lsn_text}
+use Rattle.postgres_types.specs.Lsn.{lsn_text}
 use Rattle.postgres_types.specs.Views.{ReadsThrough}
 use Rattle.postgres_types.specs.declared.json_text.JsonText.{JsonText}
-use Rattle.uuid.specs.Text as uuid
 use Rattle.uuid.specs.Text.{hyphenated_text, lower}
 
 -- what a cell is read as by its type, and the text of a value
@@ -175,19 +177,19 @@ composites = (no_values, (no_text, no_text))
 -- the values of a type
 abbrev pub values_of : Base → Conversions
 values_of base.Bit = (plain (ReadsBits (λ v. v)) (Shows bits_text), parsed (λ text v. text ≡ bits_text v) wire_bits)
-values_of base.Bool = (plain ReadsBool (Shows bool_text), parsed SaysBool wire_bool)
+values_of base.Bool = (plain ReadsBool (Shows bool_text), parsed (Trimmed SaysBool) wire_bool)
 values_of base.Bpchar = texts
 values_of base.Bytea = (
   plain {A = Bor (List ℕ)} (ReadsBytes (λ s. s.now)) (Shows (λ s. bytes_text s.now)),
   parsed {A = Vec ℕ Global} (λ text v. SaysBytes text v.items) (λ v. wire_bytes v.items),
 )
 values_of base.Char = (plain (ReadsSigned w8) (Shows char_text), parsed SaysChar (wire_signed w8))
-values_of base.Cidr = (plain ReadsCidr (Shows cidr_text), parsed SaysNetwork wire_cidr)
+values_of base.Cidr = (plain ReadsCidr (Shows cidr_text), parsed SaysAddress wire_cidr)
 values_of base.Citext = texts
 values_of base.Composite = composites
 values_of base.Date = (
   plain (ReadsSpecial w32 date_view ReadsDate) (λ v. ShowsSpecial (Shows civil_date_text) (date_view v)),
-  parsed (λ text v. SaysSpecial SaysDate text (date_view v)) (λ v. wire_special w32 wire_date (date_view v)),
+  parsed (λ text v. SaysSpecial SaysDate (trimmed text) (date_view v)) (λ v. wire_special w32 wire_date (date_view v)),
 )
 values_of base.Enum = texts
 values_of base.Float4 =
@@ -198,14 +200,14 @@ values_of base.Hstore = (
   plain {A = Map} ReadsHstore (λ m. ShowsMap (map owned_entry m.entries)),
   written {A = Map} (λ m. wire_hstore (map owned_entry m.entries)),
 )
-values_of base.Inet = (plain ReadsInet (Shows inet_text), parsed SaysNetwork wire_inet)
-values_of base.Int2 = (plain (ReadsSigned w16) (Shows signed_decimal), parsed SaysSigned (wire_signed w16))
+values_of base.Inet = (plain ReadsInet (Shows inet_text), parsed SaysAddress wire_inet)
+values_of base.Int2 = (plain (ReadsSigned w16) (Shows signed_decimal), parsed (Trimmed SaysSigned) (wire_signed w16))
 values_of base.Int2Vector = (
   with_arrays (values (ReadsVec (λ _. ReadsSigned w16)) (Shows (λ v. vector_text signed_decimal v.items))),
-  texts_with_arrays (text_values (λ text v. SaysVector SaysSigned text v.items) (wire_vec (λ _. wire_signed w16))),
+  texts_with_arrays (text_values (λ text v. SaysVector (Plain (Trimmed SaysSigned)) text v.items) (wire_vec (λ _. wire_signed w16))),
 )
-values_of base.Int4 = (plain (ReadsSigned w32) (Shows signed_decimal), parsed SaysSigned (wire_signed w32))
-values_of base.Int8 = (plain (ReadsSigned w64) (Shows signed_decimal), parsed SaysSigned (wire_signed w64))
+values_of base.Int4 = (plain (ReadsSigned w32) (Shows signed_decimal), parsed (Trimmed SaysSigned) (wire_signed w32))
+values_of base.Int8 = (plain (ReadsSigned w64) (Shows signed_decimal), parsed (Trimmed SaysSigned) (wire_signed w64))
 values_of base.Interval = (plain ReadsInterval (Shows interval_text), parsed SaysInterval wire_interval)
 values_of base.Json = documents
 values_of base.Jsonb = documents
@@ -215,33 +217,30 @@ values_of base.Ltxtquery = texts
 values_of base.Macaddr = (plain (ReadsFixedBytes 6) (Shows macaddr_text), parsed SaysMacaddr (wire_fixed_bytes 6))
 values_of base.Name = texts
 values_of base.Numeric = (plain ReadsNumeric (Shows numeric_text), parsed SaysNumeric wire_numeric)
-values_of base.Oid = (plain (ReadsUnsigned w32) (Shows decimal), parsed SaysUnsigned (wire_unsigned w32))
+values_of base.Oid = (plain (ReadsUnsigned w32) (Shows decimal), parsed (Trimmed SaysUnsigned) (wire_unsigned w32))
 values_of base.OidVector = (
   with_arrays (values (ReadsVec (λ _. ReadsUnsigned w32)) (Shows (λ v. vector_text decimal v.items))),
-  texts_with_arrays (text_values (λ text v. SaysVector SaysUnsigned text v.items)
+  texts_with_arrays (text_values (λ text v. SaysVector (Plain (Trimmed SaysUnsigned)) text v.items)
       (wire_vec (λ _. wire_unsigned w32))),
 )
-values_of base.PgLsn = (
-  plain (ReadsUnsigned w64) (Shows lsn_text),
-  parsed (λ text v. lsn_of text ≡ Some v) (wire_unsigned w64),
-)
+values_of base.PgLsn = (plain (ReadsUnsigned w64) (Shows lsn_text), parsed SaysLsn (wire_unsigned w64))
 values_of base.Text = texts
-values_of base.Time = (plain ReadsTime (Shows civil_time_text), parsed SaysTime wire_time)
+values_of base.Time = (plain ReadsTime (Shows civil_time_text), parsed (Trimmed SaysTime) wire_time)
 values_of base.Timestamp = (
   plain (ReadsSpecial w64 timestamp_view (ReadsTimestamp nanos_of))
       (λ v. ShowsSpecial (Shows unix_time_text) (timestamp_view v)),
-  parsed (λ text v. SaysSpecial SaysTimestamp text (timestamp_view v))
+  parsed (λ text v. SaysSpecial SaysTimestamp (trimmed text) (timestamp_view v))
       (λ v. wire_special w64 (λ u. wire_timestamp (nanos_of u)) (timestamp_view v)),
 )
 values_of base.Timestamptz = (
   plain (ReadsSpecial w64 timestamp_view ReadsInstant) (λ v. ShowsSpecial (Shows instant_text) (timestamp_view v)),
-  parsed (λ text v. SaysSpecial SaysInstant text (timestamp_view v))
+  parsed (λ text v. SaysSpecial SaysInstant (trimmed text) (timestamp_view v))
       (λ v. wire_special w64 wire_instant (timestamp_view v)),
 )
 values_of base.Unknown = texts
 values_of base.Uuid = (
   plain (ReadsFixedBytes 16) (Shows (hyphenated_text lower)),
-  parsed (λ text v. uuid.parsed text ≡ Some v) (wire_fixed_bytes 16),
+  parsed SaysUuid (wire_fixed_bytes 16),
 )
 values_of base.Varbit = (plain (ReadsBits (λ v. v)) (Shows bits_text), parsed (λ text v. text ≡ bits_text v) wire_bits)
 values_of base.Varchar = texts

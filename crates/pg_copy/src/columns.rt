@@ -1,7 +1,10 @@
 //! The columns of a COPY.
-ghost use Rattle.std.specs.List.{All};
-ghost use Rattle.std.specs.Prelude.{◌≡◌, IfOk, codes, option_map};
-ghost use Rattle.pg_copy.specs.ColumnTypes.{HasItsType, IsTyped, types_of};
+ghost use Rattle.std.specs.List.{AllZip};
+ghost use Rattle.std.specs.Prelude.{◌≡◌, IfErr, IfOk, codes, option_map};
+ghost use Rattle.pg_copy.specs.ColumnTypes.{IsColumnFault, IsColumnOf, IsFieldFault, IsFieldNamed, IsFieldOf};
+ghost use Rattle.pg_copy.specs.ColumnTypes.{IsFieldsFault, IsNameFault, IsTyped, types_of};
+ghost use Rattle.pg_copy.specs.Words.{pieces};
+ghost use Rattle.pg_copy.specs.declared.columns.TypeFault.TheVariants.{Memory};
 ghost use Rattle.pg_types.specs.Content.{UserDefinedType, content, kind_content};
 
 use crate::type_names::{TypeName, after_field_name, split_at_comma};
@@ -45,12 +48,16 @@ pub enum TypeFault {
 }
 
 impl From<AllocError> for TypeFault {
+    ghost from_gives = { λ _ fault. fault ≡ Memory };
+
     fn from(_error: AllocError) -> TypeFault {
         TypeFault::Memory
     }
 }
 
 impl<T: Drop> From<AllocFailed<T>> for TypeFault {
+    ghost from_gives = { λ _ fault. fault ≡ Memory };
+
     fn from(_error: AllocFailed<T>) -> TypeFault {
         TypeFault::Memory
     }
@@ -109,7 +116,8 @@ fn types_of(alloc: Global, base: Base) -> Result<(Type, Option<Type>), AllocErro
 impl Field {
     /// Creates a field of this type.
     fn parse(alloc: Global, name: TypeName<'_>) -> Result<Field, TypeFault>
-        ensures { IfOk result HasItsType }
+        ensures ok { IfOk result (IsFieldNamed name.entry.name.now name.entry.is_array) }
+        ensures err { IfErr result (IsNameFault name.entry.name.now name.entry.is_array) }
     {
         let Some(base) = name.base(alloc)? else {
             return Err(TypeFault::Unknown);
@@ -124,26 +132,31 @@ impl Field {
     }
 }
 
-/// Parses the fields of a composite type, each of which is a name and a type.
+/// Parses a field of a composite type, which is a name and a type.
+fn parse_field(alloc: Global, text: &str) -> Result<Field, TypeFault>
+    ensures ok { IfOk result (IsFieldOf text.now) }
+    ensures err { IfErr result (IsFieldFault text.now) }
+{
+    let Some(ty) = after_field_name(text) else {
+        return Err(TypeFault::Unknown);
+    };
+    let name = TypeName::parse(ty);
+    match name.fields() {
+        Some(_) => Err(TypeFault::Nested),
+        None => Field::parse(alloc, name),
+    }
+}
+
+/// Parses the fields of a composite type, which have commas between them.
 fn parse_fields(alloc: Global, text: &str) -> Result<Vec<Field>, TypeFault>
-    ensures { IfOk result (λ fields. All HasItsType fields.items) }
+    ensures ok { IfOk result (λ fields. AllZip IsFieldOf (pieces text.now) fields.items) }
+    ensures err { IfErr result (IsFieldsFault (pieces text.now)) }
 {
     let mut fields = Vec::new(alloc);
     let mut rest = Some(text);
-    // A field and its comma take at least two bytes.
-    for _ in 0..=text.len() {
-        let Some(text) = rest else {
-            break;
-        };
+    while let Some(text) = rest {
         let (field, after) = split_at_comma(text);
-        let Some(ty) = after_field_name(field) else {
-            return Err(TypeFault::Unknown);
-        };
-        let name = TypeName::parse(ty);
-        if name.fields().is_some() {
-            return Err(TypeFault::Nested);
-        }
-        fields.push(Field::parse(alloc, name)?)?;
+        fields.push(parse_field(alloc, field)?)?;
         rest = after;
     }
     Ok(fields)
@@ -152,7 +165,9 @@ fn parse_fields(alloc: Global, text: &str) -> Result<Vec<Field>, TypeFault>
 impl Column {
     /// Creates a column of the type with this name.
     pub fn parse(alloc: Global, text: &str) -> Result<Column, TypeFault>
-        ensures { IfOk result IsTyped }
+        ensures ok { IfOk result (IsColumnOf text.now) }
+        ensures typed { IfOk result IsTyped }
+        ensures err { IfErr result (IsColumnFault text.now) }
     {
         let name = TypeName::parse(text);
         if let Some(fields) = name.fields() {

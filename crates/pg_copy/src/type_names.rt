@@ -1,7 +1,10 @@
 //! The names of types, as PostgreSQL prints them (`format_type`).
-ghost use Rattle.std.specs.Prelude.{Bool};
-ghost use Rattle.std.specs.Str.{trim};
-ghost use Rattle.pg_copy.specs.TypeNames.{IsBetween, IsTypeText, IsTypeNamed};
+ghost use Rattle.std.specs.Prelude.{◌≡◌, ◌+◌, ◌<◌, ◌^◌, ◌∷◌, IfNone, IfOk, false, option_map, string_bytes};
+ghost use Rattle.std.specs.Str.{trim, trim_start};
+ghost use Rattle.pg_copy.specs.TypeNames.{IsTypeText, between, plain_type, type_named};
+ghost use Rattle.pg_copy.specs.TypeNames.{without_modifier, without_schema};
+ghost use Rattle.pg_copy.specs.Words.{IsCommaOf, after_name, after_quotes, after_space, depth_after, divides};
+ghost use Rattle.pg_copy.specs.Words.{is_quoted_after, pieces, pieces_of_rest};
 
 use crate::types::Base;
 use std::alloc::{AllocError, Global};
@@ -21,23 +24,26 @@ impl<'a> TypeName<'a> {
     pub fn parse(text: &'a str) -> TypeName<'a>
         ensures { IsTypeText result.name.now result.is_array (trim text.now) }
     {
-        let text = text.trim();
-        let name = without_brackets(text);
-        TypeName {
-            name,
-            is_array: name.len() < text.len(),
+        let mut name = text.trim();
+        let mut is_array = false;
+        while let Some(before) = name.strip_suffix("[]") {
+            name = before.trim_end();
+            is_array = true;
         }
+        TypeName { name, is_array }
     }
 
     /// Returns the fields of a composite type, without the parentheses, or `None` for a name.
     pub fn fields(&self) -> Option<&'a str>
-        ensures { IsBetween 40 41 self.now.name.now result }
+        ensures { option_map (λ s. s.now) result ≡ between 40 41 self.now.name.now }
     {
-        self.name.strip_prefix("(")?.strip_suffix(")")
+        self.name.strip_prefix('(')?.strip_suffix(')')
     }
 
     /// Returns the type with this name, or `None` if it has no conversion.
-    pub fn base(&self, alloc: Global) -> Result<Option<Base>, AllocError> {
+    pub fn base(&self, alloc: Global) -> Result<Option<Base>, AllocError>
+        ensures { IfOk result (λ base. base ≡ type_named self.now.name.now) }
+    {
         let Some(mut name) = without_modifier(alloc, self.name)? else {
             return Ok(None);
         };
@@ -48,7 +54,7 @@ impl<'a> TypeName<'a> {
 
 /// Returns the type with this name, which is in lower case, without a schema or a modifier.
 fn base_of(name: &str) -> Option<Base>
-    ensures { IsTypeNamed name.now result }
+    ensures { result ≡ plain_type name.now }
 {
     // The name may have fields, like `interval day to second`.
     if name.starts_with("interval ") {
@@ -62,34 +68,27 @@ fn base_of(name: &str) -> Option<Base>
 }
 
 /// Returns the name without its schema.
-fn without_schema(name: &str) -> &str {
+fn without_schema(name: &str) -> &str
+    ensures { result.now ≡ without_schema name.now }
+{
     match name.rsplit_once('.') {
         Some((_, name)) => name,
         None => name,
     }
 }
 
-/// Returns the text without the brackets at its end.
-fn without_brackets(text: &str) -> &str
-    ensures { (is_array : Bool) × IsTypeText result.now is_array text.now }
-{
-    let mut rest = text;
-    while let Some(before) = rest.strip_suffix("[]") {
-        rest = before.trim_end();
-    }
-    rest
-}
-
 /// Returns the name without its quotes.
 fn unquoted(name: &str) -> Option<&str>
-    ensures { IsBetween 34 34 name.now result }
+    ensures { option_map (λ s. s.now) result ≡ between 34 34 name.now }
 {
-    name.strip_prefix("\"")?.strip_suffix("\"")
+    name.strip_prefix('"')?.strip_suffix('"')
 }
 
 /// Returns the name without the modifier in parentheses, like that of
 /// `timestamp(3) with time zone`; `None` if a parenthesis is not closed.
-fn without_modifier(alloc: Global, name: &str) -> Result<Option<String>, AllocError> {
+fn without_modifier(alloc: Global, name: &str) -> Result<Option<String>, AllocError>
+    ensures { IfOk result (λ plain. option_map string_bytes plain ≡ without_modifier name.now) }
+{
     let Some((before, rest)) = name.split_once('(') else {
         return Ok(Some(String::from_str(alloc, name)?));
     };
@@ -103,41 +102,85 @@ fn without_modifier(alloc: Global, name: &str) -> Result<Option<String>, AllocEr
 
 /// Returns the text before the first comma that is outside parentheses and double quotes, and the
 /// text after it.
-pub fn split_at_comma(text: &str) -> (&str, Option<&str>) {
-    let mut depth: usize = 0;
-    let mut is_quoted = false;
-    for (place, byte) in text.bytes().enumerate() {
-        match byte {
-            b'"' => is_quoted = !is_quoted,
-            _ if is_quoted => {}
-            b'(' => depth = depth.saturating_add(1),
-            b')' => depth = depth.saturating_sub(1),
-            b',' if depth == 0 => return split_around(text, place),
-            _ => {}
-        }
-    }
-    (text, None)
-}
-
-/// Returns the text before the comma at this offset, and the text after it.
-fn split_around(text: &str, place: usize) -> (&str, Option<&str>) {
-    match text.split_at_checked(place) {
-        Some((before, after)) => (before, after.strip_prefix(",")),
+pub fn split_at_comma(text: &str) -> (&str, Option<&str>)
+    ensures parts { pieces text.now ≡ result.0.now ∷ pieces_of_rest result.1 }
+    ensures whole { IfNone result.1 (result.0.now ≡ text.now) }
+{
+    match comma_of(text.as_bytes()) {
+        Some(place) => (&text[..place], Some(&text[place + 1..])),
         None => (text, None),
     }
 }
 
+/// Returns the place of the first comma that is outside parentheses and double quotes.
+fn comma_of(text: &[u8]) -> Option<usize>
+    ensures { IsCommaOf text.now result }
+{
+    let mut depth: usize = 0;
+    let mut is_quoted = false;
+    'bytes: for (place, byte) in text.iter().enumerate() {
+        if divides(*byte, depth, is_quoted) {
+            return Some(place);
+        }
+        depth = depth_after(*byte, depth, is_quoted);
+        is_quoted = is_quoted_after(*byte, is_quoted);
+    }
+    None
+}
+
+/// Whether the byte is a comma outside parentheses and double quotes.
+fn divides(byte: u8, depth: usize, is_quoted: bool) -> bool
+    ensures { result ≡ divides byte depth is_quoted }
+{
+    byte == b',' && depth == 0 && !is_quoted
+}
+
+/// Returns within how many parentheses the text after a byte is.
+fn depth_after(byte: u8, depth: usize, is_quoted: bool) -> usize
+    requires { depth + 1 < 2 ^ 64 }
+    ensures { result ≡ depth_after byte depth is_quoted }
+{
+    match byte {
+        b'(' if !is_quoted => depth + 1,
+        b')' if !is_quoted => depth.saturating_sub(1),
+        _ => depth,
+    }
+}
+
+/// Whether the text after a byte is within double quotes.
+fn is_quoted_after(byte: u8, is_quoted: bool) -> bool
+    ensures { result ≡ is_quoted_after byte is_quoted }
+{
+    if byte == b'"' { !is_quoted } else { is_quoted }
+}
+
 /// Returns the text after the name of a field of a composite type, which is in double quotes or
 /// ends at a space; `None` if there is none.
-pub fn after_field_name(field: &str) -> Option<&str> {
+pub fn after_field_name(field: &str) -> Option<&str>
+    ensures { option_map (λ s. s.now) result ≡ after_name (trim_start field.now) }
+{
     let field = field.trim_start();
-    let Some(mut quoted) = field.strip_prefix("\"") else {
-        return Some(field.split_once(' ')?.1);
-    };
-    // Two quotes in quotes are one.
-    for _ in 0..field.len() {
-        let (_, after) = quoted.split_once('"')?;
-        match after.strip_prefix("\"") {
+    match field.strip_prefix('"') {
+        Some(quoted) => after_quotes(quoted),
+        None => after_space(field),
+    }
+}
+
+/// Returns the text after the first space.
+fn after_space(text: &str) -> Option<&str>
+    ensures { option_map (λ s. s.now) result ≡ after_space text.now }
+{
+    let (_, after) = text.split_once(' ')?;
+    Some(after)
+}
+
+/// Returns the text after the quote that ends a name, in which two quotes are one.
+fn after_quotes(text: &str) -> Option<&str>
+    ensures { option_map (λ s. s.now) result ≡ after_quotes false text.now }
+{
+    let mut quoted = text;
+    while let Some((_, after)) = quoted.split_once('"') {
+        match after.strip_prefix('"') {
             Some(rest) => quoted = rest,
             None => return Some(after),
         }

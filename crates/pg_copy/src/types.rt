@@ -9,14 +9,15 @@ ghost use Rattle.pg_copy.specs.TypeNames.{base_of, has_arrays, has_name, names_o
 /// arrays; or, for a type of the schema `pg_catalog`, `catalog` with the functions that make both
 /// types. The macro `$rows` is called with the arguments and then all rows.
 ///
-/// The values of an enumerated type are labels, whose cells are like those of citext.
+/// The values of an enumerated type are labels, whose cells are like those of citext. A type that
+/// has no conversion may be named `raw`: its cells are read and written as those of bytea.
 macro_rules! base_types {
     ($rows:ident $args:tt) => {
         $rows! { $args
             Bit ["bit"] [postgres_types::BitVec, BIT, BIT_ARRAY],
             Bool ["bool" "boolean"] [bool, BOOL, BOOL_ARRAY],
             Bpchar ["bpchar" "character" "char"] [String, BPCHAR, BPCHAR_ARRAY],
-            Bytea ["bytea"] [Vec<u8>, BYTEA, BYTEA_ARRAY],
+            Bytea ["bytea" "raw"] [Vec<u8>, BYTEA, BYTEA_ARRAY],
             Char ["\"char\""] [i8, CHAR, CHAR_ARRAY],
             Cidr ["cidr"] [postgres_types::IpCidr, CIDR, CIDR_ARRAY],
             Citext ["citext"] [String, user "citext"],
@@ -28,10 +29,10 @@ macro_rules! base_types {
                 [pg_numbers::Float8, catalog(pg_numbers::types::float8_type, pg_numbers::types::float8_array_type)],
             Hstore ["hstore"] [std::collections::HashMap<String, Option<String>>, user "hstore"],
             Inet ["inet"] [postgres_types::IpInet, INET, INET_ARRAY],
-            Int2 ["int2" "smallint"] [i16, INT2, INT2_ARRAY],
+            Int2 ["int2" "smallint" "smallserial"] [i16, INT2, INT2_ARRAY],
             Int2Vector ["int2vector"] [Vec<i16>, INT2_VECTOR],
-            Int4 ["int4" "integer" "int"] [i32, INT4, INT4_ARRAY],
-            Int8 ["int8" "bigint"] [i64, INT8, INT8_ARRAY],
+            Int4 ["int4" "integer" "int" "serial"] [i32, INT4, INT4_ARRAY],
+            Int8 ["int8" "bigint" "bigserial"] [i64, INT8, INT8_ARRAY],
             Interval ["interval"] [postgres_types::Interval, INTERVAL, INTERVAL_ARRAY],
             Json ["json"] [postgres_types::JsonText<String>, JSON, JSON_ARRAY],
             Jsonb ["jsonb"] [postgres_types::JsonText<String>, JSONB, JSONB_ARRAY],
@@ -40,7 +41,7 @@ macro_rules! base_types {
             Ltxtquery ["ltxtquery"] [String, user "ltxtquery"],
             Macaddr ["macaddr"] [postgres_types::MacAddress, MACADDR, MACADDR_ARRAY],
             Name ["name"] [String, NAME, NAME_ARRAY],
-            Numeric ["numeric" "decimal"]
+            Numeric ["numeric" "decimal" "dec"]
                 [pg_numbers::Numeric, catalog(pg_numbers::types::numeric_type, pg_numbers::types::numeric_array_type)],
             Oid ["oid"] [u32, OID, OID_ARRAY],
             OidVector ["oidvector"] [Vec<u32>, OID_VECTOR],

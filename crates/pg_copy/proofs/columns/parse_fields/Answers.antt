@@ -1,28 +1,37 @@
 -- What the proof of `parse_fields` answers by hand.
-use Rattle.std.proofs.Common.{◌≡◌, ◌∷◌, ◌++◌, List, [], subst, sym}
-use Rattle.std.proofs.lemmas.List.Elements.{All-push}
-use Rattle.std.specs.List.{All}
-use Rattle.pg_copy.specs.ColumnTypes.{HasItsType}
-use Rattle.pg_copy.specs.declared.columns.Field.{Field}
-use Rattle.pg_copy.proofs.columns.parse_fields.Goals.{else-loop-test, then-loop-test+in_default}
-use Rattle.pg_copy.proofs.columns.parse_fields.Goals.{then-loop-test+in-Some+in-Some-after_field_name+else-is_some+in_ok-parse+in_ok-push+else-counter-end}
+use Rattle.std.proofs.Common.{◌≡◌, ◌∷◌, ap, ◌∙◌}
+use Rattle.std.proofs.lemmas.Result.{err_from_is_err_and}
+use Rattle.pg_copy.proofs.ColumnLaws.{fails_in_memory, fails_later, taken_all, taken_more}
+use Rattle.pg_copy.specs.ColumnTypes.{IsFieldOf}
+use Rattle.pg_copy.specs.Words.{pieces, pieces_of_rest}
 use Rattle.pg_copy.proofs.columns.parse_fields.Goals as goal
 
-pushed : (fields new : List Field) (field : Field) → new ≡ fields ++ field ∷ [] → All HasItsType fields
-    → HasItsType field → All HasItsType new
-pushed fields new field e all own = subst (λ l. All HasItsType l) (sym e) (All-push HasItsType fields field all own)
+pub returns-in_err-push-clause-err : goal.returns-in_err-push-clause-err
+returns-in_err-push-clause-err c =
+    let text = c.split_at_comma.result.0.now in
+    let after = pieces_of_rest c.split_at_comma.result.1 in
+    let rest = pieces_of_rest c.loop-rest.rest in
+    let is : rest ≡ text ∷ after = ap pieces_of_rest c.in-Some.is ∙ c.split_at_comma.ensures.parts in
+    let p = err_from_is_err_and c.from_residual-in_err-push.result c.from_residual-in_err-push.ensures.1 in
+    rw p.1 (c.loop-rest.invariant.refused p.0 (fails_in_memory rest after text p.0 is p.2))
 
-pub loop-preserved : goal.loop-preserved
-loop-preserved c =
-    pushed c.loop.fields.items c.push.new.self.items c.in_ok-parse.field-0 c.in_ok-push.ensures.items c.loop.invariant
-    c.in_ok-parse.ensures
+pub loop-rest-preserved : goal.loop-rest-preserved
+loop-rest-preserved c =
+    let text = c.split_at_comma.result.0.now in
+    let after = pieces_of_rest c.split_at_comma.result.1 in
+    let rest = pieces_of_rest c.loop-rest.rest in
+    let is : rest ≡ text ∷ after = ap pieces_of_rest c.in-Some.is ∙ c.split_at_comma.ensures.parts in
+    let field = c.in_ok-parse_field.field-0 in
+    let l = c.loop-rest in
+    record {
+      taken = taken_more IsFieldOf (pieces c.args.text.now) rest after text l.fields.items c.push.new.self.items field
+          is
+          l.invariant.taken c.in_ok-parse_field.ensures.ok c.in_ok-push.ensures.items;
+      refused = λ fault later. l.invariant.refused fault
+          (fails_later rest after text field fault is c.in_ok-parse_field.ensures.ok later);
+    }
 
-pub returns : goal.returns
-returns c =
-    elim c.loop-test.branch [
-      | else-loop-test w ↦ rw w.fields-is c.loop.invariant
-      | then-loop-test+in_default w ↦ rw w.fields-is c.loop.invariant
-      | then-loop-test+in-Some+in-Some-after_field_name+else-is_some+in_ok-parse+in_ok-push+else-counter-end w ↦
-          rw w.fields-is (pushed c.loop.fields.items w.push.new.self.items w.in_ok-parse.field-0
-          w.in_ok-push.ensures.items c.loop.invariant w.in_ok-parse.ensures)
-    ]
+pub returns-clause-ok : goal.returns-clause-ok
+returns-clause-ok c =
+    taken_all IsFieldOf (pieces c.args.text.now) (pieces_of_rest c.loop-rest.rest) c.loop-rest.fields.items
+    (ap pieces_of_rest c.in_default.is) c.loop-rest.invariant.taken

@@ -1,0 +1,37 @@
+-- What the proof of `without_modifier` answers by hand.
+use Rattle.std.proofs.Common.{◌≡◌, ◌++◌, Some, ap, arith, option_map, ◌∙◌}
+use Rattle.std.specs.Str.{trim_end}
+use Rattle.std.specs.Prelude.{string_bytes}
+use Rattle.pg_copy.proofs.QuoteLaws.{split_once_around}
+use Rattle.pg_copy.specs.TypeNames.{unmodified}
+use Rattle.pg_copy.proofs.type_names.without_modifier.Goals as goal
+
+pub returns-in_default : goal.returns-in_default
+returns-in_default c =
+    let name = c.args.name.now in
+    let cut = rw c.in_default.is at (split_once_around 40 name c.split_once.result c.split_once.ensures.cases
+    (omega arith)) in
+    ap (λ s. Some s) c.in_ok-from_str.ensures.ok ∙ ap (unmodified name) cut
+
+pub returns-in_default-split_once : goal.returns-in_default-split_once
+returns-in_default-split_once c =
+    let name = c.args.name.now in
+    let cut = rw c.in-Some.is at (split_once_around 40 name c.split_once.result c.split_once.ensures.cases
+    (omega arith)) in
+    let unclosed = rw c.in_default-split_once.is at (split_once_around 41 c.in-Some.rest.now c.split_once-2.result
+    c.split_once-2.ensures.cases (omega arith)) in
+    ap (option_map (λ parts. trim_end c.in-Some.before.now ++ parts.1)) unclosed ∙ ap (unmodified name) cut
+
+pub returns : goal.returns
+returns c =
+    let name = c.args.name.now in
+    let before = c.in-Some.before.now in
+    let cut = rw c.in-Some.is at (split_once_around 40 name c.split_once.result c.split_once.ensures.cases
+    (omega arith)) in
+    let closed = rw c.in-Some-split_once.is at (split_once_around 41 c.in-Some.rest.now c.split_once-2.result
+    c.split_once-2.ensures.cases (omega arith)) in
+    let front : string_bytes c.in_ok-plain.plain ≡ trim_end before = c.in_ok-plain.ensures.ok ∙ c.trim_end.ensures.trim
+    in
+    let whole : string_bytes c.push_str.new.self ≡ trim_end before ++ c.in-Some-split_once.after.now =
+    c.in_ok-push_str.ensures.bytes ∙ ap (λ f. f ++ c.in-Some-split_once.after.now) front in
+    ap (λ s. Some s) whole ∙ ap (option_map (λ parts. trim_end before ++ parts.1)) closed ∙ ap (unmodified name) cut
