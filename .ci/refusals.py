@@ -87,19 +87,28 @@ class Record:
 class Lines:
     """The lines of `.ci/refused`: of each crate the checksum, how many edits were refused, and how many there are."""
 
-    HEAD = "# The must-fail edits of each crate that a run of {} refused, and the checksum of what they were tried over.\n"
+    HEAD = "# The must-fail edits of each crate that a run refused, by kits of {}, and the checksum of what they were tried over.\n"
 
     def __init__(self):
-        self.kit, self.by_crate = "", {}
+        self.logic, self.by_crate = "", {}
         with open(REFUSED, encoding="utf-8") as it:
             for line in map(str.split, it):
                 if line[0] == "#":
-                    self.kit = next((word for word in line if word.startswith("rattle-kit")), "")
+                    self.logic = " ".join(line)
                 elif len(line) == 5:
                     self.by_crate[line[0]] = line[1], int(line[2]), int(line[4])
+
+    @staticmethod
+    def head():
+        """Returns the first line, which names the kit's logic, as the checksums do: kits of one logic have the same lines."""
+        return Lines.HEAD.format(" ".join(kit_words()[1:]))
+
+    def are_of_kit(self):
+        """Returns whether the lines were written with a kit of this logic."""
+        return self.logic == self.head().strip()
 
     def write(self, order):
         """Writes the lines, lowest crate first."""
         with open(REFUSED, "w", encoding="utf-8") as it:
-            it.write(self.HEAD.format(kit_words()[0]))
+            it.write(self.head())
             it.writelines("{} {} {} of {}\n".format(crate, *self.by_crate[crate]) for crate in order if crate in self.by_crate)

@@ -1,2 +1,3 @@
--- Definitions of what the program leaves.
+-- Definitions of what the program is asked for, and of what it leaves.
+pub mod Commands
 pub mod Outputs

@@ -2,15 +2,19 @@
 //! or such lines to a binary COPY.
 //!
 //! The exit status is 0 if the whole input was converted, and 1 otherwise. A message on standard
-//! error says why. If standard error is a terminal, it shows the progress of the COPY.
+//! error says why, unless the output is a pipe that its reader closed. If standard error is a
+//! terminal, it shows the progress of the COPY.
 #![tactic(auto)]
 
-ghost use Rattle.std.specs.Prelude.{IfErr, OnOk};
+ghost use Rattle.std.specs.Prelude.{◌≡◌, IfErr, IfOk, IfSome, OnErr, OnOk};
+ghost use Rattle.std.specs.Process.{exit_status};
+ghost use Rattle.copy_cells.specs.Commands.{AreTypes, IsAsked, word_of};
 ghost use Rattle.copy_cells.specs.Outputs.{Converts, Leaves};
 
 mod progress;
+mod watched;
 
-use anyhow::{Result, bail};
+use anyhow::{Context, Result, bail};
 use pg_copy::arguments::{Request, parse};
 use pg_copy::columns::Column;
 use pg_copy::copy_fault::CopyFault;
@@ -19,8 +23,14 @@ use pg_copy::types::Base;
 use pg_copy::write::write;
 use progress::Progress;
 use std::alloc::Global;
+use std::cell::Cell;
 use std::fmt::Write;
+use std::process::ExitCode;
 use std::{env, io};
+use watched::Watched;
+
+/// What `--version` prints.
+const VERSION: &str = "Nidzovu 0.1.0";
 
 /// The text that `--help` prints before the names of types.
 const HELP: &str = "\
@@ -84,20 +94,58 @@ impl Direction {
     }
 }
 
-fn main(rt: HostRuntime) -> Result<()> {
-    let words: Vec<String> = env::args(&rt)?.skip(1).collect(rt.alloc())?;
-    let Some((direction, columns)) = asked(rt.alloc(), words.as_slice())? else {
-        return help(&rt);
-    };
-    let (columns, mut input, mut output) = (columns.as_slice(), rt.stdin(), rt.stdout());
+fn main(rt: HostRuntime) -> Result<ExitCode> {
+    let args = env::args(&rt).context("reading the arguments, which have to be UTF-8")?;
+    let words: Vec<String> = args.skip(1).collect(rt.alloc())?;
+    match request_of(rt.alloc(), words.as_slice())? {
+        Asked::Help => help(&rt)?,
+        Asked::Version => println!(rt; "{VERSION}")?,
+        Asked::Copy(direction, columns) => return copy(rt, direction, columns.as_slice()),
+    }
+    Ok(ExitCode::SUCCESS)
+}
+
+/// Converts standard input, and shows the progress if there is a terminal for it.
+fn copy(rt: HostRuntime, direction: Direction, columns: &[Column]) -> Result<ExitCode> {
+    let error = Cell::new(None);
+    let mut input = Watched::new(rt.stdin(), &error);
+    let mut output = Watched::new(rt.stdout(), &error);
     let Some(progress) = Progress::start(rt) else {
-        return Ok(direction.copy(rt.alloc(), columns, &mut input, &mut output)?);
+        let outcome = direction.copy(rt.alloc(), columns, &mut input, &mut output);
+        return ended(outcome, error.get());
     };
     let mut input = progress.count(input, matches!(direction, Direction::Write));
     let mut output = progress.count(output, matches!(direction, Direction::Read));
     let outcome = direction.copy(rt.alloc(), columns, &mut input, &mut output);
     progress.finish(direction.tells(&outcome));
-    Ok(outcome?)
+    ended(outcome, error.get())
+}
+
+/// Returns the exit status, which is 0 exactly if the whole input was converted. Otherwise a message
+/// tells the fault, and for a failed read or write the error of the stream; but not that a pipe is
+/// closed, whose reader wants no more.
+fn ended(outcome: Result<(), CopyFault>, error: Option<io::Error>) -> Result<ExitCode>
+    ensures whole { OnOk outcome (IfOk result (λ code. exit_status code ≡ 0)) }
+    ensures part { IfOk result (λ code. exit_status code ≡ 0 → OnErr outcome ⊥) }
+{
+    let Err(fault) = outcome else {
+        return Ok(ExitCode::from(0));
+    };
+    let Some(error) = error_of(&fault, error) else {
+        return Err(fault.into());
+    };
+    if error.kind() == io::ErrorKind::BrokenPipe {
+        return Ok(ExitCode::from(1));
+    }
+    bail!("{fault}: {error}")
+}
+
+/// Returns the error of the stream, if the fault is that of a stream.
+fn error_of(fault: &CopyFault, error: Option<io::Error>) -> Option<io::Error> {
+    match fault {
+        CopyFault::Read | CopyFault::Write => error,
+        _ => None,
+    }
 }
 
 /// Prints the help.
@@ -129,20 +177,53 @@ fn names(alloc: Global, has_arrays: bool) -> Result<String> {
     Ok(names)
 }
 
-/// Returns the direction and the columns that the words of a command line ask for, or `None` if
-/// they ask for help.
-fn asked(alloc: Global, words: &[String]) -> Result<Option<(Direction, Vec<Column>)>> {
+/// What the words of a command line ask for.
+#[derive(Drop)]
+enum Asked {
+    Help,
+    Version,
+    Copy(Direction, Vec<Column>),
+}
+
+/// Returns the direction that a word asks for.
+fn direction_of(word: &str) -> Option<Direction>
+    ensures { IfSome result (λ direction. word.now ≡ word_of direction) }
+{
+    match word {
+        "read" => Some(Direction::Read),
+        "write" => Some(Direction::Write),
+        _ => None,
+    }
+}
+
+/// Returns the words that are types: those after `--`, or all.
+fn types_of(words: &[String]) -> &[String]
+    ensures { AreTypes words.now result.now }
+{
+    match words.split_first() {
+        Some((first, types)) if first.as_str() == "--" => types,
+        _ => words,
+    }
+}
+
+/// Returns what the words of a command line ask for.
+fn request_of(alloc: Global, words: &[String]) -> Result<Asked>
+    ensures { IfOk result (IsAsked words.now) }
+{
     let Some((word, rest)) = words.split_first() else {
         bail!("no direction is given; --help says how");
     };
-    let direction = match word.as_str() {
-        "--help" => return Ok(None),
-        "read" => Direction::Read,
-        "write" => Direction::Write,
-        _ => bail!("no direction {word}; --help says which"),
+    if word.as_str() == "--help" {
+        return Ok(Asked::Help);
+    }
+    if word.as_str() == "--version" || rest.first().is_some_and(|it| it.as_str() == "--version") {
+        return Ok(Asked::Version);
+    }
+    let Some(direction) = direction_of(word.as_str()) else {
+        bail!("no direction {word}; --help says which");
     };
-    match parse(alloc, rest)? {
-        Request::Help => Ok(None),
-        Request::Copy(columns) => Ok(Some((direction, columns))),
+    match parse(alloc, types_of(rest))? {
+        Request::Help => Ok(Asked::Help),
+        Request::Copy(columns) => Ok(Asked::Copy(direction, columns)),
     }
 }

@@ -5,7 +5,6 @@ use crate::item::Item;
 use anyhow::Result;
 use pg_client::{Column, CopyParts, RowWriter};
 use pg_messages::frontend::{copy_fail, query};
-use pg_messages::message::Message;
 use postgres_types::Type;
 use std::alloc::Global;
 
@@ -18,17 +17,13 @@ pub fn copy_out(alloc: Global, link: &mut Server, columns: &[Column]) -> Result<
     let mut items = Vec::new(alloc);
     let mut bytes = Vec::new(alloc);
     for _ in 0..u64::MAX {
-        match link.next()? {
-            Message::CopyData(part) => {
-                bytes.extend_from_slice(part)?;
-                let mut rest = bytes.as_slice();
-                take_items(alloc, &mut copy, &mut rest, &mut items)?;
-                let after = rest.to_vec(alloc)?;
-                bytes = after;
-            }
-            Message::ReadyForQuery(_) => break,
-            _ => {}
+        if !link.copy_part(&mut bytes)? {
+            break;
         }
+        let mut rest = bytes.as_slice();
+        take_items(alloc, &mut copy, &mut rest, &mut items)?;
+        let after = rest.to_vec(alloc)?;
+        bytes = after;
     }
     copy.finish()?;
     Ok(items)

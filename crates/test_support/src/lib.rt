@@ -15,10 +15,10 @@ pub mod without_memory;
 mod word;
 mod writing;
 
-pub use formats::{has_cells, has_functions};
+pub use formats::has_cells;
 pub use memory::hoard;
 pub use params::binds;
-pub use plain::{appends, fault_code, parses};
+pub use plain::{appends, fault_code};
 pub use reading::{read, reads, refusal, refuses, refuses_fronts};
 pub use refusals::refuses_both;
 use std::fmt::Debug;

@@ -1,11 +1,10 @@
 //! Tables of plain functions, which need no Postgres type.
 
-use crate::without_memory::{Answered, Target, answer_without_memory, gives, yes};
-use crate::{hoard, same};
+use crate::same;
+use crate::without_memory::{Answered, Target, answer_without_memory, yes};
 use postgres_types::Fault;
 use postgres_types::private::BytesMut;
 use std::alloc::Global;
-use std::fmt::Debug;
 use std::test::Fail;
 
 /// Tests that the function appends the cell of each value to a buffer with exactly the room for it.
@@ -43,38 +42,6 @@ pub fn appends<T: Copy, F: Fn(Global, T, &mut BytesMut) -> Result<(), Fault>>(
         alloc,
         |alloc, target| appends_by_room(alloc, &append, rows, target),
     )
-}
-
-/// Tests that the function reads each cell as its value.
-fn gives_values<'a, T: Copy + PartialEq, F: Fn(&'a [u8]) -> Result<T, Fault>>(
-    parse: &F,
-    rows: &[(T, &'a [u8])],
-) -> Answered
-    requires { F.IsAlwaysCallable parse.now }
-{
-    for (value, cell) in rows {
-        yes(gives(parse(*cell), *value), "another value")?;
-    }
-    Ok(())
-}
-
-/// Tests that the function reads each cell as its value, without allocating.
-pub fn parses<'a, T: Copy + PartialEq + Debug, F: Fn(&'a [u8]) -> Result<T, Fault>>(
-    alloc: Global,
-    parse: F,
-    rows: &[(T, &'a [u8])],
-) -> Result<(), Fail>
-    requires { F.IsAlwaysCallable parse }
-{
-    for (value, cell) in rows {
-        same(parse(*cell)?, *value)?;
-    }
-    gives_values(&parse, rows)?;
-    let blocks = hoard(alloc)?;
-    let answered = gives_values(&parse, rows);
-    drop(blocks);
-    answered?;
-    Ok(())
 }
 
 /// Returns the number of the fault, or 0 if there is none.

@@ -27,6 +27,5 @@ mod numeric;
 mod texts;
 mod timestamps;
 mod types;
-mod user_timestamp;
 mod without_memory;
 mod writing;

@@ -1,12 +1,9 @@
 //! The cells of an array, read in place and appended.
 
 use super::cells::{NO_DIMENSION, NULL, ONE_AND_TWO, TRAILING_BYTE};
-use postgres_types::Fault;
 use postgres_types::private::BytesMut;
 use postgres_types::protocol::{ArrayCells, array_from_sql, array_to_sql};
-use std::alloc::Global;
 use std::test::Fail;
-use test_support::without_memory::{answer_without_memory, gives as answers, yes};
 use test_support::{code, same};
 
 const ONE: Option<&[u8]> = Some(&[0, 0, 0, 1]);
@@ -84,28 +81,4 @@ fn an_array_of_null_is_appended(rt: HostRuntime) -> Result<(), Fail> {
     let mut out = BytesMut::new(alloc);
     array_to_sql(alloc, -1, 0x0102_0304, &[], &[None], &mut out)?;
     same(out.as_slice(), cell.as_slice())
-}
-
-/// Tests that the two elements of the array are returned in their order.
-fn gives_both(alloc: Global) -> Result<(), Fault> {
-    let Ok(mut cells) = array_from_sql(alloc, &ONE_AND_TWO) else {
-        return Err(Fault::user("array_from_sql"));
-    };
-    let first = cells.next().transpose();
-    yes(answers(first, Some(ONE)), "the first element")?;
-    let second = cells.next().transpose();
-    yes(answers(second, Some(TWO)), "the second element")?;
-    yes(cells.next().is_none(), "the end of the array")
-}
-
-#[test]
-fn elements_are_read_and_appended_without_memory(rt: HostRuntime) -> Result<(), Fail> {
-    answer_without_memory(rt.alloc(), |alloc, target| {
-        gives_both(alloc)?;
-        target.leave(ONE_AND_TWO.len())?;
-        let scratch = [0, 0, 0, 1, 0, 0, 0, 2];
-        let lengths = [Some(4), Some(4)];
-        let appended = array_to_sql(alloc, 1, 23, &scratch, &lengths, &mut target.out).is_ok();
-        yes(appended && target.has(&ONE_AND_TWO), "array_to_sql")
-    })
 }

@@ -2,10 +2,7 @@
 
 use postgres_types::{Format, ToSql, Type};
 use std::test::Fail;
-use test_support::{
-    accepts, code, null_takes_no_memory, refusal, refuses, refuses_type, same, simple_type, spells,
-    writes_by_room,
-};
+use test_support::{accepts, code, refusal, refuses, refuses_type, same, simple_type, spells};
 
 #[test]
 fn a_box_holds_what_is_read(rt: HostRuntime) -> Result<(), Fail> {
@@ -45,13 +42,4 @@ fn a_box_refuses_the_types_that_its_value_does(rt: HostRuntime) -> Result<(), Fa
     let boxed = Box::new(alloc, 7i32)?;
     refuses_type(alloc, &boxed, &Type::TEXT, "Box")?;
     refuses_type(alloc, &boxed, &odd, "Box")
-}
-
-#[test]
-fn boxes_and_options_are_written_without_memory(rt: HostRuntime) -> Result<(), Fail> {
-    let alloc = rt.alloc();
-    let seven = [0, 0, 0, 7];
-    writes_by_room(alloc, &Type::INT4, &Box::new(alloc, 7i32)?, &seven)?;
-    writes_by_room(alloc, &Type::INT4, &Some(7i32), &seven)?;
-    null_takes_no_memory::<Box<Option<i32>>>(alloc, &Type::INT4)
 }

@@ -17,4 +17,3 @@ mod timestamps;
 mod user_defined;
 mod view;
 mod workers;
-mod wrappers;

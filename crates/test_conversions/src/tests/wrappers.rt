@@ -1,11 +1,10 @@
 //! A user-defined Rust type in every wrapper, and bound with others.
 
 use own_types::newtype::Days;
-use postgres_types::private::read_values;
 use postgres_types::{Date, FromSql, ToSql, Type};
 use std::boxed::BoxedSlice;
 use std::test::Fail;
-use test_support::{binds, reads, rewrites, same, spells, writes, writes_null};
+use test_support::{binds, reads, spells, writes, writes_null};
 
 /// 2000-01-08
 const WEEK: [u8; 4] = [0, 0, 0, 7];
@@ -85,24 +84,6 @@ fn wrappers_nest_over_user_defined_values(rt: HostRuntime) -> Result<(), Fail> {
         &NULL_AND_WEEK,
         [None, Some(Days(7))],
     )
-}
-
-#[test]
-fn user_defined_values_are_rewritten(rt: HostRuntime) -> Result<(), Fail> {
-    let alloc = rt.alloc();
-    rewrites::<Days>(alloc, &Type::DATE, &WEEK, &WEEK)?;
-    rewrites::<Vec<Option<Date<Days>>>>(alloc, &Type::DATE_ARRAY, &NULL_AND_WEEK, &NULL_AND_WEEK)
-}
-
-#[test]
-fn user_defined_values_are_read_in_a_row(rt: HostRuntime) -> Result<(), Fail> {
-    if !<Days as FromSql>::accepts(&Type::DATE) {
-        return Err(Fail::from("not accepted"));
-    }
-    let mut buf: &[u8] = &TWO[20..];
-    let days: Vec<Days> = read_values(rt.alloc(), &Type::DATE, 2, &mut buf)?;
-    same(days.as_slice(), &DAYS)?;
-    same(buf, &[])
 }
 
 #[test]

@@ -19,3 +19,4 @@ mod row_writer;
 mod rows;
 mod sent_messages;
 mod to_row;
+mod tuple_rows;

@@ -1,13 +1,11 @@
 //! Bit strings: a table of rows for each format, and the list of bits.
 
-use pg_base::bits::laws::same_bits;
 use postgres_types::private::BytesMut;
-use postgres_types::protocol::{varbit_from_sql, varbit_to_sql};
+use postgres_types::protocol::varbit_from_sql;
 use postgres_types::{BitVec, Fault, IsNull, ToSql, Type};
 use std::alloc::Global;
 use std::test::Fail;
 use test_support::code::{COUNT, SIZE, WAS_NULL};
-use test_support::without_memory::{answer_without_memory, yes};
 use test_support::{
     debugs, holds, null_takes_no_memory, read, reads, refuses, refuses_fronts, rewrites, same,
     spells, writes_by_room,
@@ -88,14 +86,6 @@ fn parsed_bits_keep_their_padding(rt: HostRuntime) -> Result<(), Fail> {
     same(bits.bytes(), [0xbfu8].as_slice())
 }
 
-#[test]
-fn appended_bits_have_no_padding_but_0(rt: HostRuntime) -> Result<(), Fail> {
-    let alloc = rt.alloc();
-    let mut out = BytesMut::new(alloc);
-    varbit_to_sql(alloc, 9, &[0xff, 0xff], &mut out)?;
-    same(out.as_slice(), [0u8, 0, 0, 9, 0xff, 0x80].as_slice())
-}
-
 /// Returns nine bits, of which every third is 1.
 fn thirds(alloc: Global) -> Result<BitVec, Fault> {
     let mut bits = BitVec::new(alloc);
@@ -103,13 +93,6 @@ fn thirds(alloc: Global) -> Result<BitVec, Fault> {
         bits.push(i % 3 == 0)?;
     }
     Ok(bits)
-}
-
-#[test]
-fn a_new_list_is_empty(rt: HostRuntime) -> Result<(), Fail> {
-    let mut bits = BitVec::new(rt.alloc());
-    holds(bits.is_empty(), "not empty")?;
-    same(bits.pop(), None)
 }
 
 #[test]
@@ -134,34 +117,6 @@ fn bits_are_popped_from_the_end(rt: HostRuntime) -> Result<(), Fail> {
     same(bits.to_bytes(alloc)?.as_slice(), [0b1001_0000u8].as_slice())
 }
 
-#[test]
-fn lists_of_the_same_bits_are_equal(rt: HostRuntime) -> Result<(), Fail> {
-    let alloc = rt.alloc();
-    let mut bits = thirds(alloc)?;
-    same(bits.pop(), Some(false))?;
-    let equal = BitVec::from_bytes(alloc, &[0b1001_0010])?;
-    holds(bits == equal, "different by ==")?;
-    holds(same_bits(&bits, &equal), "different")
-}
-
-#[test]
-fn lists_of_other_bits_are_different(rt: HostRuntime) -> Result<(), Fail> {
-    let alloc = rt.alloc();
-    let mut bits = thirds(alloc)?;
-    same(bits.pop(), Some(false))?;
-    let other = BitVec::from_bytes(alloc, &[0b1001_0011])?;
-    holds(!same_bits(&bits, &other), "equal")
-}
-
-#[test]
-fn many_bits_are_pushed(rt: HostRuntime) -> Result<(), Fail> {
-    let mut bits = BitVec::new(rt.alloc());
-    for _ in 0..1_000 {
-        bits.push(true)?;
-    }
-    same(bits.to_bytes(rt.alloc())?.len(), 125)
-}
-
 /// A bit string of 1 MB. If there is enough memory it is written and read, which no contract
 /// states.
 #[test]
@@ -183,25 +138,6 @@ fn bits_are_written_without_memory(rt: HostRuntime) -> Result<(), Fail> {
     let bits = BitVec::from_bytes(alloc, &[0xa5])?;
     writes_by_room(alloc, &Type::VARBIT, &bits, &[0, 0, 0, 8, 0xa5])?;
     null_takes_no_memory::<BitVec>(alloc, &Type::VARBIT)
-}
-
-#[test]
-fn the_format_of_bits_takes_no_memory(rt: HostRuntime) -> Result<(), Fail> {
-    answer_without_memory(rt.alloc(), |alloc, target| {
-        let Ok(bits) = varbit_from_sql(&PADDED) else {
-            return Err(Fault::user("varbit_from_sql"));
-        };
-        yes(
-            bits.len() == 3 && bits.bytes() == [0xbfu8].as_slice(),
-            "Varbit",
-        )?;
-        target.leave(6)?;
-        let appended = varbit_to_sql(alloc, 9, &[0xff, 0xff], &mut target.out).is_ok();
-        yes(
-            appended && target.has(&[0, 0, 0, 9, 0xff, 0x80]),
-            "varbit_to_sql",
-        )
-    })
 }
 
 #[test]

@@ -3,10 +3,9 @@
 use jiff::Timestamp;
 use jiff::civil::{Date, DateTime, Time};
 use postgres_types::Type;
-use postgres_types::protocol::{date_from_sql, date_to_sql, time_from_sql, time_to_sql};
 use std::test::Fail;
 use test_support::code::{DECODE, SIZE, WAS_NULL};
-use test_support::{accepts, displays, has_cells, has_functions, reads, simple_type, writes};
+use test_support::{accepts, displays, has_cells, reads, simple_type, writes};
 
 /// Year, month and day.
 type Day = (i16, i8, i8);
@@ -202,38 +201,4 @@ fn timestamps_accept_no_other_type(rt: HostRuntime) -> Result<(), Fail> {
     let timestamp = simple_type(rt.alloc(), "timestamp", 1_114, "pg_catalog")?;
     accepts::<DateTime>(&[(Type::TIMESTAMPTZ, false), (timestamp, false)])?;
     accepts::<Timestamp>(&[(Type::TIMESTAMP, false)])
-}
-
-/// Days, and their cells.
-const COUNTS_OF_DAYS: [(i32, &[u8]); 3] = [
-    (7, &[0, 0, 0, 7]),
-    (i32::MIN, &[0x80, 0, 0, 0]),
-    (i32::MAX, &[0x7f, 0xff, 0xff, 0xff]),
-];
-
-#[test]
-fn the_format_of_dates_has_every_count(rt: HostRuntime) -> Result<(), Fail> {
-    has_functions(
-        rt.alloc(),
-        |alloc, v, out| date_to_sql(alloc, v, out),
-        |cell| date_from_sql(cell),
-        &COUNTS_OF_DAYS,
-    )
-}
-
-/// Microseconds, and their cells.
-const COUNTS_OF_MICROSECONDS: [(i64, &[u8]); 3] = [
-    (1, &[0, 0, 0, 0, 0, 0, 0, 1]),
-    (86_399_999_999, &LAST_TIME),
-    (-1, &[0xff; 8]),
-];
-
-#[test]
-fn the_format_of_times_has_every_count(rt: HostRuntime) -> Result<(), Fail> {
-    has_functions(
-        rt.alloc(),
-        |alloc, v, out| time_to_sql(alloc, v, out),
-        |cell| time_from_sql(cell),
-        &COUNTS_OF_MICROSECONDS,
-    )
 }

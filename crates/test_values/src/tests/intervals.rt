@@ -1,13 +1,9 @@
 //! Intervals of time: a table of rows, and the faults of their cells.
 
-use pg_base::interval::laws::same_interval;
-use postgres_types::protocol::{interval_from_sql, interval_to_sql};
 use postgres_types::{Interval, Type};
 use std::test::Fail;
 use test_support::code::{SIZE, WAS_NULL};
-use test_support::{
-    accepts, debugs, has_cells, has_functions, holds, refuses_type, rewrites, spells,
-};
+use test_support::{accepts, has_cells, refuses_type, rewrites, spells};
 
 /// Microseconds, days and months, and their cell. The third row is of `1 mon 2 days 00:00:03`, the
 /// last two are those that PostgreSQL reads as infinities.
@@ -88,25 +84,4 @@ fn intervals_accept_their_type_alone(rt: HostRuntime) -> Result<(), Fail> {
         (Type::INT8, false),
     ])?;
     refuses_type(rt.alloc(), &interval((1, 2, 3)), &Type::INT8, "Interval")
-}
-
-#[test]
-fn intervals_are_appended_and_parsed(rt: HostRuntime) -> Result<(), Fail> {
-    has_functions(
-        rt.alloc(),
-        |alloc, v, out| interval_to_sql(alloc, v.0, v.1, v.2, out),
-        |cell| interval_from_sql(cell),
-        &INTERVALS,
-    )
-}
-
-#[test]
-fn intervals_of_other_parts_are_different(rt: HostRuntime) -> Result<(), Fail> {
-    let value = interval((1, 2, 3));
-    holds(same_interval(&value, &value), "different")?;
-    for parts in [(2, 2, 3), (1, 3, 3), (1, 2, 4)] {
-        holds(!same_interval(&value, &interval(parts)), "equal")?;
-    }
-    let text = "Interval { microseconds: 1, days: 2, months: 3 }";
-    debugs(rt.alloc(), &value, text)
 }

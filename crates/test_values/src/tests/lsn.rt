@@ -1,12 +1,11 @@
 //! Log sequence numbers: their texts, their order and their cells.
 
-use pg_base::lsn::laws::{position_order, position_text_parses, same_position};
-use postgres_types::protocol::{lsn_from_sql, lsn_to_sql};
+use pg_base::lsn::laws::{position_order, position_text_parses};
 use postgres_types::{PgLsn, Type};
 use std::cmp::Ordering;
 use std::test::Fail;
-use test_support::code::{SIZE, USER, WAS_NULL};
-use test_support::{debugs, displays, has_cells, has_functions, holds, reads, refuses, same};
+use test_support::code::{SIZE, WAS_NULL};
+use test_support::{debugs, displays, has_cells, holds, reads, same};
 
 /// A text, the number that it is parsed to, and the text of that.
 const POSITIONS: [(&str, u64, &str); 9] = [
@@ -86,35 +85,12 @@ fn positions_are_ordered_as_their_numbers(rt: HostRuntime) -> Result<(), Fail> {
 }
 
 #[test]
-fn positions_are_equal_as_their_numbers(rt: HostRuntime) -> Result<(), Fail> {
-    let (low, high) = (PgLsn::from(0xFFFF_FFFF), PgLsn::from(0x1_0000_0000));
-    holds(low == low.clone()?, "different")?;
-    holds(!same_position(&low, &high), "equal")
-}
-
-#[test]
 fn positions_have_their_cells(rt: HostRuntime) -> Result<(), Fail> {
     let alloc = rt.alloc();
     let [(number, cell)] = LSN;
     let row = [(PgLsn::from(number), cell)];
     has_cells(alloc, &Type::PG_LSN, &row, &DAMAGED)?;
     reads(alloc, &Type::PG_LSN, &[0xff; 8], PgLsn::from(u64::MAX))
-}
-
-#[test]
-fn positions_are_appended_and_parsed_from_cells(rt: HostRuntime) -> Result<(), Fail> {
-    has_functions(
-        rt.alloc(),
-        |alloc, v, out| lsn_to_sql(alloc, v, out),
-        |cell| lsn_from_sql(cell),
-        &LSN,
-    )
-}
-
-#[test]
-fn an_integer_is_no_position(rt: HostRuntime) -> Result<(), Fail> {
-    let [(_, cell)] = LSN;
-    refuses::<PgLsn>(rt.alloc(), &Type::INT8, &[(Some(cell), USER)])
 }
 
 #[test]

@@ -36,21 +36,3 @@ fn writes_into_room_are_not_refused(rt: HostRuntime) -> Result<(), Fail> {
     same(room.as_slice(), [0u8, 0, 0, 7].as_slice())?;
     holds(full.is_empty(), "appended")
 }
-
-#[test]
-fn texts_are_read_with_ample_memory(rt: HostRuntime) -> Result<(), Fail> {
-    let alloc = rt.alloc();
-    let text: String = from_sql_nullable(alloc, &Type::TEXT, Some(b"ab"))?;
-    same(text.as_str(), "ab")?;
-    let text: Option<String> = from_sql_nullable(alloc, &Type::TEXT, Some(b"cd"))?;
-    same(text.as_ref().map(|text| text.as_str()), Some("cd"))
-}
-
-#[test]
-fn borrowed_texts_and_null_are_read(rt: HostRuntime) -> Result<(), Fail> {
-    let alloc = rt.alloc();
-    let text: &str = from_sql_nullable(alloc, &Type::TEXT, Some(b"ef"))?;
-    same(text, "ef")?;
-    let number: Option<i32> = from_sql_nullable(alloc, &Type::INT4, None)?;
-    same(number, None)
-}

@@ -1,19 +1,12 @@
 //! Network addresses, MAC addresses and UUIDs: a table of rows for each format.
 
-use pg_base::network::laws::{same_cidr, same_inet, same_mac_address};
 use postgres_types::private::BytesMut;
-use postgres_types::protocol::{
-    inet_from_sql, inet_to_sql, macaddr_from_sql, macaddr_to_sql, uuid_from_sql, uuid_to_sql,
-};
-use postgres_types::{Fault, IpCidr, IpInet, MacAddress, Type};
+use postgres_types::protocol::{inet_from_sql, inet_to_sql};
+use postgres_types::{IpCidr, IpInet, MacAddress, Type};
 use std::net::{IpAddr, Ipv4Addr, Ipv6Addr};
 use std::test::Fail;
 use test_support::code::{ADDRESS_LENGTH, FAMILY, HOST_BITS, NETMASK, SIZE, WAS_NULL};
-use test_support::without_memory::{answer_without_memory, yes};
-use test_support::{
-    debugs, fault_code, has_cells, has_functions, holds, reads, refusal, refuses_fronts, rewrites,
-    same,
-};
+use test_support::{debugs, fault_code, has_cells, reads, refusal, refuses_fronts, rewrites, same};
 use uuid::Uuid;
 
 /// The cell of ::1, alone in its network.
@@ -79,17 +72,6 @@ const NETWORKS: [(u8, [u8; 4], u32); 8] = [
     (31, [10, 1, 2, 2], 0),
     (31, [10, 1, 2, 3], HOST_BITS),
     (32, [10, 1, 2, 3], 0),
-];
-
-/// A length, the last byte of an address 2001:db8::n, and the fault with which the network is
-/// refused.
-const NETWORKS_V6: [(u8, u8, u32); 6] = [
-    (64, 0, 0),
-    (64, 1, HOST_BITS),
-    (127, 2, 0),
-    (127, 1, HOST_BITS),
-    (128, 1, 0),
-    (0, 0, HOST_BITS),
 ];
 
 const MAC: [([u8; 6], &[u8]); 2] = [
@@ -185,18 +167,6 @@ fn cells_of_networks_have_no_host_bits(rt: HostRuntime) -> Result<(), Fail> {
 }
 
 #[test]
-fn cells_of_ipv6_networks_have_no_host_bits(rt: HostRuntime) -> Result<(), Fail> {
-    for (len, last, fault) in NETWORKS_V6 {
-        let cell = v6_cell(len, last);
-        same(
-            refusal::<IpCidr>(rt.alloc(), &Type::CIDR, Some(&cell)),
-            fault,
-        )?;
-    }
-    Ok(())
-}
-
-#[test]
 fn networks_have_no_host_bits() -> Result<(), Fail> {
     for (len, [a, b, c, d], fault) in NETWORKS {
         let addr = IpAddr::V4(Ipv4Addr::new(a, b, c, d));
@@ -235,22 +205,6 @@ fn uuids_have_their_cells(rt: HostRuntime) -> Result<(), Fail> {
 }
 
 #[test]
-fn mac_addresses_and_uuids_are_appended_and_parsed(rt: HostRuntime) -> Result<(), Fail> {
-    has_functions(
-        rt.alloc(),
-        |alloc, v, out| macaddr_to_sql(alloc, v, out),
-        |cell| macaddr_from_sql(cell),
-        &MAC,
-    )?;
-    has_functions(
-        rt.alloc(),
-        |alloc, v, out| uuid_to_sql(alloc, v, out),
-        |cell| uuid_from_sql(cell),
-        &UUID,
-    )
-}
-
-#[test]
 fn addresses_are_appended_and_parsed(rt: HostRuntime) -> Result<(), Fail> {
     let alloc = rt.alloc();
     let mut out = BytesMut::new(alloc);
@@ -268,47 +222,6 @@ fn networks_and_addresses_have_parts() -> Result<(), Fail> {
     let host = IpInet::new(ten(1, 2, 3), 8)?;
     same(host.address(), ten(1, 2, 3))?;
     same(host.network_length(), 8)
-}
-
-#[test]
-fn addresses_of_other_parts_are_different() -> Result<(), Fail> {
-    let host = IpInet::new(ten(1, 2, 3), 8)?;
-    holds(same_inet(&host, &host), "different")?;
-    for (addr, len) in [(ten(1, 2, 3), 9), (ten(1, 2, 4), 8)] {
-        holds(!same_inet(&host, &IpInet::new(addr, len)?), "equal")?;
-    }
-    Ok(())
-}
-
-#[test]
-fn networks_of_other_parts_are_different() -> Result<(), Fail> {
-    let network = IpCidr::new(ten(0, 0, 0), 8)?;
-    holds(same_cidr(&network, &network), "different")?;
-    for (addr, len) in [(ten(0, 0, 0), 9), (ten(1, 0, 0), 16)] {
-        holds(!same_cidr(&network, &IpCidr::new(addr, len)?), "equal")?;
-    }
-    Ok(())
-}
-
-#[test]
-fn mac_addresses_of_other_bytes_are_different() -> Result<(), Fail> {
-    let address = MacAddress::new([1, 2, 3, 4, 5, 6]);
-    let other = MacAddress::new([1, 2, 3, 4, 5, 7]);
-    holds(same_mac_address(&address, &address), "different")?;
-    holds(!same_mac_address(&address, &other), "equal")
-}
-
-#[test]
-fn the_format_of_addresses_takes_no_memory(rt: HostRuntime) -> Result<(), Fail> {
-    answer_without_memory(rt.alloc(), |alloc, target| {
-        let Ok(inet) = inet_from_sql(&HOST) else {
-            return Err(Fault::user("inet_from_sql"));
-        };
-        yes(inet.addr() == ten(1, 2, 3) && inet.netmask() == 8, "Inet")?;
-        target.leave(8)?;
-        let appended = inet_to_sql(alloc, ten(1, 2, 3), 8, &mut target.out).is_ok();
-        yes(appended && target.has(&HOST), "inet_to_sql")
-    })
 }
 
 #[test]

@@ -1,17 +1,14 @@
 //! Integers, booleans and OIDs: a table of rows for each format.
 
 use postgres_types::private::BytesMut;
-use postgres_types::protocol::{
-    bool_from_sql, bool_to_sql, char_from_sql, char_to_sql, int2_from_sql, int2_to_sql,
-    int4_from_sql, int4_to_sql, int8_from_sql, int8_to_sql, oid_from_sql, oid_to_sql,
-};
+use postgres_types::protocol::bool_from_sql;
 use postgres_types::{Fault, Type, rewrite, to_sql_checked_as};
 use std::alloc::Global;
 use std::test::Fail;
 use test_support::code::{SIZE, USER, WAS_NULL, WRONG_TYPE};
 use test_support::{
-    accepts, fault_code, has_cells, has_functions, holds, refusal, refuses_value, rewrites, same,
-    simple_type, writes, writes_by_room,
+    accepts, fault_code, has_cells, holds, refusal, refuses_value, rewrites, same, simple_type,
+    writes, writes_by_room,
 };
 
 const BOOL: [(bool, &[u8]); 2] = [(false, &[0]), (true, &[1])];
@@ -95,52 +92,6 @@ fn wide_integers_and_oids_have_their_cells(rt: HostRuntime) -> Result<(), Fail> 
 #[test]
 fn a_reference_is_written_as_its_value(rt: HostRuntime) -> Result<(), Fail> {
     writes(rt.alloc(), &&&7i32, &Type::INT4, &[0, 0, 0, 7])
-}
-
-#[test]
-fn booleans_and_narrow_integers_are_appended_and_parsed(rt: HostRuntime) -> Result<(), Fail> {
-    let alloc = rt.alloc();
-    has_functions(
-        alloc,
-        |alloc, v, out| bool_to_sql(alloc, v, out),
-        |cell| bool_from_sql(cell),
-        &BOOL,
-    )?;
-    has_functions(
-        alloc,
-        |alloc, v, out| char_to_sql(alloc, v, out),
-        |cell| char_from_sql(cell),
-        &CHAR,
-    )?;
-    has_functions(
-        alloc,
-        |alloc, v, out| int2_to_sql(alloc, v, out),
-        |cell| int2_from_sql(cell),
-        &INT2,
-    )
-}
-
-#[test]
-fn wide_integers_and_oids_are_appended_and_parsed(rt: HostRuntime) -> Result<(), Fail> {
-    let alloc = rt.alloc();
-    has_functions(
-        alloc,
-        |alloc, v, out| int4_to_sql(alloc, v, out),
-        |cell| int4_from_sql(cell),
-        &INT4,
-    )?;
-    has_functions(
-        alloc,
-        |alloc, v, out| int8_to_sql(alloc, v, out),
-        |cell| int8_from_sql(cell),
-        &INT8,
-    )?;
-    has_functions(
-        alloc,
-        |alloc, v, out| oid_to_sql(alloc, v, out),
-        |cell| oid_from_sql(cell),
-        &OID,
-    )
 }
 
 #[test]

@@ -1,17 +1,13 @@
 //! Texts: a table of rows for each format.
 
-use postgres_types::protocol::{
-    lquery_from_sql, lquery_to_sql, ltree_from_sql, ltree_to_sql, ltxtquery_from_sql,
-    ltxtquery_to_sql, text_from_sql, text_to_sql,
-};
 use postgres_types::{Kind, Type};
 use std::borrow::CowStr;
 use std::boxed::BoxedStr;
 use std::test::Fail;
 use test_support::code::{TEXT_VERSION, UTF8, WAS_NULL};
 use test_support::{
-    accepts, has_cells, has_functions, holds, null_takes_no_memory, read, refuses, refuses_fronts,
-    same, simple_type, spells, takes_no_memory, user_type, writes, writes_by_room,
+    accepts, has_cells, holds, null_takes_no_memory, read, refuses, refuses_fronts, same,
+    simple_type, spells, takes_no_memory, user_type, writes, writes_by_room,
 };
 
 const TEXT: [(&str, &[u8]); 4] = [
@@ -88,38 +84,6 @@ fn owned_texts_are_written(rt: HostRuntime) -> Result<(), Fail> {
     writes(alloc, &text, &Type::TEXT, &[0xc3, 0xa9])?;
     writes(alloc, &text.into_boxed_str(), &Type::NAME, &[0xc3, 0xa9])?;
     writes(alloc, &CowStr::Borrowed("x"), &Type::BPCHAR, b"x")
-}
-
-#[test]
-fn texts_are_appended_and_parsed(rt: HostRuntime) -> Result<(), Fail> {
-    has_functions(
-        rt.alloc(),
-        |alloc, v, out| text_to_sql(alloc, v, out),
-        |cell| text_from_sql(cell),
-        &TEXT,
-    )
-}
-
-#[test]
-fn texts_with_a_version_are_appended_and_parsed(rt: HostRuntime) -> Result<(), Fail> {
-    has_functions(
-        rt.alloc(),
-        |alloc, v, out| ltree_to_sql(alloc, v, out),
-        |cell| ltree_from_sql(cell),
-        &VERSIONED,
-    )?;
-    has_functions(
-        rt.alloc(),
-        |alloc, v, out| lquery_to_sql(alloc, v, out),
-        |cell| lquery_from_sql(cell),
-        &VERSIONED,
-    )?;
-    has_functions(
-        rt.alloc(),
-        |alloc, v, out| ltxtquery_to_sql(alloc, v, out),
-        |cell| ltxtquery_from_sql(cell),
-        &VERSIONED,
-    )
 }
 
 #[test]

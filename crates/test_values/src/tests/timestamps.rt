@@ -1,15 +1,13 @@
 //! Timestamps as `UnixTime`.
 
 use pg_base::unix_time::laws::{same_unix_time, unix_time_order};
-use postgres_types::protocol::{timestamp_from_sql, timestamp_to_sql};
-use postgres_types::{Timestamp, Type, UnixTime};
+use postgres_types::{Type, UnixTime};
 use std::alloc::Global;
 use std::cmp::Ordering;
 use std::test::Fail;
 use test_support::code::{SIZE, TRANSMIT, USER, WAS_NULL};
 use test_support::{
-    debugs, has_functions, holds, reads_back, refuses, refuses_both, same, takes_no_memory, unix,
-    writes,
+    debugs, holds, reads_back, refuses, refuses_both, same, takes_no_memory, unix, writes,
 };
 
 const FIRST: [u8; 8] = [0x80, 0, 0, 0, 0, 0, 0, 0];
@@ -40,23 +38,6 @@ fn timestamps_are_microseconds(rt: HostRuntime) -> Result<(), Fail> {
     let alloc = rt.alloc();
     reads_back_rows(alloc, &Type::TIMESTAMP)?;
     reads_back_rows(alloc, &Type::TIMESTAMPTZ)
-}
-
-/// Microseconds, and their cells.
-const COUNTS: [(i64, &[u8]); 3] = [
-    (1, &[0, 0, 0, 0, 0, 0, 0, 1]),
-    (i64::MIN, &FIRST),
-    (i64::MAX, &LAST),
-];
-
-#[test]
-fn the_format_has_every_count(rt: HostRuntime) -> Result<(), Fail> {
-    has_functions(
-        rt.alloc(),
-        |alloc, v, out| timestamp_to_sql(alloc, v, out),
-        |cell| timestamp_from_sql(cell),
-        &COUNTS,
-    )
 }
 
 #[test]

@@ -4,43 +4,7 @@ use postgres_types::private::BytesMut;
 use postgres_types::{Format, IsNull, ToSql, Type, rewrite, to_sql_checked_as};
 use std::test::Fail;
 use test_support::code::{UTF8, WAS_NULL};
-use test_support::{displays, fault_code, holds, refuses_type, same};
-
-#[test]
-fn integers_are_appended(rt: HostRuntime) -> Result<(), Fail> {
-    let alloc = rt.alloc();
-    let mut out = BytesMut::new(alloc);
-    same(7i32.to_sql(alloc, &Type::INT4, &mut out)?, IsNull::No)?;
-    let answer = (-2i32).to_sql_checked(alloc, &Type::INT4, &mut out)?;
-    same(answer, IsNull::No)?;
-    same(
-        out.as_slice(),
-        [0u8, 0, 0, 7, 0xff, 0xff, 0xff, 0xfe].as_slice(),
-    )
-}
-
-#[test]
-fn texts_are_appended(rt: HostRuntime) -> Result<(), Fail> {
-    let alloc = rt.alloc();
-    let mut out = BytesMut::copy_from_slice(alloc, b"before")?;
-    out.clear();
-    same("ab".to_sql(alloc, &Type::TEXT, &mut out)?, IsNull::No)?;
-    for text in ["\u{e9}", ""] {
-        let text = String::from_str(alloc, text)?;
-        let answer = text.to_sql_checked(alloc, &Type::TEXT, &mut out)?;
-        same(answer, IsNull::No)?;
-    }
-    same(out.as_slice(), [0x61u8, 0x62, 0xc3, 0xa9].as_slice())
-}
-
-#[test]
-fn none_is_null_and_appends_nothing(rt: HostRuntime) -> Result<(), Fail> {
-    let alloc = rt.alloc();
-    let mut out = BytesMut::new(alloc);
-    let answer = None::<i32>.to_sql(alloc, &Type::INT4, &mut out)?;
-    same(answer, IsNull::Yes)?;
-    holds(out.is_empty(), "appended")
-}
+use test_support::{displays, fault_code, refuses_type, same};
 
 #[test]
 fn some_is_its_value(rt: HostRuntime) -> Result<(), Fail> {
@@ -89,26 +53,6 @@ fn a_borrowed_object_is_written(rt: HostRuntime) -> Result<(), Fail> {
     same(answer, IsNull::No)?;
     same(out.as_slice(), [0u8, 0, 0, 7].as_slice())?;
     same(object.encode_format(&Type::INT4), Format::Binary)
-}
-
-#[test]
-fn cells_are_rewritten(rt: HostRuntime) -> Result<(), Fail> {
-    let alloc = rt.alloc();
-    let mut out = BytesMut::new(alloc);
-    let answer = rewrite::<i32>(alloc, &Type::INT4, Some(&[0, 0, 0, 7]), &mut out)?;
-    same(answer, IsNull::No)?;
-    let answer = rewrite::<Option<String>>(alloc, &Type::TEXT, Some(b"ab"), &mut out)?;
-    same(answer, IsNull::No)?;
-    same(out.as_slice(), [0u8, 0, 0, 7, 0x61, 0x62].as_slice())
-}
-
-#[test]
-fn null_is_rewritten(rt: HostRuntime) -> Result<(), Fail> {
-    let alloc = rt.alloc();
-    let mut out = BytesMut::copy_from_slice(alloc, b"before")?;
-    let answer = rewrite::<Option<&str>>(alloc, &Type::TEXT, None, &mut out)?;
-    same(answer, IsNull::Yes)?;
-    same(out.as_slice(), b"before".as_slice())
 }
 
 #[test]

@@ -1,10 +1,7 @@
-//! Domains by `Newtype`: `percentage` over INT2, `email` over TEXT, a domain over a domain and one
-//! over an enumerated type.
+//! Domains by `Newtype`: `percentage` over INT2, `email` over TEXT, and a domain over a domain.
 ghost use Rattle.postgres_types.specs.Conversion.{ap, codes, int_le, pos, refl, user};
 
 use own_types::domain::{Email, Percentage};
-use own_types::enumerated::Level;
-use postgres_types::enums::Enum;
 use postgres_types::newtype::{Domain, FromNewtype, Newtype, Transparent};
 use postgres_types::{Fault, Kind, Type};
 use std::alloc::Global;
@@ -56,40 +53,6 @@ impl<'a> FromNewtype<'a> for Passed {
     ghost respects = { λ v w h. rw h refl };
 }
 
-/// `CREATE DOMAIN rank AS level`.
-#[derive(Debug, PartialEq, Drop)]
-struct Rank(Enum<Level>);
-
-impl Newtype for Rank {
-    type Inner = Enum<Level>;
-
-    ghost type_name = { codes "rank" };
-
-    ghost inside = { λ v. v.0 };
-
-    ghost injective = { λ v w. ap (λ x. record { 0 = x }) };
-
-    fn name() -> &'static str {
-        "rank"
-    }
-
-    fn new(inner: Enum<Level>) -> Rank {
-        Rank(inner)
-    }
-
-    fn inner(&self) -> &Enum<Level> {
-        &self.0
-    }
-
-    fn check(_inner: &Enum<Level>) -> Result<(), Fault> {
-        Ok(())
-    }
-}
-
-impl<'a> FromNewtype<'a> for Rank {
-    ghost respects = { λ _ _ _. refl };
-}
-
 /// A domain of that name over that type, whose OID is 0x4011.
 fn domain(alloc: Global, name: &str, underlying: Type) -> Result<Type, Fault> {
     user_type(alloc, name, 0x4011, Kind::Domain(underlying), "public")
@@ -114,25 +77,6 @@ fn its_name_and_underlying_type_are_accepted(rt: HostRuntime) -> Result<(), Fail
         accepts::<Domain<Percentage>>(&[(ty, accepted)])?;
     }
     Ok(())
-}
-
-#[test]
-fn other_kinds_are_not_accepted(rt: HostRuntime) -> Result<(), Fail> {
-    let simple = user_type(rt.alloc(), "percentage", 0x4011, Kind::Simple, "public")?;
-    let array = user_type(
-        rt.alloc(),
-        "percentage",
-        0x4011,
-        Kind::Array(Type::INT2),
-        "public",
-    )?;
-    let over = domain(rt.alloc(), "percentage", percentage(rt.alloc())?)?;
-    accepts::<Domain<Percentage>>(&[
-        (Type::INT2, false),
-        (simple, false),
-        (array, false),
-        (over, false),
-    ])
 }
 
 #[test]
@@ -221,13 +165,4 @@ fn domains_stand_over_domains(rt: HostRuntime) -> Result<(), Fail> {
     refuses::<Domain<Passed>>(alloc, &ty, &faults)?;
     let found = read::<Domain<Passed>>(alloc, &ty, Some(&[0, 101]));
     displays(alloc, &found.err().ok_or("read")?, "percentage")
-}
-
-#[test]
-fn domains_stand_over_enumerated_types(rt: HostRuntime) -> Result<(), Fail> {
-    let alloc = rt.alloc();
-    let ty = domain(alloc, "rank", super::levels::level(alloc)?)?;
-    let row = (Domain(Rank(Enum(Level::Staff))), b"staff".as_slice());
-    spells(alloc, &ty, &[row])?;
-    refuses::<Domain<Rank>>(alloc, &ty, &[(Some(b"Staff".as_slice()), USER)])
 }

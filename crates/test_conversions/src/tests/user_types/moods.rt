@@ -48,20 +48,6 @@ fn its_name_and_labels_in_any_order_are_accepted(rt: HostRuntime) -> Result<(), 
     Ok(())
 }
 
-/// Tests that a type of this name and another kind is not accepted.
-fn is_no_mood(alloc: Global, kind: Kind) -> Result<(), Fail> {
-    let ty = user_type(alloc, "Mood", 100_005, kind, "public")?;
-    accepts::<Mood>(&[(ty, false)])
-}
-
-#[test]
-fn other_kinds_are_not_accepted(rt: HostRuntime) -> Result<(), Fail> {
-    is_no_mood(rt.alloc(), Kind::Simple)?;
-    is_no_mood(rt.alloc(), Kind::Domain(mood(rt.alloc())?))?;
-    is_no_mood(rt.alloc(), Kind::Array(mood(rt.alloc())?))?;
-    accepts::<Mood>(&[(Type::TEXT, false)])
-}
-
 #[test]
 fn other_types_are_refused_by_name(rt: HostRuntime) -> Result<(), Fail> {
     let other = enumerated(rt.alloc(), "mood", &["Sad", "Ok", "Happy"])?;

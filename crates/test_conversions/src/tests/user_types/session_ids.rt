@@ -40,31 +40,6 @@ fn a_domain_over_bytea_is_accepted(rt: HostRuntime) -> Result<(), Fail> {
     accepts_domains(rt.alloc(), &DOMAINS)
 }
 
-/// Tests that the type is not accepted.
-fn is_none(ty: Type) -> Result<(), Fail> {
-    accepts::<SessionId>(&[(ty, false)])
-}
-
-#[test]
-fn other_kinds_are_not_accepted(rt: HostRuntime) -> Result<(), Fail> {
-    is_none(Type::BYTEA)?;
-    is_none(named(rt.alloc(), Kind::Simple)?)?;
-    is_none(named(rt.alloc(), Kind::Array(Type::BYTEA))?)
-}
-
-#[test]
-fn domains_over_a_domain_are_not_accepted(rt: HostRuntime) -> Result<(), Fail> {
-    is_none(named(rt.alloc(), Kind::Domain(session_id(rt.alloc())?))?)?;
-    let bytes = user_type(
-        rt.alloc(),
-        "bytes",
-        100_006,
-        Kind::Domain(Type::BYTEA),
-        "public",
-    )?;
-    is_none(named(rt.alloc(), Kind::Domain(bytes))?)
-}
-
 #[test]
 fn other_types_are_refused_by_name(rt: HostRuntime) -> Result<(), Fail> {
     let id = SessionId(Vec::new(rt.alloc()));

@@ -17,12 +17,6 @@ const DAY_AND_NULL: [u8; 32] = [
     0xff, 0xff, 0xff,
 ];
 
-/// An array of 5 and NULL.
-const FIVE_AND_NULL: [u8; 30] = [
-    0, 0, 0, 1, 0, 0, 0, 1, 0, 0, 0, 0x15, 0, 0, 0, 2, 0, 0, 0, 1, 0, 0, 0, 2, 0, 5, 0xff, 0xff,
-    0xff, 0xff,
-];
-
 /// An array of 0 and 100.
 const NONE_AND_ALL: [u8; 32] = [
     0, 0, 0, 1, 0, 0, 0, 0, 0, 0, 0, 0x15, 0, 0, 0, 2, 0, 0, 0, 1, 0, 0, 0, 2, 0, 0, 0, 0, 0, 2, 0,
@@ -88,20 +82,6 @@ fn null_is_of_the_wrapper(rt: HostRuntime) -> Result<(), Fail> {
     )
 }
 
-#[test]
-fn null_in_a_box_is_not_read_back(rt: HostRuntime) -> Result<(), Fail> {
-    let boxed = Box::new(rt.alloc(), Rating::Unrated)?;
-    writes_null(rt.alloc(), &boxed, &Type::INT2)?;
-    refuses::<Box<Rating>>(rt.alloc(), &Type::INT2, &[(None, WAS_NULL)])
-}
-
-#[test]
-fn null_is_of_the_element(rt: HostRuntime) -> Result<(), Fail> {
-    let ratings = vec![in rt.alloc(); Rating::Stars(5), Rating::Unrated]?;
-    let row = (ratings, FIVE_AND_NULL.as_slice());
-    spells(rt.alloc(), &Type::INT2_ARRAY, &[row])
-}
-
 /// A percentage as an INT2.
 fn percentage(number: i16) -> Transparent<Percentage> {
     Transparent(Percentage(number))
@@ -147,11 +127,4 @@ fn tags_are_refused_as_their_contents(rt: HostRuntime) -> Result<(), Fail> {
     refuses::<Tagged<Transparent<Percentage>>>(rt.alloc(), &Type::INT2, &faults)?;
     refuses_both(rt.alloc(), &Tagged(percentage(101)), &Type::INT2, USER)?;
     refuses_type(rt.alloc(), &Tagged(percentage(100)), &Type::DATE, "Tagged")
-}
-
-#[test]
-fn lists_hold_tags(rt: HostRuntime) -> Result<(), Fail> {
-    let ratings = vec![in rt.alloc(); Tagged(Rating::Stars(5)), Tagged(Rating::Unrated)]?;
-    let row = (ratings, FIVE_AND_NULL.as_slice());
-    spells(rt.alloc(), &Type::INT2_ARRAY, &[row])
 }

@@ -1,7 +1,7 @@
 //! Parameters of a Bind message.
 
 use super::row_faults::refused;
-use pg_client::{Bind, MAX_PARAMS, PlacedFault};
+use pg_client::{Bind, PlacedFault};
 use postgres_types::{BytesMut, Type};
 use std::alloc::Global;
 use std::test::Fail;
@@ -9,22 +9,6 @@ use test_support::{Word, hoard, same};
 
 /// The part of the message before the parameters: an unnamed portal and an unnamed statement.
 const BEFORE: [u8; 2] = [0, 0];
-
-#[test]
-fn no_parameters_are_bound(rt: HostRuntime) -> Result<(), Fail> {
-    let mut out = BytesMut::copy_from_slice(rt.alloc(), &BEFORE)?;
-    Bind::new(&mut out)?.finish()?;
-    same(out.as_slice(), &[0, 0, 0, 1, 0, 1, 0, 0, 0, 1, 0, 1])
-}
-
-#[test]
-fn a_cancelled_bind_leaves_nothing(rt: HostRuntime) -> Result<(), Fail> {
-    let mut out = BytesMut::copy_from_slice(rt.alloc(), &BEFORE)?;
-    let mut bind = Bind::new(&mut out)?;
-    bind.push(&7i32, &Type::INT4)?;
-    bind.cancel();
-    same(out.as_slice(), &BEFORE)
-}
 
 #[test]
 fn owned_and_borrowed_values_are_bound(rt: HostRuntime) -> Result<(), Fail> {
@@ -70,24 +54,6 @@ fn a_parameter_in_text_format_is_refused(rt: HostRuntime) -> Result<(), Fail> {
     same(out.as_slice(), &[0, 1, 0, 1, 0, 0, 0, 1, 0, 1])
 }
 
-#[test]
-fn one_parameter_too_many_is_refused(rt: HostRuntime) -> Result<(), Fail> {
-    let alloc = rt.alloc();
-    let mut out = BytesMut::new(alloc);
-    let mut bind = Bind::new(&mut out)?;
-    for _ in 0..MAX_PARAMS {
-        bind.push(&None::<i32>, &Type::INT4)?;
-    }
-    let text = "parameter 65536: value too large to transmit";
-    refused(alloc, bind.push(&None::<i32>, &Type::INT4), text)?;
-    bind.finish()?;
-    same(out.len(), 6 + 4 * 65_535 + 4)?;
-    same(
-        out.get(..8),
-        Some([0, 1, 0, 1, 0xff, 0xff, 0xff, 0xff].as_slice()),
-    )
-}
-
 /// Binds one int4.
 fn bind_number(number: i32, out: &mut BytesMut) -> Result<(), PlacedFault> {
     let mut bind = Bind::new(out)?;
@@ -107,14 +73,6 @@ fn bind_into(alloc: Global, room: usize) -> Result<(Result<(), PlacedFault>, Vec
     drop(blocks);
     let appended = out.as_slice().get(before..).ok_or("fewer bytes")?;
     Ok((bound, appended.to_vec(alloc)?))
-}
-
-#[test]
-fn parameters_are_written_into_their_room(rt: HostRuntime) -> Result<(), Fail> {
-    let (bound, out) = bind_into(rt.alloc(), 18)?;
-    bound?;
-    let message = [0, 1, 0, 1, 0, 1, 0, 0, 0, 4, 0, 0, 0, 7, 0, 1, 0, 1];
-    same(out.as_slice(), &message)
 }
 
 #[test]

@@ -1,8 +1,7 @@
 //! The rows of a binary COPY: which are returned, what is refused, and the position afterwards.
 
 use super::rows::item_columns;
-use pg_client::{Column, CopyFault, CopyRows, HeaderFault, TupleFault};
-use postgres_types::Type;
+use pg_client::{Column, CopyFault, CopyRows};
 use std::alloc::Global;
 use std::test::Fail;
 use test_support::{displays, same};
@@ -23,9 +22,6 @@ pub const FIRST: usize = 22;
 pub const SECOND: usize = 43;
 
 pub const TRAILER: usize = 62;
-
-/// A header with no flag and no extension.
-const HEADER: [u8; 19] = *b"PGCOPY\n\xff\r\n\0\0\0\0\0\0\0\0\0";
 
 /// Reads all rows, and returns how many there are before the trailer.
 fn count_rows(bytes: &[u8], columns: &[Column]) -> Result<usize, CopyFault> {
@@ -108,21 +104,6 @@ fn a_refusal_is_the_last_item(_rt: HostRuntime) -> Result<(), Fail> {
 }
 
 #[test]
-fn a_copy_may_have_no_row(rt: HostRuntime) -> Result<(), Fail> {
-    let mut bytes = HEADER.to_vec(rt.alloc())?;
-    bytes.extend_from_slice(b"\xff\xff")?;
-    same(count_rows(bytes.as_slice(), &item_columns()), Ok(0))?;
-    same(count_rows(bytes.as_slice(), &[]), Ok(0))
-}
-
-#[test]
-fn rows_may_have_no_column(rt: HostRuntime) -> Result<(), Fail> {
-    let mut bytes = HEADER.to_vec(rt.alloc())?;
-    bytes.extend_from_slice(b"\0\0\0\0\0\0\xff\xff")?;
-    same(count_rows(bytes.as_slice(), &[]), Ok(3))
-}
-
-#[test]
 fn each_truncated_copy_is_refused(rt: HostRuntime) -> Result<(), Fail> {
     same(count_rows(&COPY, &item_columns()), Ok(2))?;
     for len in 0..COPY.len() {
@@ -194,36 +175,4 @@ fn bytes_after_the_trailer_are_refused(rt: HostRuntime) -> Result<(), Fail> {
     let text = "bytes come after the trailer";
     refuses_tuple(rt.alloc(), &[0xff, 0xff, 0], text)?;
     refuses_tuple(rt.alloc(), &[0xff, 0xff, 0xff, 0xff], text)
-}
-
-#[test]
-fn a_refusal_leaves_the_place(rt: HostRuntime) -> Result<(), Fail> {
-    let alloc = rt.alloc();
-    let columns = [Column::unnamed(Type::BOOL)];
-    let mut bytes = HEADER.to_vec(alloc)?;
-    bytes.extend_from_slice(b"\0\x01\0\0\0\x01\x01\0\x02")?;
-    let mut rows = CopyRows::new(bytes.as_slice(), &columns)?;
-    let row = rows.next()?.ok_or("no row")?;
-    same(row.get::<bool>(alloc, 0)?, true)?;
-    let expected = 1;
-    for _ in 0..2u8 {
-        match rows.next() {
-            Ok(_) => return Err(Fail::from("not refused")),
-            Err(fault) => {
-                let fault_of_tuple = TupleFault::Columns { expected, got: 2 };
-                same(
-                    fault,
-                    CopyFault::Tuple {
-                        row: 2,
-                        fault: fault_of_tuple,
-                    },
-                )?;
-            }
-        }
-        same(rows.count(), 1)?;
-    }
-    match CopyRows::new(&[0], &columns) {
-        Ok(_) => Err(Fail::from("not refused")),
-        Err(fault) => same(fault, CopyFault::Header(HeaderFault::Signature)),
-    }
 }

@@ -1,11 +1,11 @@
 //! The columns of a result and the types of parameters, from the messages that describe them.
 
 use pg_client::catalog::Catalog;
-use pg_client::{Column, NAME_LEN, columns, parameter_types, statement_columns};
+use pg_client::{Column, columns, parameter_types, statement_columns};
 use postgres_types::{BytesMut, Type};
 use std::alloc::Global;
 use std::test::Fail;
-use test_support::{displays, hoard, holds, same};
+use test_support::{displays, hoard, same};
 
 /// An int4, `id`, in the binary format.
 const ID: &[u8] = b"id\0\0\0\x40\0\0\x01\0\0\0\x17\0\x04\xff\xff\xff\xff\0\x01";
@@ -107,19 +107,6 @@ fn types_of_parameters_are_found(rt: HostRuntime) -> Result<(), Fail> {
         "parameter 2: invalid description",
     )?;
     has_no_types(alloc, 1, oids, "bind: invalid description")
-}
-
-#[test]
-fn a_long_name_is_left_out(rt: HostRuntime) -> Result<(), Fail> {
-    let alloc = rt.alloc();
-    let name = [b'n'; NAME_LEN + 1];
-    let mut bytes = BytesMut::copy_from_slice(alloc, &name)?;
-    bytes.extend_from_slice(&ID[2..])?;
-    let found = columns(alloc, 1, bytes.as_slice(), &Catalog::built_in(alloc)?)?;
-    holds(
-        found.get(0).is_some_and(|column| column.name.is_none()),
-        "a long name",
-    )
 }
 
 #[test]

@@ -237,16 +237,6 @@ fn a_damaged_message_is_left(rt: HostRuntime) -> Result<(), Fail> {
     debugs(rt.alloc(), &take_front(&mut left, 9)?, "Part(4)")
 }
 
-#[test]
-fn truncated_messages_are_left(_rt: HostRuntime) -> Result<(), Fail> {
-    is_part(b"", 5)?;
-    is_part(b"C", 4)?;
-    is_part(b"C\0", 3)?;
-    is_part(b"C\0\0\0", 1)?;
-    is_part(b"C\0\0\0\x0d", 9)?;
-    is_part(b"C\0\0\0\x0dSELECT 1", 1)
-}
-
 /// Tests that these bytes are refused for this length.
 fn is_too_long(bytes: &[u8], most: usize, len: i32) -> Result<(), Fail> {
     let mut left = bytes;

@@ -7,16 +7,6 @@ use std::alloc::Global;
 use std::test::Fail;
 use test_support::same;
 
-#[test]
-fn columns_that_were_not_taken_are_passed_over(rt: HostRuntime) -> Result<(), Fail> {
-    let alloc = rt.alloc();
-    let columns = item_columns();
-    Row::new(&ITEM, &columns)?.finish()?;
-    let mut row = Row::new(&ITEM, &columns)?;
-    same(row.next::<i32>(alloc)?, 7)?;
-    Ok(row.finish()?)
-}
-
 /// Tests that ending the row of this body fails with this text, whether its first column was taken
 /// or not.
 fn does_not_end(alloc: Global, body: &[u8], text: &str) -> Result<(), Fail> {
@@ -25,14 +15,6 @@ fn does_not_end(alloc: Global, body: &[u8], text: &str) -> Result<(), Fail> {
     let mut row = Row::new(body, &columns)?;
     same(row.next::<i32>(alloc)?, 7)?;
     refused(alloc, row.finish(), text)
-}
-
-#[test]
-fn trailing_bytes_are_refused(rt: HostRuntime) -> Result<(), Fail> {
-    let alloc = rt.alloc();
-    let mut body = ITEM.to_vec(alloc)?;
-    body.push(0)?;
-    does_not_end(alloc, body.as_slice(), "row: invalid buffer size")
 }
 
 #[test]

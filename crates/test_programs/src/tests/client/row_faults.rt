@@ -2,7 +2,7 @@
 
 use super::rows::{ITEM, item_columns};
 use pg_client::{Column, PlacedFault, Row};
-use postgres_types::{FromSql, Type};
+use postgres_types::FromSql;
 use std::alloc::Global;
 use std::test::Fail;
 use test_support::{displays, hoard, same, simple_type};
@@ -63,19 +63,6 @@ fn a_value_is_refused_at_its_column(rt: HostRuntime) -> Result<(), Fail> {
 }
 
 #[test]
-fn a_truncated_column_is_named_for_those_after_it(rt: HostRuntime) -> Result<(), Fail> {
-    let alloc = rt.alloc();
-    let text = "column 2 \"name\": invalid buffer size";
-    for len in [11, 13, 15] {
-        let body = ITEM.get(..len).ok_or("no front")?;
-        same(Row::new(body, &item_columns())?.get::<i32>(alloc, 0)?, 7)?;
-        refuses_column::<String>(alloc, body, 1, text)?;
-        refuses_column::<bool>(alloc, body, 2, text)?;
-    }
-    Ok(())
-}
-
-#[test]
 fn another_type_is_refused(rt: HostRuntime) -> Result<(), Fail> {
     let alloc = rt.alloc();
     let int4 =
@@ -96,27 +83,6 @@ fn a_place_without_a_column_is_refused(rt: HostRuntime) -> Result<(), Fail> {
     refuses_column::<i32>(alloc, &ITEM, usize::MAX, most)?;
     let mut row = Row::new(&[0, 0], &[])?;
     refused(alloc, row.next::<i32>(alloc), "column 1: no such column")
-}
-
-#[test]
-fn a_refused_column_is_passed_over(rt: HostRuntime) -> Result<(), Fail> {
-    let alloc = rt.alloc();
-    let columns = item_columns();
-    let mut row = Row::new(&ITEM, &columns)?;
-    let text =
-        "column 1 \"id\": cannot convert between the Rust type `T` and the Postgres type `int4`";
-    refused(alloc, row.next::<bool>(alloc), text)?;
-    same(row.next::<String>(alloc)?.as_str(), "ja")
-}
-
-#[test]
-fn a_truncated_column_is_not_passed_over(rt: HostRuntime) -> Result<(), Fail> {
-    let alloc = rt.alloc();
-    let columns = item_columns();
-    let mut row = Row::new(&ITEM[..9], &columns)?;
-    let text = "column 1 \"id\": invalid buffer size";
-    refused(alloc, row.next::<i32>(alloc), text)?;
-    refused(alloc, row.next::<i32>(alloc), text)
 }
 
 #[test]

@@ -2,8 +2,7 @@
 
 use super::row_faults::refused;
 use super::rows::{ITEM, item_columns};
-use pg_client::{Column, Row};
-use postgres_types::Type;
+use pg_client::Row;
 use std::test::Fail;
 use test_support::{holds, same};
 
@@ -29,20 +28,6 @@ fn columns_are_read_by_name(rt: HostRuntime) -> Result<(), Fail> {
         row.get_by_name::<String>(alloc, "id"),
         "column 1 \"id\": cannot convert between the Rust type `T` and the Postgres type `int4`",
     )
-}
-
-/// Two columns of one name.
-#[test]
-fn the_first_column_of_a_name_is_read(rt: HostRuntime) -> Result<(), Fail> {
-    let columns = [
-        Column::new("n", Type::BOOL),
-        Column::new("n", Type::CHAR),
-        Column::new("m", Type::CHAR),
-    ];
-    let body = [0, 3, 0, 0, 0, 1, 1, 0, 0, 0, 1, 2, 0, 0, 0, 1, 3];
-    let row = Row::new(&body, &columns)?;
-    same(row.get_by_name::<bool>(rt.alloc(), "n")?, true)?;
-    same(row.get_by_name::<i8>(rt.alloc(), "m")?, 3)
 }
 
 #[test]

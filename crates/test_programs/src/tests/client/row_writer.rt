@@ -3,9 +3,8 @@
 use super::row_faults::refused;
 use pg_client::{Column, CopyRows, PlacedFault, RowWriter, push_copy_header, push_copy_trailer};
 use postgres_types::{BytesMut, Type};
-use std::alloc::Global;
 use std::test::Fail;
-use test_support::{Word, hoard, same};
+use test_support::{Word, same};
 
 /// The types of an id and a note.
 fn item_types() -> [Type; 2] {
@@ -39,14 +38,6 @@ fn parameters_and_tuples_are_written(rt: HostRuntime) -> Result<(), Fail> {
     row.finish()?;
     same(tuple.get(..2), Some([0, 2].as_slice()))?;
     same(tuple.get(2..), Some(FRAMES.as_slice()))
-}
-
-#[test]
-fn no_values_are_written(rt: HostRuntime) -> Result<(), Fail> {
-    let mut out = BytesMut::new(rt.alloc());
-    RowWriter::bind(&mut out, &[])?.finish()?;
-    RowWriter::tuple(&mut out, &[])?.finish()?;
-    same(out.as_slice(), &[0, 1, 0, 1, 0, 0, 0, 1, 0, 1, 0, 0])
 }
 
 #[test]
@@ -115,73 +106,4 @@ fn a_refused_value_leaves_those_before(rt: HostRuntime) -> Result<(), Fail> {
     row.push(&"ja")?;
     row.finish()?;
     same(out.get(2..), Some(FRAMES.as_slice()))
-}
-
-#[test]
-fn too_many_types_are_refused(rt: HostRuntime) -> Result<(), Fail> {
-    let alloc = rt.alloc();
-    let mut types = Vec::new(alloc);
-    for _ in 0..65_536 {
-        types.push(Type::INT4)?;
-    }
-    let types = types.as_slice();
-    let mut out = BytesMut::new(alloc);
-    refused(
-        alloc,
-        RowWriter::bind(&mut out, types),
-        "bind: value too large to transmit",
-    )?;
-    refused(
-        alloc,
-        RowWriter::tuple(&mut out, types.get(..32_768).ok_or("fewer types")?),
-        "row: value too large to transmit",
-    )?;
-    RowWriter::bind(&mut out, types.get(..65_535).ok_or("fewer types")?)?.cancel();
-    RowWriter::tuple(&mut out, types.get(..32_767).ok_or("fewer types")?)?.cancel();
-    same(out.len(), 0)
-}
-
-/// Binds one int4.
-fn bind_number(out: &mut BytesMut) -> Result<(), PlacedFault> {
-    let types = item_types();
-    let mut bind = RowWriter::bind(out, &types[..1])?;
-    match bind.push(&7i32) {
-        Ok(()) => bind.finish(),
-        Err(fault) => {
-            bind.cancel();
-            Err(fault)
-        }
-    }
-}
-
-/// Binds one int4 into a buffer with `room` spare bytes while every allocation fails: returns the
-/// result, and what was appended.
-fn bind_into(alloc: Global, room: usize) -> Result<(Result<(), PlacedFault>, Vec<u8>), Fail> {
-    bind_number(&mut BytesMut::new(alloc))?;
-    let mut out = BytesMut::with_capacity(alloc, 64)?;
-    let before = out.capacity().saturating_sub(room);
-    out.resize(before, 0)?;
-    let blocks = hoard(alloc)?;
-    let bound = bind_number(&mut out);
-    drop(blocks);
-    let appended = out.as_slice().get(before..).ok_or("fewer bytes")?;
-    Ok((bound, appended.to_vec(alloc)?))
-}
-
-#[test]
-fn refused_memory_gives_back_the_buffer(rt: HostRuntime) -> Result<(), Fail> {
-    let alloc = rt.alloc();
-    let (bound, out) = bind_into(alloc, 18)?;
-    bound?;
-    same(out.len(), 18)?;
-    for (room, text) in [
-        (0, "bind: out of memory"),
-        (6, "parameter 1: out of memory"),
-        (14, "bind: out of memory"),
-    ] {
-        let (bound, out) = bind_into(alloc, room)?;
-        refused(alloc, bound, text)?;
-        same(out.as_slice(), &[])?;
-    }
-    Ok(())
 }

@@ -36,20 +36,6 @@ fn columns_are_read_in_turn(rt: HostRuntime) -> Result<(), Fail> {
     Ok(row.finish()?)
 }
 
-#[test]
-fn columns_are_read_in_any_order(rt: HostRuntime) -> Result<(), Fail> {
-    let alloc = rt.alloc();
-    let columns = item_columns();
-    let mut row = Row::new(&ITEM, &columns)?;
-    same(row.get::<bool>(alloc, 2)?, true)?;
-    same(row.next::<i32>(alloc)?, 7)?;
-    same(row.get::<i32>(alloc, 0)?, 7)?;
-    same(row.get::<String>(alloc, 1)?.as_str(), "ja")?;
-    same(row.get::<bool>(alloc, 2)?, true)?;
-    same(row.next::<String>(alloc)?.as_str(), "ja")?;
-    Ok(row.finish()?)
-}
-
 /// Returns the name in the row, borrowed from its body.
 fn name_of<'a>(alloc: Global, body: &'a [u8]) -> Result<Option<&'a str>, Fail> {
     let columns = item_columns();
@@ -64,9 +50,4 @@ fn name_of<'a>(alloc: Global, body: &'a [u8]) -> Result<Option<&'a str>, Fail> {
 fn texts_are_borrowed_from_the_body(rt: HostRuntime) -> Result<(), Fail> {
     same(name_of(rt.alloc(), &ITEM)?, Some("ja"))?;
     same(name_of(rt.alloc(), &NAMELESS)?, None)
-}
-
-#[test]
-fn a_row_without_columns_is_its_number(_rt: HostRuntime) -> Result<(), Fail> {
-    Ok(Row::new(&[0, 0], &[])?.finish()?)
 }

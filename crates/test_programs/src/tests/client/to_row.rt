@@ -1,64 +1,12 @@
 //! Tuples and structs that are written as a row.
 ghost use Rattle.postgres_types.specs.CompositeFields.{and, end};
 
-use super::from_row::NUMBERS;
 use super::row_faults::refused;
 use pg_client::{ColumnRefs, PlacedFault, RowWriter, ToRow};
 use postgres_types::composite::{And, End};
 use postgres_types::{BytesMut, Type, row};
-use std::alloc::Global;
 use std::test::Fail;
-use test_support::{hoard, same};
-
-/// Tests that the tuple is written as a row of the numbers from 1 to `count`.
-fn writes<T: ToRow>(alloc: Global, count: u8, tuple: &T) -> Result<(), Fail> {
-    let mut types = Vec::new(alloc);
-    for _ in 0..count {
-        types.push(Type::CHAR)?;
-    }
-    let mut out = BytesMut::new(alloc);
-    RowWriter::tuple(&mut out, types.as_slice())?.write(tuple)?;
-    same(out.get(..2), Some([0, count].as_slice()))?;
-    same(out.get(2..), NUMBERS.get(2..5 * usize::from(count) + 2))
-}
-
-#[test]
-fn tuples_of_up_to_six_values_are_written(rt: HostRuntime) -> Result<(), Fail> {
-    let alloc = rt.alloc();
-    writes(alloc, 1, &(1i8,))?;
-    writes(alloc, 2, &(1i8, 2i8))?;
-    writes(alloc, 3, &(1i8, 2i8, 3i8))?;
-    writes(alloc, 4, &(1i8, 2i8, 3i8, 4i8))?;
-    writes(alloc, 5, &(1i8, 2i8, 3i8, 4i8, 5i8))?;
-    writes(alloc, 6, &(1i8, 2i8, 3i8, 4i8, 5i8, 6i8))?;
-    Ok(())
-}
-
-#[test]
-fn tuples_of_up_to_twelve_values_are_written(rt: HostRuntime) -> Result<(), Fail> {
-    let alloc = rt.alloc();
-    writes(alloc, 7, &(1i8, 2i8, 3i8, 4i8, 5i8, 6i8, 7i8))?;
-    writes(alloc, 8, &(1i8, 2i8, 3i8, 4i8, 5i8, 6i8, 7i8, 8i8))?;
-    writes(alloc, 9, &(1i8, 2i8, 3i8, 4i8, 5i8, 6i8, 7i8, 8i8, 9i8))?;
-    writes(
-        alloc,
-        10,
-        &(1i8, 2i8, 3i8, 4i8, 5i8, 6i8, 7i8, 8i8, 9i8, 10i8),
-    )?;
-    writes(
-        alloc,
-        11,
-        &(1i8, 2i8, 3i8, 4i8, 5i8, 6i8, 7i8, 8i8, 9i8, 10i8, 11i8),
-    )?;
-    writes(
-        alloc,
-        12,
-        &(
-            1i8, 2i8, 3i8, 4i8, 5i8, 6i8, 7i8, 8i8, 9i8, 10i8, 11i8, 12i8,
-        ),
-    )?;
-    Ok(())
-}
+use test_support::same;
 
 /// A struct of a user's own.
 #[derive(Drop)]
@@ -122,19 +70,4 @@ fn what_is_no_such_row_is_not_written(rt: HostRuntime) -> Result<(), Fail> {
         "parameter 2: cannot convert between the Rust type `bool` and the Postgres type `text`";
     refused(alloc, another, text)?;
     same(out.as_slice(), b"ja")
-}
-
-#[test]
-fn refused_memory_gives_back_the_buffer(rt: HostRuntime) -> Result<(), Fail> {
-    let alloc = rt.alloc();
-    let mut out = BytesMut::with_capacity(alloc, 64)?;
-    let before = out.capacity().saturating_sub(16);
-    out.resize(before, 0)?;
-    let types = item_types();
-    let row = RowWriter::bind(&mut out, &types)?;
-    let blocks = hoard(alloc)?;
-    let written = row.write(&(7i32, "ja"));
-    drop(blocks);
-    refused(alloc, written, "parameter 2: out of memory")?;
-    same(out.len(), before)
 }

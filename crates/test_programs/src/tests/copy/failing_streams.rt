@@ -1,14 +1,14 @@
 //! Tests of streams that move in pieces, or fail.
 
-use super::{HEADER, Outcome, TRAILER, columns, make_narrow, make_pieces};
 use crate::tests::fake_streams::{Disturbed, Narrow, Pieces, ROOM};
+use pg_copy::arguments::{Request, parse};
 use pg_copy::columns::Column;
 use pg_copy::copy_fault::CopyFault;
 use pg_copy::read::read;
 use pg_copy::write::write;
 use std::alloc::Global;
 use std::test::Fail;
-use test_support::{holds, same};
+use test_support::{displays, holds, same};
 
 /// Two rows in both formats.
 const LINES: &[u8] = b"1\ta\\tb\n-2\t\\N\n";
@@ -19,6 +19,47 @@ const STREAM: &[u8] =
 
 /// The number of bytes that a stream moves at a time.
 const STEPS: [usize; 4] = [1, 2, 3, 7];
+
+/// A header without flags and extension.
+const HEADER: &[u8] = b"PGCOPY\n\xff\r\n\0\0\0\0\0\0\0\0\0";
+
+/// The trailer.
+const TRAILER: &[u8] = b"\xff\xff";
+
+/// A reader that gives the bytes `step` at a time, and is interrupted at every other call.
+fn make_pieces(bytes: &[u8], step: usize) -> Disturbed<Pieces<'_>> {
+    Disturbed::new(Pieces::new(bytes, step))
+}
+
+/// A writer that takes `room` bytes, `step` at a time, and is interrupted at every other call.
+fn make_narrow(alloc: Global, step: usize, room: usize) -> Disturbed<Narrow> {
+    Disturbed::new(Narrow::new(alloc, step, room))
+}
+
+/// Returns the columns of these names of types.
+fn columns(alloc: Global, names: &[&str]) -> Result<Vec<Column>, Fail> {
+    let mut words = Vec::new(alloc);
+    for name in names {
+        words.push(String::from_str(alloc, name)?)?;
+    }
+    match parse(alloc, words.as_slice())? {
+        Request::Copy(columns) => Ok(columns),
+        Request::Help => Err(Fail::from("help")),
+    }
+}
+
+/// Tests that a COPY ended with a fault of this text, and that this was written.
+fn stopped(
+    alloc: Global,
+    ended: Result<(), CopyFault>,
+    output: Disturbed<Narrow>,
+    fault: &str,
+    written: Option<&[u8]>,
+) -> Result<(), Fail> {
+    let found = ended.err().ok_or("no fault")?;
+    displays(alloc, &found, fault)?;
+    same(Some(output.inner.taken.as_slice()), written)
+}
 
 /// The columns of the rows.
 fn columns_of_rows(alloc: Global) -> Result<Vec<Column>, Fail> {
@@ -80,16 +121,8 @@ fn a_failed_read_is_told(rt: HostRuntime) -> Result<(), Fail> {
     Ok(())
 }
 
-/// Tests that the COPY failed because of the writer, after these bytes.
-fn failed_after(
-    alloc: Global,
-    ended: Result<(), CopyFault>,
-    output: Disturbed<Narrow>,
-    written: Option<&[u8]>,
-) -> Result<(), Fail> {
-    let written = written.ok_or("no part")?;
-    Outcome::new(alloc, ended, output)?.is(written, "the output cannot be written")
-}
+/// The fault of a writer.
+const NOT_WRITTEN: &str = "the output cannot be written";
 
 #[test]
 fn a_failed_write_of_lines_is_told(rt: HostRuntime) -> Result<(), Fail> {
@@ -98,7 +131,7 @@ fn a_failed_write_of_lines_is_told(rt: HostRuntime) -> Result<(), Fail> {
         let mut input = make_pieces(STREAM, 9);
         let mut output = make_narrow(rt.alloc(), 2, room);
         let ended = read(rt.alloc(), columns.as_slice(), &mut input, &mut output);
-        failed_after(rt.alloc(), ended, output, LINES.get(..room))?;
+        stopped(rt.alloc(), ended, output, NOT_WRITTEN, LINES.get(..room))?;
     }
     Ok(())
 }
@@ -110,7 +143,7 @@ fn a_failed_write_of_rows_is_told(rt: HostRuntime) -> Result<(), Fail> {
         let mut input = make_pieces(LINES, 9);
         let mut output = make_narrow(rt.alloc(), 2, room);
         let ended = write(rt.alloc(), columns.as_slice(), &mut input, &mut output);
-        failed_after(rt.alloc(), ended, output, STREAM.get(..room))?;
+        stopped(rt.alloc(), ended, output, NOT_WRITTEN, STREAM.get(..room))?;
     }
     Ok(())
 }
@@ -132,8 +165,8 @@ fn a_fault_ends_the_lines(rt: HostRuntime) -> Result<(), Fail> {
     let mut input = make_pieces(REFUSED_STREAM, 9);
     let mut output = make_narrow(rt.alloc(), 2, ROOM);
     let ended = read(rt.alloc(), columns.as_slice(), &mut input, &mut output);
-    let outcome = Outcome::new(rt.alloc(), ended, output)?;
-    outcome.is(LINES_AND_FAULT, "row 2: 3 columns in place of 2")
+    let fault = "row 2: 3 columns in place of 2";
+    stopped(rt.alloc(), ended, output, fault, Some(LINES_AND_FAULT))
 }
 
 #[test]
@@ -142,8 +175,8 @@ fn a_fault_ends_the_rows(rt: HostRuntime) -> Result<(), Fail> {
     let mut input = make_pieces(REFUSED_LINES, 9);
     let mut output = make_narrow(rt.alloc(), 2, ROOM);
     let ended = write(rt.alloc(), columns.as_slice(), &mut input, &mut output);
-    let outcome = Outcome::new(rt.alloc(), ended, output)?;
-    outcome.is(STOPPED_STREAM, "line 2: 1 columns in place of 2")
+    let fault = "line 2: 1 columns in place of 2";
+    stopped(rt.alloc(), ended, output, fault, Some(STOPPED_STREAM))
 }
 
 #[test]
@@ -153,7 +186,13 @@ fn a_failed_write_of_a_fault_is_told(rt: HostRuntime) -> Result<(), Fail> {
         let mut input = make_pieces(REFUSED_STREAM, 9);
         let mut output = make_narrow(rt.alloc(), 2, room);
         let ended = read(rt.alloc(), columns.as_slice(), &mut input, &mut output);
-        failed_after(rt.alloc(), ended, output, LINES_AND_FAULT.get(..room))?;
+        stopped(
+            rt.alloc(),
+            ended,
+            output,
+            NOT_WRITTEN,
+            LINES_AND_FAULT.get(..room),
+        )?;
     }
     Ok(())
 }
@@ -165,7 +204,13 @@ fn a_failed_write_of_the_end_is_told(rt: HostRuntime) -> Result<(), Fail> {
         let mut input = make_pieces(REFUSED_LINES, 9);
         let mut output = make_narrow(rt.alloc(), 2, room);
         let ended = write(rt.alloc(), columns.as_slice(), &mut input, &mut output);
-        failed_after(rt.alloc(), ended, output, STOPPED_STREAM.get(..room))?;
+        stopped(
+            rt.alloc(),
+            ended,
+            output,
+            NOT_WRITTEN,
+            STOPPED_STREAM.get(..room),
+        )?;
     }
     Ok(())
 }

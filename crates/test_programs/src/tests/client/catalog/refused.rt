@@ -99,25 +99,6 @@ fn the_first_row_of_an_oid_is_used(rt: HostRuntime) -> Result<(), Fail> {
 }
 
 #[test]
-fn a_refused_first_row_keeps_its_oid(rt: HostRuntime) -> Result<(), Fail> {
-    let alloc = rt.alloc();
-    let mut rows = Vec::new(alloc);
-    rows.push(row(alloc, 101, "first", b'a', 999, 0))?;
-    rows.push(row(alloc, 101, "second", b'b', 0, 0))?;
-    rows.push(row(alloc, 102, "of_both", b'd', 0, 101))?;
-    let expected = [
-        (101, TypeFault::Unknown(999)),
-        (101, TypeFault::Duplicate),
-        (102, TypeFault::Unknown(101)),
-    ];
-    let catalog = refuses(alloc, rows.as_slice(), &expected)?;
-    holds(
-        catalog.get(101).is_none() && catalog.get(102).is_none(),
-        "a type of a refused row",
-    )
-}
-
-#[test]
 fn odd_rows_are_refused(rt: HostRuntime) -> Result<(), Fail> {
     let alloc = rt.alloc();
     let mut rows = Vec::new(alloc);
