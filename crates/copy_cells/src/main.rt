@@ -6,9 +6,10 @@
 //! terminal, it shows the progress of the COPY.
 #![tactic(auto)]
 
-ghost use Rattle.std.specs.Prelude.{◌≡◌, IfErr, IfOk, IfSome, OnErr, OnOk};
+ghost use Rattle.std.specs.Prelude.{◌≡◌, true, IfErr, IfOk, IfSome, IsOk, OnErr, OnOk};
 ghost use Rattle.std.specs.Process.{exit_status};
 ghost use Rattle.copy_cells.specs.Commands.{AreTypes, IsAsked, word_of};
+ghost use Rattle.pg_copy.specs.Arguments.{first_word};
 ghost use Rattle.copy_cells.specs.Outputs.{Converts, Leaves};
 
 mod progress;
@@ -125,7 +126,8 @@ fn copy(rt: HostRuntime, direction: Direction, columns: &[Column]) -> Result<Exi
 /// tells the fault, and for a failed read or write the error of the stream; but not that a pipe is
 /// closed, whose reader wants no more.
 fn ended(outcome: Result<(), CopyFault>, error: Option<io::Error>) -> Result<ExitCode>
-    ensures whole { OnOk outcome (IfOk result (λ code. exit_status code ≡ 0)) }
+    ensures whole { OnOk outcome (IsOk result) }
+    ensures zero { OnOk outcome (IfOk result (λ code. exit_status code ≡ 0)) }
     ensures part { IfOk result (λ code. exit_status code ≡ 0 → OnErr outcome ⊥) }
 {
     let Err(fault) = outcome else {
@@ -196,6 +198,16 @@ fn direction_of(word: &str) -> Option<Direction>
     }
 }
 
+/// Whether this is the first of the words.
+fn is_first(word: &str, words: &[String]) -> bool
+    ensures { result ≡ true → first_word words.now ≡ word.now }
+{
+    match words.first() {
+        Some(first) => first.as_str() == word,
+        None => false,
+    }
+}
+
 /// Returns the words that are types: those after `--`, or all.
 fn types_of(words: &[String]) -> &[String]
     ensures { AreTypes words.now result.now }
@@ -213,10 +225,10 @@ fn request_of(alloc: Global, words: &[String]) -> Result<Asked>
     let Some((word, rest)) = words.split_first() else {
         bail!("no direction is given; --help says how");
     };
-    if word.as_str() == "--help" {
+    if is_first("--help", words) {
         return Ok(Asked::Help);
     }
-    if word.as_str() == "--version" || rest.first().is_some_and(|it| it.as_str() == "--version") {
+    if is_first("--version", words) || is_first("--version", rest) {
         return Ok(Asked::Version);
     }
     let Some(direction) = direction_of(word.as_str()) else {
