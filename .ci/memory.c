@@ -3,7 +3,8 @@
  * The growth whose number REFUSED_GROWTH gives is refused, counted from 1 once the program's libraries are loaded, and each
  * growth by which more than MEMORY_LIMIT bytes would be in use. Standard error tells of each refusal, and at the end of the
  * program, where blocks are still in use, of that, and where COUNT_GROWTHS is set, of the number of growths and of bytes that
- * they asked for. The declarations stand here since the kit's clang has no headers of the C library. */
+ * they asked for, up to the first that asks for a gigabyte or more: a test that takes all memory begins with it. The
+ * declarations stand here since the kit's clang has no headers of the C library. */
 
 typedef unsigned long size_t;
 
@@ -23,8 +24,9 @@ static int growths_left;
 /* How many bytes may be in use, or 0 where any number may. */
 static size_t limit;
 
-/* How many growths there were, and how many bytes they asked for. */
+/* How many growths there were, how many bytes they asked for, and whether one asked for a gigabyte or more. */
 static long growths, asked;
+static int is_over;
 
 /* How many blocks and bytes are in use of those that were taken since the program's libraries were loaded. */
 static long blocks, bytes;
@@ -57,10 +59,11 @@ __attribute__((destructor)) static void end(void) {
 
 /* Whether a growth by that many bytes is refused. */
 static int is_refused(long more) {
-    int is_numbered = growths_left > 0 && --growths_left == 0;
+    int is_growth = more > 0, is_numbered = is_growth && growths_left > 0 && --growths_left == 0;
+    is_over = is_over || more >= 1L << 30;
     if (!is_numbered && (limit == 0 || bytes + more <= (long)limit)) {
-        growths += more > 0;
-        asked += more > 0 ? more : 0;
+        growths += is_growth && !is_over;
+        asked += is_growth && !is_over ? more : 0;
         return 0;
     }
     tell("refused\n");

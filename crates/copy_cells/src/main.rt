@@ -16,7 +16,7 @@ mod progress;
 mod watched;
 
 use anyhow::{Context, Result, bail};
-use pg_copy::arguments::{Request, parse};
+use pg_copy::arguments::{ArgumentFault, Request, parse};
 use pg_copy::columns::Column;
 use pg_copy::copy_fault::CopyFault;
 use pg_copy::read::read;
@@ -102,6 +102,7 @@ fn main(rt: HostRuntime) -> Result<ExitCode> {
         Asked::Help => help(&rt)?,
         Asked::Version => println!(rt; "{VERSION}")?,
         Asked::Copy(direction, columns) => return copy(rt, direction, columns.as_slice()),
+        Asked::Refused(fault) => return refuse(&rt, &fault),
     }
     Ok(ExitCode::SUCCESS)
 }
@@ -140,6 +141,16 @@ fn ended(outcome: Result<(), CopyFault>, error: Option<io::Error>) -> Result<Exi
         return Ok(ExitCode::from(1));
     }
     bail!("{fault}: {error}")
+}
+
+/// Tells why a command line is refused, and returns the exit status 1. An error of `anyhow` would cut
+/// a list of many types.
+fn refuse(rt: &HostRuntime, fault: &ArgumentFault) -> Result<ExitCode>
+    ensures { IfOk result (λ code. exit_status code ≡ 1) }
+{
+    let status = 1;
+    eprintln!(rt; "Error: {fault}")?;
+    Ok(ExitCode::from(status))
 }
 
 /// Returns the error of the stream, if the fault is that of a stream.
@@ -185,6 +196,8 @@ enum Asked {
     Help,
     Version,
     Copy(Direction, Vec<Column>),
+    /// A COPY of types that are refused.
+    Refused(ArgumentFault),
 }
 
 /// Returns the direction that a word asks for.
@@ -234,8 +247,9 @@ fn request_of(alloc: Global, words: &[String]) -> Result<Asked>
     let Some(direction) = direction_of(word.as_str()) else {
         bail!("no direction {word}; --help says which");
     };
-    match parse(alloc, types_of(rest))? {
-        Request::Help => Ok(Asked::Help),
-        Request::Copy(columns) => Ok(Asked::Copy(direction, columns)),
+    match parse(alloc, types_of(rest)) {
+        Ok(Request::Help) => Ok(Asked::Help),
+        Ok(Request::Copy(columns)) => Ok(Asked::Copy(direction, columns)),
+        Err(fault) => Ok(Asked::Refused(fault)),
     }
 }

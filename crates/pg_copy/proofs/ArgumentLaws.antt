@@ -1,25 +1,25 @@
 -- The types in the words of a command line.
-use Rattle.std.proofs.Common.{◌≡◌, ◌==◌, ◌<◌, ◌+◌, ℕ, Bool, true, false, List, [], ◌∷◌, ◌++◌, Option}
-use Rattle.std.proofs.Common.{Some, None}
+use Rattle.std.proofs.Common.{◌≡◌, ◌==◌, ◌<◌, ◌≤◌, ◌+◌, ℕ, Bool, true, false, List, [], ◌∷◌, ◌++◌, Option}
+use Rattle.std.proofs.Common.{Some, None, Err, Ok, append-nil, append_assoc}
 use Rattle.std.proofs.Common.{add-one, ap, arith, drop, drop-cons, get_or, inl, inr, length, refl, subst, suc, sym}
 use Rattle.std.proofs.Common.{take, ◌∙◌}
 use Rattle.std.proofs.lemmas.Bool.{true≢false}
 use Rattle.std.proofs.lemmas.Bool.Decides.{nat_tests}
-use Rattle.std.proofs.lemmas.List.{take-append-drop}
+use Rattle.std.proofs.lemmas.List.{drop_all, take-append-drop}
 use Rattle.std.proofs.lemmas.Str.{NoCharPasses-append, NoCharPasses-byte}
 use Rattle.std.specs.Borrow.{Bor}
 use Rattle.std.specs.Char.{is_not_whitespace}
 use Rattle.std.specs.List.{AllZip, onto_first}
 use Rattle.std.specs.Global.{Global}
-use Rattle.std.specs.Prelude.{⊤, IfNone, MatchOption, String, string_bytes, if◌then◌else◌}
+use Rattle.std.specs.Prelude.{⊤, IfNone, MatchOption, OnOk, Result, String, string_bytes}
+use Rattle.std.specs.Prelude.{if◌then◌else◌}
 use Rattle.std.specs.Str.{IsTrim, NoCharPasses, trim}
 use Rattle.pg_copy.proofs.QuoteLaws.{Lacks, first, others}
-use Rattle.pg_copy.specs.Arguments.{IsFirstRefusal, IsLeft, IsRefusal, IsRefused, IsTypeRefused}
-use Rattle.pg_copy.specs.Arguments.{has_option, is_blank, types_of_word, types_of_words, without_blank_last}
-use Rattle.pg_copy.specs.ColumnTypes.{IsColumnOf}
+use Rattle.pg_copy.specs.Arguments.{AreTypes, IsLeft, IsNamed, TakesType, is_blank, types_of_word, types_of_words, why}
+use Rattle.pg_copy.specs.Arguments.{without_blank_last}
+use Rattle.pg_copy.specs.ColumnTypes.{IsColumnFault, IsColumnOf}
 use Rattle.pg_copy.specs.Words.{depth_after, divides, is_quoted_after, pieces, pieces_of_rest, pieces_within}
-use Rattle.pg_copy.specs.declared.arguments.ArgumentFault.{ArgumentFault}
-use Rattle.pg_copy.specs.declared.arguments.ArgumentFault.TheVariants as argument
+use Rattle.pg_copy.specs.declared.arguments.RefusedType.{RefusedType}
 use Rattle.pg_copy.specs.declared.columns.Column.{Column}
 
 -- white space
@@ -109,60 +109,65 @@ pub next_types : (after next : Option (Bor (List ℕ))) → MatchOption after (n
 next_types None next h = ap types_left (sym h)
 next_types (Some rest) next h = sym (left_types rest.now next h)
 
--- refusals
+-- the columns of types, and those that are not taken
 
--- the first type is refused
-pub refused_here : (count : ℕ) (texts rest : List (List ℕ)) (text : List ℕ) (fault : ArgumentFault) → texts ≡ text ∷
-    rest
-    → IsRefusal count text fault → IsFirstRefusal count texts fault
-refused_here count texts rest text fault is own = subst (λ l. IsFirstRefusal count l fault) (sym is) (inl own)
+-- a type that was appended to those that are not taken
+pub appended : {E : Type 0} (r : Result (Unit {0}) E) (number : ℕ) (text : List ℕ) (is_nested : Bool)
+    (columns : List Column) (refused new : List RefusedType) → IsColumnFault text (why is_nested)
+    → OnOk r ((ty : RefusedType) × IsNamed number text is_nested ty × (new ≡ refused ++ ty ∷ []))
+    → OnOk r (TakesType number text columns refused columns new)
+appended (Ok done) number text is_nested columns refused new fault own =
+    inr (own.0, (is_nested, own.1, fault), own.2, refl)
+appended (Err failed) number text is_nested columns refused new fault own = own
 
--- a type after the first is refused
-pub refused_later : (count : ℕ) (texts rest : List (List ℕ)) (text : List ℕ) (column : Column) (fault : ArgumentFault)
-    → texts ≡ text ∷ rest → IsColumnOf text column → IsFirstRefusal (count + 1) rest fault
-    → IsFirstRefusal count texts fault
-refused_later count texts rest text column fault is own later =
-    subst (λ l. IsFirstRefusal count l fault) (sym is) (inr ((column, own), later))
+-- the first of the types from a place on
+first_left : (texts : List (List ℕ)) (i : ℕ) (text : List ℕ) → i < length texts → text ≡ get_or texts i text
+    → drop i texts ≡ text ∷ drop (i + 1) texts
+first_left texts i text l is =
+    rw (add-one i) (drop-cons texts i text l ∙ ap (λ t. t ∷ drop (suc i) texts) (sym is))
 
--- a type that is not that of a column is refused
-pub type_refused : (count : ℕ) (text : List ℕ) (fault : ArgumentFault) → IsTypeRefused text fault
-    → IsRefusal count text fault
-type_refused count text argument.TooManyTypes h = absurd h
-type_refused count text argument.NoType h = h
-type_refused count text (argument.UnknownType name) h = h
-type_refused count text (argument.NestedType name) h = h
-type_refused count text (argument.UnknownOption name) h = h
-type_refused count text argument.Memory h = h
+-- one more type is taken, whatever follows it
+pub one_more : (texts : List (List ℕ)) (i : ℕ) (text : List ℕ) (columns : List Column)
+    (refused : List RefusedType) (new_columns : List Column) (new_refused : List RefusedType) → i < length texts
+    → text ≡ get_or texts i text → TakesType (i + 1) text columns refused new_columns new_refused
+    → ((more : List Column) (later : List RefusedType) → AreTypes (i + 1) (drop i texts) more later
+    → AreTypes 1 texts (columns ++ more) (refused ++ later))
+    → (more : List Column) (later : List RefusedType) → AreTypes (i + 1 + 1) (drop (i + 1) texts) more later
+    → AreTypes 1 texts (new_columns ++ more) (new_refused ++ later)
+one_more texts i text columns refused new_columns new_refused l is (inl own) before more later rest =
+    let column = own.0 in
+    let cut = first_left texts i text l is in
+    let here : AreTypes (i + 1) (drop i texts) (column ∷ more) later =
+    subst (λ t. AreTypes (i + 1) t (column ∷ more) later) (sym cut) (inl (column, more, refl, own.1, rest)) in
+    let joined : columns ++ column ∷ more ≡ new_columns ++ more =
+    sym (append_assoc columns (column ∷ []) more) ∙ ap (λ k. k ++ more) (sym own.2) in
+    rw (own.3) (subst (λ k. AreTypes 1 texts k (refused ++ later)) joined (before (column ∷ more) later here))
+one_more texts i text columns refused new_columns new_refused l is (inr own) before more later rest =
+    let one = own.0 in
+    let cut = first_left texts i text l is in
+    let here : AreTypes (i + 1) (drop i texts) more (one ∷ later) =
+    subst (λ t. AreTypes (i + 1) t more (one ∷ later)) (sym cut) (inr (one, later, refl, own.1, rest)) in
+    let joined : refused ++ one ∷ later ≡ new_refused ++ later =
+    sym (append_assoc refused (one ∷ []) later) ∙ ap (λ k. k ++ later) (sym own.2) in
+    rw (own.3) (subst (λ k. AreTypes 1 texts (columns ++ more) k) joined (before more (one ∷ later) here))
 
-pub zip_append : {X : Type 0} (R : List ℕ → X → Type 0) (xs ys : List (List ℕ)) (new more : List X) → AllZip R xs new
-    → AllZip R ys more → AllZip R (xs ++ ys) (new ++ more)
-zip_append R [] ys [] more all rest = rest
-zip_append R [] ys (x ∷ new) more all rest = absurd all
-zip_append R (text ∷ xs) ys [] more all rest = absurd all
-zip_append R (text ∷ xs) ys (x ∷ new) more all rest = (all.0, zip_append R xs ys new more all.1 rest)
+-- nothing follows
+pub no_more : (texts : List (List ℕ)) (i : ℕ) (columns : List Column) (refused : List RefusedType) → length texts ≤ i
+    → ((more : List Column) (later : List RefusedType) → AreTypes (i + 1) (drop i texts) more later
+    → AreTypes 1 texts (columns ++ more) (refused ++ later)) → AreTypes 1 texts columns refused
+no_more texts i columns refused past before =
+    let all = before [] [] (subst (λ t. AreTypes (i + 1) t [] []) (sym (drop_all i texts past)) (refl, refl)) in
+    subst (λ k. AreTypes 1 texts k refused) (append-nil columns)
+    (subst (λ k. AreTypes 1 texts (columns ++ []) k) (append-nil refused) all)
 
--- a refusal among the first of the types
-pub refused_front : (count : ℕ) (xs ys : List (List ℕ)) (fault : ArgumentFault) → IsFirstRefusal count xs fault
-    → IsFirstRefusal count (xs ++ ys) fault
-refused_front count [] ys fault h = absurd h
-refused_front count (text ∷ xs) ys fault (inl own) = inl own
-refused_front count (text ∷ xs) ys fault (inr (taken, later)) =
-    inr (taken, refused_front (count + 1) xs ys fault later)
-
--- a refusal after types that have columns
-pub refused_back : (count : ℕ) (xs ys : List (List ℕ)) (new : List Column) (fault : ArgumentFault)
-    → AllZip IsColumnOf xs new → IsFirstRefusal (count + length new) ys fault → IsFirstRefusal count (xs ++ ys) fault
-refused_back count [] ys [] fault all h =
-    let same : count + 0 ≡ count = omega arith in subst (λ n. IsFirstRefusal n ys fault) same h
-refused_back count [] ys (column ∷ new) fault all h = absurd all
-refused_back count (text ∷ xs) ys [] fault all h = absurd all
-refused_back count (text ∷ xs) ys (column ∷ new) fault all h =
-    let same : count + length (column ∷ new) ≡ count + 1 + length new = omega arith in
-    inr (
-      (column, all.0),
-      refused_back (count + 1) xs ys new fault all.1
-          (subst (λ n. IsFirstRefusal n ys fault) same h),
-    )
+-- where none is refused, each has its column
+pub all_taken : (number : ℕ) (texts : List (List ℕ)) (columns : List Column) (refused : List RefusedType)
+    → refused ≡ [] → AreTypes number texts columns refused → AllZip IsColumnOf texts columns
+all_taken number [] columns refused none h = rw h.0 tt
+all_taken number (text ∷ texts) columns refused none (inl own) =
+    rw own.2 (own.3, all_taken (number + 1) texts own.1 refused none own.4)
+all_taken number (text ∷ texts) columns refused none (inr own) =
+    let some : [] ≡ own.0 ∷ own.1 = sym none ∙ own.2 in absurd (omega (arith, ap length some))
 
 -- words
 
@@ -173,30 +178,10 @@ pub words_step : (words : List (String Global)) (i : ℕ) (word : String Global)
 words_step words i word l is =
     rw (add-one i) (ap types_of_words (drop-cons words i word l ∙ ap (λ w. w ∷ drop (suc i) words) (sym is)))
 
-no_type : (count : ℕ) (texts : List (List ℕ)) → IsFirstRefusal count texts argument.NoType → ⊥
-no_type count [] h = h
-no_type count (text ∷ texts) (inl own) = own
-no_type count (text ∷ texts) (inr (taken, later)) = no_type (count + 1) texts later
-
-no_option : (count : ℕ) (texts : List (List ℕ)) (name : String Global)
-    → IsFirstRefusal count texts (argument.UnknownOption name) → ⊥
-no_option count [] name h = h
-no_option count (text ∷ texts) name (inl own) = own
-no_option count (text ∷ texts) name (inr (taken, later)) = no_option (count + 1) texts name later
-
--- a type of words that do not begin with an option is refused
-pub columns_refused : (words : List (String Global)) (fault : ArgumentFault) → has_option words ≡ false
-    → IsFirstRefusal 0 (types_of_words words) fault → IsRefused words fault
-columns_refused words argument.NoType plain h = absurd (no_type 0 (types_of_words words) h)
-columns_refused words argument.TooManyTypes plain h = (plain, h)
-columns_refused words (argument.UnknownType name) plain h = (plain, h)
-columns_refused words (argument.NestedType name) plain h = (plain, h)
-columns_refused words (argument.UnknownOption name) plain h = absurd (no_option 0 (types_of_words words) name h)
-columns_refused words argument.Memory plain h = tt
-
--- no column has no type
-pub no_columns : (texts : List (List ℕ)) (columns : List Column) → length columns ≡ 0 → AllZip IsColumnOf texts columns
-    → texts ≡ []
-no_columns [] columns none all = refl
-no_columns (text ∷ texts) [] none all = absurd all
-no_columns (text ∷ texts) (column ∷ columns) none all = absurd (omega arith)
+-- there are as many columns as types
+pub as_many : (texts : List (List ℕ)) (columns : List Column) → AllZip IsColumnOf texts columns
+    → length columns ≡ length texts
+as_many [] [] all = refl
+as_many [] (column ∷ columns) all = absurd all
+as_many (text ∷ texts) [] all = absurd all
+as_many (text ∷ texts) (column ∷ columns) all = ap suc (as_many texts columns all.1)

@@ -1,11 +1,12 @@
 //! The command line: options, and the types of the columns.
 ghost use Rattle.std.specs.List.{AllZip};
-ghost use Rattle.std.specs.Prelude.{◌≡◌, ◌≤◌, IfErr, IfOk, OnOk, length, string_bytes};
+ghost use Rattle.std.specs.Prelude.{◌≡◌, ◌∷◌, ◌++◌, [], IfErr, IfOk, OnOk, string_bytes};
 ghost use Rattle.std.specs.Str.{trim};
-ghost use Rattle.pg_copy.specs.Arguments.{AddsColumns, IsFirstRefusal, IsLeft, IsRefused, IsRequest, IsTypeRefused};
-ghost use Rattle.pg_copy.specs.Arguments.{first_word, max_columns, types_of_word, types_of_words};
+ghost use Rattle.pg_copy.specs.Arguments.{AreRefused, IsLeft, IsNamed, IsRefused, IsRequest, TakesType, first_word};
+ghost use Rattle.pg_copy.specs.Arguments.{texts_of, types_of_word, types_of_words};
 ghost use Rattle.pg_copy.specs.ColumnTypes.{IsColumnOf};
 ghost use Rattle.pg_copy.specs.declared.arguments.ArgumentFault.TheVariants.{Memory};
+ghost use Rattle.pg_copy.specs.declared.arguments.RefusedType.{RefusedType};
 
 use crate::columns::{Column, TypeFault};
 use crate::type_names::split_at_comma;
@@ -32,24 +33,65 @@ pub enum ArgumentFault {
     NoType,
     /// There are more types than a COPY can have columns.
     TooManyTypes,
-    /// No type with a conversion has this name.
-    UnknownType(String),
-    /// A composite type has a field of a composite type.
-    NestedType(String),
+    /// Types that are not those of columns, in their order; there is at least one.
+    Types(Vec<RefusedType>),
     /// There is no such option.
     UnknownOption(String),
     /// An allocation failed.
     Memory,
 }
 
+/// A type that is not that of a column.
+#[derive(Debug, Drop)]
+pub struct RefusedType {
+    /// The number of its column, counted from 1.
+    pub number: usize,
+    /// Its name, without the white space around it.
+    pub name: String,
+    /// Whether it is not taken because a composite type stands within another; otherwise it has no
+    /// conversion.
+    pub is_nested: bool,
+}
+
+impl fmt::Display for RefusedType {
+    fn fmt<W: fmt::Write>(&self, f: &mut fmt::Formatter<W>) -> fmt::Result {
+        let RefusedType {
+            number,
+            name,
+            is_nested,
+        } = self;
+        let note = note_on(name.as_str(), *is_nested);
+        write!(f, "column {number}: {name}{note}")
+    }
+}
+
+/// Returns what is told of a type beside its name: what to write instead, where that is known.
+fn note_on(name: &str, is_nested: bool) -> &'static str {
+    match name {
+        _ if is_nested => " (a composite type within another)",
+        "" => "no type before a comma",
+        "double" | "float" => " (write double precision)",
+        _ if name.ends_with(" array") => " (write [] after the type of the elements)",
+        _ => "",
+    }
+}
+
+/// What is told before the types that are not taken.
+const TYPES: &str = "\
+no conversion of these types; an enumerated type is named enum, a domain by its base type, a composite type by its
+fields, and any column may be raw, the bytes of its cells; scripts/columns prints the types of a table:";
+
 impl fmt::Display for ArgumentFault {
     fn fmt<W: fmt::Write>(&self, f: &mut fmt::Formatter<W>) -> fmt::Result {
         match self {
             ArgumentFault::NoType => write!(f, "no type is given; --help says how"),
             ArgumentFault::TooManyTypes => write!(f, "more than 32767 types are given"),
-            ArgumentFault::UnknownType(name) => write!(f, "no conversion of the type {name}"),
-            ArgumentFault::NestedType(name) => {
-                write!(f, "a composite type within another is not taken: {name}")
+            ArgumentFault::Types(types) => {
+                write!(f, "{TYPES}")?;
+                for ty in types {
+                    write!(f, "\n{ty}")?;
+                }
+                Ok(())
             }
             ArgumentFault::UnknownOption(name) => write!(f, "no option {name}; --help says which"),
             ArgumentFault::Memory => write!(f, "out of memory"),
@@ -88,11 +130,14 @@ pub fn parse(alloc: Global, words: &[String]) -> Result<Request, ArgumentFault>
     if first.starts_with('-') {
         return Err(ArgumentFault::UnknownOption(String::from_str(alloc, first)?));
     }
-    let columns = columns_of(alloc, words)?;
-    if columns.is_empty() {
+    let types = types_of(alloc, words)?;
+    if types.is_empty() {
         return Err(ArgumentFault::NoType);
     }
-    Ok(Request::Copy(columns))
+    if types.len() > MAX_COLUMNS {
+        return Err(ArgumentFault::TooManyTypes);
+    }
+    Ok(Request::Copy(columns_of(alloc, types.as_slice())?))
 }
 
 /// Returns the first word, or an empty text if there is none.
@@ -105,32 +150,25 @@ fn first_word(words: &[String]) -> &str
     }
 }
 
-/// Returns the columns of the types in the words.
-fn columns_of(alloc: Global, words: &[String]) -> Result<Vec<Column>, ArgumentFault>
-    ensures ok { IfOk result (λ columns. AllZip IsColumnOf (types_of_words words.now) columns.items) }
-    ensures few { IfOk result (λ columns. length columns.items ≤ max_columns) }
-    ensures err { IfErr result (IsFirstRefusal 0 (types_of_words words.now)) }
+/// Returns the types in the words.
+fn types_of<'a>(alloc: Global, words: &'a [String]) -> Result<Vec<&'a str>, AllocError>
+    ensures { IfOk result (λ types. texts_of types.items ≡ types_of_words words.now) }
 {
-    let mut columns = Vec::new(alloc);
+    let mut types = Vec::new(alloc);
     for word in words {
-        push_columns(alloc, word.as_str(), &mut columns)?;
+        push_types(word.as_str(), &mut types)?;
     }
-    Ok(columns)
+    Ok(types)
 }
 
-/// Appends the columns of the types in a word. The last type may have a comma after it.
-fn push_columns(alloc: Global, word: &str, columns: &mut Vec<Column>) -> Result<(), ArgumentFault>
-    ensures ok { OnOk result (AddsColumns (types_of_word word.now) columns.old.items columns.new.items) }
-    ensures few { OnOk result (length columns.old.items ≤ max_columns → length columns.new.items ≤ max_columns) }
-    ensures err { IfErr result (IsFirstRefusal (length columns.old.items) (types_of_word word.now)) }
+/// Appends the types in a word. The last one may have a comma after it.
+fn push_types<'a>(word: &'a str, types: &mut Vec<&'a str>) -> Result<(), AllocError>
+    ensures { OnOk result (texts_of types.new.items ≡ texts_of types.old.items ++ types_of_word word.now) }
 {
     let mut rest = not_blank(word);
-    while let Some(types) = rest {
-        let (text, after) = split_at_comma(types);
-        if columns.len() == MAX_COLUMNS {
-            return Err(ArgumentFault::TooManyTypes);
-        }
-        columns.push(column(alloc, text)?)?;
+    while let Some(left) = rest {
+        let (ty, after) = split_at_comma(left);
+        types.push(ty)?;
         rest = after.and_then(not_blank);
     }
     Ok(())
@@ -147,17 +185,60 @@ fn not_blank(text: &str) -> Option<&str>
     }
 }
 
-/// Returns the column of this type.
-fn column(alloc: Global, text: &str) -> Result<Column, ArgumentFault>
-    ensures ok { IfOk result (IsColumnOf text.now) }
-    ensures err { IfErr result (IsTypeRefused text.now) }
+/// Returns the columns of the types. Where some are not taken, all of these are told.
+fn columns_of(alloc: Global, types: &[&str]) -> Result<Vec<Column>, ArgumentFault>
+    ensures ok { IfOk result (λ columns. AllZip IsColumnOf (texts_of types.now) columns.items) }
+    ensures err { IfErr result (AreRefused (texts_of types.now)) }
 {
-    match Column::parse(alloc, text) {
-        Ok(column) => Ok(column),
-        Err(TypeFault::Unknown) => Err(ArgumentFault::UnknownType(trimmed(alloc, text)?)),
-        Err(TypeFault::Nested) => Err(ArgumentFault::NestedType(trimmed(alloc, text)?)),
-        Err(TypeFault::Memory) => Err(ArgumentFault::Memory),
+    let mut columns = Vec::new(alloc);
+    let mut refused = Vec::new(alloc);
+    for (place, ty) in types.iter().enumerate() {
+        push_type(alloc, place + 1, ty, &mut columns, &mut refused)?;
     }
+    if refused.is_empty() {
+        Ok(columns)
+    } else {
+        Err(ArgumentFault::Types(refused))
+    }
+}
+
+/// Appends the column of the type with this number, or why it has none.
+fn push_type(
+    alloc: Global,
+    number: usize,
+    ty: &&str,
+    columns: &mut Vec<Column>,
+    refused: &mut Vec<RefusedType>,
+) -> Result<(), AllocError>
+    ensures { OnOk result (TakesType number ty.now.now columns.old.items refused.old.items columns.new.items
+        refused.new.items) }
+{
+    let text = *ty;
+    match Column::parse(alloc, text) {
+        Ok(column) => Ok(columns.push(column)?),
+        Err(TypeFault::Unknown) => push_refused(alloc, number, text, false, refused),
+        Err(TypeFault::Nested) => push_refused(alloc, number, text, true, refused),
+        Err(TypeFault::Memory) => Err(AllocError),
+    }
+}
+
+/// Appends a type that is not taken.
+fn push_refused(
+    alloc: Global,
+    number: usize,
+    text: &str,
+    is_nested: bool,
+    refused: &mut Vec<RefusedType>,
+) -> Result<(), AllocError>
+    ensures { OnOk result ((ty : RefusedType) × IsNamed number text.now is_nested ty
+        × (refused.new.items ≡ refused.old.items ++ ty ∷ [])) }
+{
+    let name = trimmed(alloc, text)?;
+    Ok(refused.push(RefusedType {
+        number,
+        name,
+        is_nested,
+    })?)
 }
 
 /// Copies the text without the white space around it.

@@ -3,5 +3,4 @@
 mod client;
 mod copy;
 mod fake_streams;
-mod names;
 mod runs;

@@ -27,9 +27,7 @@ pub use texts::{debugs, displays};
 pub use types::{accepts, simple_type, unix, user_type};
 pub use without_memory::{null_takes_no_memory, takes_no_memory, writes_by_room};
 pub use word::Word;
-pub use writing::{
-    reads_back, refuses_type, refuses_value, refuses_values, rewrites, spells, writes, writes_null,
-};
+pub use writing::{reads_back, refuses_type, refuses_value, rewrites, spells, writes, writes_null};
 
 /// The content of a buffer before a function writes to it.
 const BEFORE: &[u8] = b"before";

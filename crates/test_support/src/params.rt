@@ -18,7 +18,12 @@ pub fn binds(
     if params.len() != types.len() {
         return Err(Fail::from("as many types as parameters"));
     }
-    let bound = params_to_sql(alloc, params, types, &mut out);
-    holds(bound.is_ok(), "bound")?;
-    same(out.strip_prefix(BEFORE), Some(frames))
+    match params_to_sql(alloc, params, types, &mut out) {
+        Ok(()) => same(out.strip_prefix(BEFORE), Some(frames)),
+        Err((place, fault)) => {
+            holds(place < params.len(), "a place of a parameter")?;
+            same(out.as_slice(), BEFORE)?;
+            Err(Fail::from(fault))
+        }
+    }
 }

@@ -1,9 +1,10 @@
 //! Tables of writing.
 
 use crate::code::WRONG_TYPE;
-use crate::{BEFORE, fault_code, read, reads, same};
+use crate::refusals::has_code;
+use crate::{BEFORE, holds, read, reads, same};
 use postgres_types::private::BytesMut;
-use postgres_types::{FromSql, IsNull, Paired, ToSql, Type, rewrite, to_sql_checked_as};
+use postgres_types::{Fault, FromSql, IsNull, Paired, ToSql, Type, rewrite, to_sql_checked_as};
 use std::alloc::Global;
 use std::fmt::Debug;
 use std::test::Fail;
@@ -12,13 +13,22 @@ use std::test::Fail;
 /// and into an empty one.
 pub fn writes<T: ToSql>(alloc: Global, value: &T, ty: &Type, cell: &[u8]) -> Result<(), Fail> {
     let mut out = BytesMut::copy_from_slice(alloc, BEFORE)?;
-    same(value.to_sql_checked(alloc, ty, &mut out)?, IsNull::No)?;
+    let answer = value.to_sql_checked(alloc, ty, &mut out);
+    same(answered(answer, &out)?, IsNull::No)?;
     same(out.strip_prefix(BEFORE), Some(cell))?;
     let mut out = BytesMut::new(alloc);
     let answer = to_sql_checked_as(alloc, value, "value", ty, &mut out)?;
     same(answer, IsNull::No)?;
     same(out.as_slice(), cell)?;
     writes_unchecked(alloc, value, ty, cell)
+}
+
+/// Returns the answer of a write to a buffer, which a refusal leaves as it was.
+fn answered(answer: Result<IsNull, Fault>, out: &BytesMut) -> Result<IsNull, Fail> {
+    if answer.is_err() {
+        same(out.as_slice(), BEFORE)?;
+    }
+    Ok(answer?)
 }
 
 /// Tests that the value is written as the cell into an empty buffer, if the type is accepted.
@@ -30,7 +40,9 @@ fn writes_unchecked<T: ToSql>(
 ) -> Result<(), Fail> {
     if T::accepts(ty) {
         let mut out = BytesMut::new(alloc);
-        same(value.to_sql(alloc, ty, &mut out)?, IsNull::No)?;
+        let answer = value.to_sql(alloc, ty, &mut out);
+        holds(answer.is_ok() || out.is_empty(), "a refused write appended")?;
+        same(answer?, IsNull::No)?;
         same(out.as_slice(), cell)?;
     }
     Ok(())
@@ -39,7 +51,12 @@ fn writes_unchecked<T: ToSql>(
 /// Tests that the value is written as NULL, which appends nothing.
 pub fn writes_null<T: ToSql>(alloc: Global, value: &T, ty: &Type) -> Result<(), Fail> {
     let mut out = BytesMut::copy_from_slice(alloc, BEFORE)?;
-    same(value.to_sql_checked(alloc, ty, &mut out)?, IsNull::Yes)?;
+    let answer = value.to_sql_checked(alloc, ty, &mut out);
+    same(answered(answer, &out)?, IsNull::Yes)?;
+    if T::accepts(ty) {
+        let answer = value.to_sql(alloc, ty, &mut out);
+        same(answered(answer, &out)?, IsNull::Yes)?;
+    }
     same(out.as_slice(), BEFORE)
 }
 
@@ -48,16 +65,8 @@ pub fn writes_null<T: ToSql>(alloc: Global, value: &T, ty: &Type) -> Result<(), 
 pub fn refuses_value<T: ToSql>(alloc: Global, value: &T, ty: &Type, code: u32) -> Result<(), Fail> {
     let mut out = BytesMut::copy_from_slice(alloc, BEFORE)?;
     let refused = value.to_sql_checked(alloc, ty, &mut out);
-    same(fault_code(refused), code)?;
-    same(out.as_slice(), BEFORE)
-}
-
-/// Tests that writing each value to the type is refused with the fault of its number.
-pub fn refuses_values<T: ToSql>(alloc: Global, ty: &Type, rows: &[(T, u32)]) -> Result<(), Fail> {
-    for (value, code) in rows {
-        refuses_value(alloc, value, ty, *code)?;
-    }
-    Ok(())
+    same(out.as_slice(), BEFORE)?;
+    has_code(refused, code)
 }
 
 /// Tests that the type is refused, with the Rust type's name in the text of the fault, and that
@@ -83,7 +92,9 @@ pub fn rewrites<'a, T: Paired<'a>>(
     written: &[u8],
 ) -> Result<(), Fail> {
     let mut out = BytesMut::new(alloc);
-    same(rewrite::<T>(alloc, ty, Some(cell), &mut out)?, IsNull::No)?;
+    let answer = rewrite::<T>(alloc, ty, Some(cell), &mut out);
+    holds(answer.is_ok() || out.is_empty(), "a refused write appended")?;
+    same(answer?, IsNull::No)?;
     same(out.as_slice(), written)
 }
 

@@ -1,5 +1,6 @@
 //! The tests, by topic.
 
+mod appenders;
 mod bits;
 mod bytea;
 mod calendar_texts;
@@ -16,12 +17,9 @@ mod intervals;
 mod json;
 mod json_text;
 mod long_cells;
-mod long_map;
 mod lsn;
-mod memory;
 mod network;
 mod network_texts;
-mod no_day;
 mod numbers;
 mod numeric;
 mod texts;

@@ -5,7 +5,7 @@ use jiff::civil::{Date, DateTime, Time};
 use postgres_types::Type;
 use std::test::Fail;
 use test_support::code::{DECODE, SIZE, WAS_NULL};
-use test_support::{accepts, displays, has_cells, reads, simple_type, writes};
+use test_support::{has_cells, writes};
 
 /// Year, month and day.
 type Day = (i16, i8, i8);
@@ -121,29 +121,8 @@ fn datetimes_are_microseconds_from_2000(rt: HostRuntime) -> Result<(), Fail> {
         let row = [(datetime(date, time)?, cell.as_slice())];
         has_cells(alloc, &Type::TIMESTAMP, &row, &REFUSED_DATETIMES)?;
     }
-    Ok(())
-}
-
-/// Datetimes between two microseconds, and the microsecond nearer to 2000-01-01 00:00:00.
-const FINER_DATETIMES: [(Day, Clock, i64); 4] = [
-    ((1999, 12, 31), (23, 59, 59, 999_998_500), -1),
-    ((1999, 12, 31), (23, 59, 59, 999_999_500), 0),
-    ((2000, 1, 1), (0, 0, 0, 1_999), 1),
-    (
-        (9999, 12, 31),
-        (23, 59, 59, 999_999_999),
-        252_455_615_999_999_999,
-    ),
-];
-
-#[test]
-fn finer_datetimes_are_truncated_toward_2000(rt: HostRuntime) -> Result<(), Fail> {
-    let alloc = rt.alloc();
-    for (date, time, micros) in FINER_DATETIMES {
-        let value = datetime(date, time)?;
-        writes(alloc, &value, &Type::TIMESTAMP, &micros.to_be_bytes())?;
-    }
-    Ok(())
+    let finer = datetime((1999, 12, 31), (23, 59, 59, 999_998_500))?;
+    writes(alloc, &finer, &Type::TIMESTAMP, &[0xff; 8])
 }
 
 /// The microseconds of the first and of the last timestamp.
@@ -163,42 +142,18 @@ const REFUSED_INSTANTS: [(Option<&[u8]>, u32); 6] = [
 
 #[test]
 fn timestamps_are_microseconds_from_2000(rt: HostRuntime) -> Result<(), Fail> {
-    let base = Timestamp::from_second(946_684_800)?;
-    displays(rt.alloc(), &base, "2000-01-01T00:00:00Z")?;
-    let first = FIRST_INSTANT.to_be_bytes();
-    let rows: [(Timestamp, &[u8]); 3] = [
-        (base, &[0; 8]),
+    let (first, last) = (FIRST_INSTANT.to_be_bytes(), LAST_INSTANT.to_be_bytes());
+    let rows: [(Timestamp, &[u8]); 4] = [
+        (Timestamp::from_second(946_684_800)?, &[0; 8]),
         (
             Timestamp::new(946_684_800, 1_000)?,
             &[0, 0, 0, 0, 0, 0, 0, 1],
         ),
         (Timestamp::MIN, &first),
+        (
+            Timestamp::from_nanosecond(253_402_207_200_999_999_000)?,
+            &last,
+        ),
     ];
     has_cells(rt.alloc(), &Type::TIMESTAMPTZ, &rows, &REFUSED_INSTANTS)
-}
-
-#[test]
-fn finer_timestamps_are_truncated_toward_2000(rt: HostRuntime) -> Result<(), Fail> {
-    let alloc = rt.alloc();
-    let ty = &Type::TIMESTAMPTZ;
-    let last = LAST_INSTANT.to_be_bytes();
-    writes(alloc, &Timestamp::MAX, ty, &last)?;
-    let greatest = Timestamp::from_nanosecond(253_402_207_200_999_999_000)?;
-    reads(alloc, ty, &last, greatest)?;
-    let early = Timestamp::from_nanosecond(946_684_799_999_998_500)?;
-    writes(alloc, &early, ty, &[0xff; 8])
-}
-
-#[test]
-fn dates_and_times_accept_no_other_type(rt: HostRuntime) -> Result<(), Fail> {
-    let date = simple_type(rt.alloc(), "date", 1_082, "pg_catalog")?;
-    accepts::<Date>(&[(Type::TIMESTAMP, false), (Type::INT4, false), (date, false)])?;
-    accepts::<Time>(&[(Type::TIMESTAMP, false), (Type::INT8, false)])
-}
-
-#[test]
-fn timestamps_accept_no_other_type(rt: HostRuntime) -> Result<(), Fail> {
-    let timestamp = simple_type(rt.alloc(), "timestamp", 1_114, "pg_catalog")?;
-    accepts::<DateTime>(&[(Type::TIMESTAMPTZ, false), (timestamp, false)])?;
-    accepts::<Timestamp>(&[(Type::TIMESTAMP, false)])
 }

@@ -3,7 +3,7 @@
 use postgres_types::{Fault, Type, WasNull, WrongType};
 use std::alloc::Global;
 use std::test::Fail;
-use test_support::{code, debugs, displays, same};
+use test_support::{code, displays, same};
 
 /// The faults that a constant can hold: the number, the fault and its text.
 const FAULTS: [(u32, Fault, &str); 21] = [
@@ -86,16 +86,6 @@ fn each_fault_has_its_number_and_text(rt: HostRuntime) -> Result<(), Fail> {
         (code::WRONG_TYPE, Fault::WrongType(wrong), text),
         (code::USER, Fault::user("odd"), "odd"),
     ];
-    have_texts(rt.alloc(), &rows)
-}
-
-#[test]
-fn was_null_has_its_texts(rt: HostRuntime) -> Result<(), Fail> {
-    displays(rt.alloc(), &WasNull, "a Postgres value was `NULL`")?;
-    debugs(rt.alloc(), &WasNull, "WasNull")
-}
-
-#[test]
-fn a_user_fault_debugs_as_its_text(rt: HostRuntime) -> Result<(), Fail> {
-    debugs(rt.alloc(), &Fault::user("odd"), "User(\"odd\")")
+    have_texts(rt.alloc(), &rows)?;
+    displays(rt.alloc(), &WasNull, "a Postgres value was `NULL`")
 }

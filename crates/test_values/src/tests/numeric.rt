@@ -1,120 +1,32 @@
-//! NUMERIC. The cells are those of a server's `numeric_send`, and the damaged ones were sent to it by COPY.
-
-mod exponents;
-mod integers;
+//! NUMERIC. The cells are those of a server's `numeric_send`, the damaged ones were sent to it by
+//! COPY, and the texts with an exponent are those that PostgreSQL 15 reads and refuses.
 
 use pg_numbers::types::{numeric_array_type, numeric_type};
 use pg_numbers::{Decimal, Numeric};
-use postgres_types::{Fault, Type};
-use std::alloc::Global;
 use std::cmp::Ordering;
 use std::test::Fail;
-use test_support::code::{SIZE, TRANSMIT, USER, WAS_NULL};
-use test_support::{
-    accepts, displays, fault_code, read, reads, refuses, refuses_fronts, refuses_type, rewrites,
-    same, simple_type, writes, writes_null,
-};
+use test_support::code::{SIZE, USER, WAS_NULL};
+use test_support::{displays, fault_code, reads, refuses, rewrites, same, writes};
 
-/// A number: whether it is negative, its weight, its scale and its digits.
-type Parts = (bool, i16, u16, &'static [u16]);
-
-fn finite(alloc: Global, (negative, weight, scale, digits): Parts) -> Result<Numeric, Fault> {
-    Ok(Numeric::Finite(Decimal::new(alloc, negative, weight, scale, digits)?))
-}
-
-/// Numbers and their cells.
-const CELLS: [(Parts, &[u8]); 12] = [
-    ((false, 0, 0, &[]), &[0, 0, 0, 0, 0, 0, 0, 0]),
-    ((false, 0, 2, &[]), &[0, 0, 0, 0, 0, 0, 0, 2]),
-    ((false, 0, 0, &[1]), &[0, 1, 0, 0, 0, 0, 0, 0, 0, 1]),
-    ((true, 0, 0, &[1]), &[0, 1, 0, 0, 0x40, 0, 0, 0, 0, 1]),
-    // 1.50 and 12345.6789
-    (
-        (false, 0, 2, &[1, 5000]),
-        &[0, 2, 0, 0, 0, 0, 0, 2, 0, 1, 0x13, 0x88],
-    ),
-    (
-        (false, 1, 4, &[1, 2345, 6789]),
-        &[0, 3, 0, 1, 0, 0, 0, 4, 0, 1, 0x09, 0x29, 0x1a, 0x85],
-    ),
-    // 0.0001, 0.00012, -0.5 and 10^-20
-    ((false, -1, 4, &[1]), &[0, 1, 0xff, 0xff, 0, 0, 0, 4, 0, 1]),
-    (
-        (false, -1, 5, &[1, 2000]),
-        &[0, 2, 0xff, 0xff, 0, 0, 0, 5, 0, 1, 0x07, 0xd0],
-    ),
-    (
-        (true, -1, 1, &[5000]),
-        &[0, 1, 0xff, 0xff, 0x40, 0, 0, 1, 0x13, 0x88],
-    ),
-    (
-        (false, -5, 20, &[1]),
-        &[0, 1, 0xff, 0xfb, 0, 0, 0, 20, 0, 1],
-    ),
+/// Cells, and the cells that the server writes for their values.
+const REWRITTEN: [(&[u8], &[u8]); 12] = [
     // 10^131071 and 10^-16383, the greatest weight and scale
     (
-        (false, 32_767, 0, &[1000]),
+        &[0, 1, 0x7f, 0xff, 0, 0, 0, 0, 0x03, 0xe8],
         &[0, 1, 0x7f, 0xff, 0, 0, 0, 0, 0x03, 0xe8],
     ),
     (
-        (false, -4096, 16_383, &[10]),
+        &[0, 1, 0xf0, 0, 0, 0, 0x3f, 0xff, 0, 10],
         &[0, 1, 0xf0, 0, 0, 0, 0x3f, 0xff, 0, 10],
     ),
-];
-
-#[test]
-fn a_number_is_its_cell(rt: HostRuntime) -> Result<(), Fail> {
-    let ty = numeric_type(rt.alloc())?;
-    for (parts, cell) in CELLS {
-        writes(rt.alloc(), &finite(rt.alloc(), parts)?, &ty, cell)?;
-        reads(rt.alloc(), &ty, cell, finite(rt.alloc(), parts)?)?;
-        rewrites::<Numeric>(rt.alloc(), &ty, cell, cell)?;
-    }
-    Ok(())
-}
-
-#[test]
-fn nan_and_the_infinities_have_cells(rt: HostRuntime) -> Result<(), Fail> {
-    let ty = numeric_type(rt.alloc())?;
-    let nan = [0, 0, 0, 0, 0xc0, 0, 0, 0];
-    let infinity = [0, 0, 0, 0, 0xd0, 0, 0, 32];
-    let negative_infinity = [0, 0, 0, 0, 0xf0, 0, 0, 32];
-    writes(rt.alloc(), &Numeric::NaN, &ty, &nan)?;
-    writes(rt.alloc(), &Numeric::Infinity, &ty, &infinity)?;
-    writes(
-        rt.alloc(),
-        &Numeric::NegativeInfinity,
-        &ty,
-        &negative_infinity,
-    )?;
-    reads(rt.alloc(), &ty, &nan, Numeric::NaN)?;
-    reads(rt.alloc(), &ty, &infinity, Numeric::Infinity)?;
-    reads(
-        rt.alloc(),
-        &ty,
-        &negative_infinity,
-        Numeric::NegativeInfinity,
-    )
-}
-
-/// Cells that the server reads as the value of another cell.
-const REWRITTEN: [(&[u8], &[u8]); 12] = [
     // 1.5 and 1.5678 of smaller scales, of which the decimals are not shown
     (
         &[0, 2, 0, 0, 0, 0, 0, 0, 0, 1, 0x13, 0x88],
         &[0, 1, 0, 0, 0, 0, 0, 0, 0, 1],
     ),
     (
-        &[0, 2, 0, 0, 0, 0, 0, 1, 0, 1, 0x16, 0x2e],
-        &[0, 2, 0, 0, 0, 0, 0, 1, 0, 1, 0x13, 0x88],
-    ),
-    (
         &[0, 2, 0, 0, 0, 0, 0, 3, 0, 1, 0x16, 0x2e],
         &[0, 2, 0, 0, 0, 0, 0, 3, 0, 1, 0x16, 0x26],
-    ),
-    (
-        &[0, 1, 0xff, 0xff, 0x40, 0, 0, 0, 0x13, 0x88],
-        &[0, 0, 0, 0, 0, 0, 0, 0],
     ),
     (
         &[0, 1, 0xff, 0xff, 0x40, 0, 0, 3, 0, 7],
@@ -147,161 +59,89 @@ const REWRITTEN: [(&[u8], &[u8]); 12] = [
     ),
 ];
 
-#[test]
-fn other_cells_of_a_value_are_rewritten(rt: HostRuntime) -> Result<(), Fail> {
-    let ty = numeric_type(rt.alloc())?;
-    for (cell, written) in REWRITTEN {
-        rewrites::<Numeric>(rt.alloc(), &ty, cell, written)?;
-    }
-    Ok(())
-}
-
 /// Cells that the server refuses, and the numbers of their faults.
-const REFUSED: [(Option<&[u8]>, u32); 14] = [
+const REFUSED: [(Option<&[u8]>, u32); 9] = [
     (None, WAS_NULL),
     // a sign
     (Some(&[0, 1, 0, 0, 0x80, 0, 0, 0, 0, 1]), USER),
-    (Some(&[0, 1, 0, 0, 0xe0, 0, 0, 0, 0, 1]), USER),
     (Some(&[0, 1, 0, 0, 0x40, 1, 0, 0, 0, 1]), USER),
     // a scale
     (Some(&[0, 1, 0, 0, 0, 0, 0x40, 0, 0, 1]), USER),
-    (Some(&[0, 1, 0, 0, 0, 0, 0xff, 0xff, 0, 1]), USER),
     (Some(&[0, 0, 0, 0, 0xc0, 0, 0x40, 0]), USER),
     // a digit
     (Some(&[0, 1, 0, 0, 0, 0, 0, 0, 0x27, 0x10]), USER),
-    (Some(&[0, 1, 0, 0, 0, 0, 0, 0, 0xff, 0xff]), USER),
     (Some(&[0, 1, 0, 7, 0xc0, 0, 0, 0, 0x27, 0x10]), USER),
     // another number of bytes
-    (Some(&[0, 1, 0, 0, 0, 0, 0, 0, 0, 1, 0]), SIZE),
     (Some(&[0, 1, 0, 0, 0, 0, 0, 0, 0, 1, 0, 2]), SIZE),
-    (Some(&[0, 2, 0, 0, 0, 0, 0, 0, 0, 1]), SIZE),
     (Some(&[0xff, 0xff, 0, 0, 0, 0, 0, 0, 0, 1]), SIZE),
 ];
 
 #[test]
-fn damaged_cells_are_refused(rt: HostRuntime) -> Result<(), Fail> {
+fn cells_are_those_of_the_server(rt: HostRuntime) -> Result<(), Fail> {
     let ty = numeric_type(rt.alloc())?;
-    refuses::<Numeric>(rt.alloc(), &ty, &REFUSED)?;
-    refuses_fronts::<Numeric>(
-        rt.alloc(),
-        &ty,
-        &[0, 2, 0, 0, 0, 0, 0, 2, 0, 1, 0x13, 0x88],
-        &[],
-    )
+    for (cell, written) in REWRITTEN {
+        rewrites::<Numeric>(rt.alloc(), &ty, cell, written)?;
+    }
+    refuses::<Numeric>(rt.alloc(), &ty, &REFUSED)
+}
+
+/// '{1.5,NULL,NaN}'::numeric[]
+const ARRAY: [u8; 52] = [
+    0, 0, 0, 1, 0, 0, 0, 1, 0, 0, 0x06, 0xa4, 0, 0, 0, 3, 0, 0, 0, 1, 0, 0, 0, 12, 0, 2, 0, 0, 0,
+    0, 0, 1, 0, 1, 0x13, 0x88, 0xff, 0xff, 0xff, 0xff, 0, 0, 0, 8, 0, 0, 0, 0, 0xc0, 0, 0, 0,
+];
+
+#[test]
+fn an_array_holds_it(rt: HostRuntime) -> Result<(), Fail> {
+    let ty = numeric_array_type(rt.alloc())?;
+    rewrites::<Vec<Option<Numeric>>>(rt.alloc(), &ty, &ARRAY, &ARRAY)
+}
+
+/// A number: whether it is negative, its weight, its scale and its digits.
+type Parts = (bool, i16, u16, &'static [u16]);
+
+fn has_parts(number: &Decimal, (negative, weight, scale, digits): Parts) -> Result<(), Fail> {
+    same(number.is_negative(), negative)?;
+    same((number.weight(), number.scale()), (weight, scale))?;
+    same(number.digits(), digits)
 }
 
 #[test]
-fn a_refusal_has_its_text(rt: HostRuntime) -> Result<(), Fail> {
-    let ty = numeric_type(rt.alloc())?;
-    let sign = read::<Numeric>(rt.alloc(), &ty, Some(&[0, 0, 0, 0, 0x80, 0, 0, 0]));
-    displays(
-        rt.alloc(),
-        &sign.err().ok_or("read")?,
-        "invalid sign in external numeric value",
-    )?;
-    let scale = read::<Numeric>(rt.alloc(), &ty, Some(&[0, 0, 0, 0, 0, 0, 0x40, 0]));
-    displays(
-        rt.alloc(),
-        &scale.err().ok_or("read")?,
-        "invalid scale in external numeric value",
-    )?;
-    let digit = read::<Numeric>(rt.alloc(), &ty, Some(&[0, 1, 0, 0, 0, 0, 0, 0, 0x27, 0x10]));
-    displays(
-        rt.alloc(),
-        &digit.err().ok_or("read")?,
-        "invalid digit in external numeric value",
-    )
+fn a_number_has_its_parts(rt: HostRuntime) -> Result<(), Fail> {
+    let number = Decimal::new(rt.alloc(), true, 2, 1, &[0, 7, 0, 1234])?;
+    has_parts(&number, (true, 1, 1, &[7, 0, 1000]))?;
+    let longest = Decimal::parse(rt.alloc(), "9.99e131071")?;
+    has_parts(&longest, (false, 32_767, 0, &[9990]))
 }
 
 #[test]
-fn the_oid_is_accepted(rt: HostRuntime) -> Result<(), Fail> {
-    let alloc = rt.alloc();
-    accepts::<Numeric>(&[
-        (numeric_type(alloc)?, true),
-        (simple_type(alloc, "decimal", 1700, "")?, true),
-        (simple_type(alloc, "numeric", 16_384, "pg_catalog")?, false),
-        (numeric_array_type(alloc)?, false),
-        (Type::INT8, false),
-    ])?;
-    refuses_type(alloc, &Numeric::NaN, &Type::INT8, "Numeric")
-}
-
-#[test]
-fn options_boxes_and_arrays_hold_it(rt: HostRuntime) -> Result<(), Fail> {
-    let alloc = rt.alloc();
-    let ty = numeric_type(alloc)?;
-    writes_null(alloc, &None::<Numeric>, &ty)?;
-    reads(alloc, &ty, &[0, 0, 0, 0, 0xc0, 0, 0, 0], Some(Numeric::NaN))?;
-    let one = [0, 1, 0, 0, 0, 0, 0, 0, 0, 1];
-    rewrites::<Box<Numeric>>(alloc, &ty, &one, &one)?;
-    // '{1.5,NULL,NaN}'::numeric[]
-    let cell = [
-        0, 0, 0, 1, 0, 0, 0, 1, 0, 0, 0x06, 0xa4, 0, 0, 0, 3, 0, 0, 0, 1, 0, 0, 0, 12, 0, 2, 0, 0,
-        0, 0, 0, 1, 0, 1, 0x13, 0x88, 0xff, 0xff, 0xff, 0xff, 0, 0, 0, 8, 0, 0, 0, 0, 0xc0, 0, 0,
-        0,
-    ];
-    rewrites::<Vec<Option<Numeric>>>(alloc, &numeric_array_type(alloc)?, &cell, &cell)?;
-    rewrites::<[Option<Numeric>; 3]>(alloc, &numeric_array_type(alloc)?, &cell, &cell)
-}
-
-#[test]
-fn parts_are_refused_as_in_a_cell(rt: HostRuntime) -> Result<(), Fail> {
-    let alloc = rt.alloc();
-    same(
-        fault_code(Decimal::new(alloc, false, 0, 16_384, &[1])),
-        USER,
-    )?;
-    same(
-        fault_code(Decimal::new(alloc, false, 0, 0, &[10_000])),
-        USER,
-    )?;
-    let many = Vec::from_elem(alloc, 1, 65_536)?;
-    same(
-        fault_code(Decimal::new(alloc, false, 0, 0, &many)),
-        TRANSMIT,
-    )?;
-    let number = Decimal::new(alloc, true, 2, 1, &[0, 7, 0, 1234])?;
-    same(number.is_negative(), true)?;
-    same(number.weight(), 1)?;
-    same(number.scale(), 1)?;
-    same(number.digits(), [7, 0, 1000].as_slice())
-}
-
-/// Values from the least to the greatest.
-fn ordered(alloc: Global) -> Result<[Numeric; 11], Fault> {
-    Ok([
-        Numeric::NegativeInfinity,
-        finite(alloc, (true, 1, 0, &[1]))?,
-        finite(alloc, (true, 0, 1, &[2, 5000]))?,
-        finite(alloc, (true, 0, 0, &[2]))?,
-        finite(alloc, (true, -1, 4, &[1]))?,
-        finite(alloc, (false, 0, 9, &[]))?,
-        finite(alloc, (false, -1, 4, &[1]))?,
-        finite(alloc, (false, 0, 0, &[2]))?,
-        finite(alloc, (false, 0, 1, &[2, 5000]))?,
-        Numeric::Infinity,
-        Numeric::NaN,
-    ])
+fn an_integer_is_a_number(rt: HostRuntime) -> Result<(), Fail> {
+    let least = Decimal::from_i64(rt.alloc(), i64::MIN)?;
+    displays(rt.alloc(), &least, "-9223372036854775808")?;
+    same(least.to_i64(), Some(i64::MIN))?;
+    let wide = Decimal::from_i128(rt.alloc(), i128::MAX)?;
+    displays(rt.alloc(), &wide, "170141183460469231731687303715884105727")?;
+    same(wide.to_i128(), Some(i128::MAX))
 }
 
 #[test]
 fn the_order_is_the_servers(rt: HostRuntime) -> Result<(), Fail> {
-    let lower = ordered(rt.alloc())?;
-    let upper = ordered(rt.alloc())?;
-    for (i, a) in lower.iter().enumerate() {
-        for (j, b) in upper.iter().enumerate() {
-            same(a.cmp(b), i.cmp(&j))?;
-        }
+    let rows = [
+        ("-Infinity", "-1e131071", Ordering::Less),
+        ("-2.5", "-2", Ordering::Less),
+        ("-0.0001", "0", Ordering::Less),
+        ("2.5", "2", Ordering::Greater),
+        ("1.5", "1.500000000", Ordering::Equal),
+        ("Infinity", "9.99e131071", Ordering::Greater),
+        ("NaN", "Infinity", Ordering::Greater),
+        ("NaN", "NaN", Ordering::Equal),
+    ];
+    for (one, other, order) in rows {
+        let one = Numeric::parse(rt.alloc(), one)?;
+        let other = Numeric::parse(rt.alloc(), other)?;
+        same(one.cmp(&other), order)?;
     }
     Ok(())
-}
-
-#[test]
-fn scales_are_not_compared(rt: HostRuntime) -> Result<(), Fail> {
-    let short = finite(rt.alloc(), (false, 0, 1, &[1, 5000]))?;
-    let long = finite(rt.alloc(), (false, 0, 9, &[1, 5000]))?;
-    same(short == long, true)?;
-    same(short.cmp(&long), Ordering::Equal)
 }
 
 /// Texts of the server (`numeric_out`), and their cells.
@@ -364,72 +204,90 @@ const TEXTS: [(&str, &[u8]); 22] = [
 fn a_text_is_the_servers(rt: HostRuntime) -> Result<(), Fail> {
     let ty = numeric_type(rt.alloc())?;
     for (text, cell) in TEXTS {
-        displays(
-            rt.alloc(),
-            &read::<Numeric>(rt.alloc(), &ty, Some(cell))?,
-            text,
-        )?;
-        writes(rt.alloc(), &Numeric::parse(rt.alloc(), text)?, &ty, cell)?;
+        let number = Numeric::parse(rt.alloc(), text)?;
+        displays(rt.alloc(), &number, text)?;
+        writes(rt.alloc(), &number, &ty, cell)?;
+        reads(rt.alloc(), &ty, cell, number)?;
     }
     Ok(())
 }
 
 /// Texts that the server reads as the value of another text, and that text.
-const OTHER_TEXTS: [(&str, &str); 20] = [
+const OTHER_TEXTS: [(&str, &str); 33] = [
     (" 1 ", "1"),
     ("\x0b1\x0b", "1"),
     ("\r\x0c\t -12.50 \n", "-12.50"),
     ("+1", "1"),
     ("00012", "12"),
     ("1.", "1"),
-    (".5", "0.5"),
     ("-.5", "-0.5"),
     ("-0", "0"),
     ("-0.00", "0.00"),
-    ("000000.10", "0.10"),
     ("0000000012345.6", "12345.6"),
-    ("\t12\n", "12"),
     ("nan", "NaN"),
-    ("inf", "Infinity"),
+    ("\tNAN\n", "NaN"),
     ("+Infinity", "Infinity"),
     ("-INF", "-Infinity"),
-    (" -iNfInItY ", "-Infinity"),
-    ("\tNAN\n", "NaN"),
-    ("12345678", "12345678"),
+    ("1E5", "100000"),
+    (" 1e+5 ", "100000"),
+    ("1.50e1", "15.0"),
+    ("1.50e2", "150"),
+    ("1.5e-3", "0.0015"),
+    ("-.5E-1", "-0.05"),
+    ("1.e0", "1"),
+    ("1e-0", "1"),
+    ("-0e5", "0"),
+    ("0e-5", "0.00000"),
+    ("0.00e1", "0.0"),
+    ("0.0000e131076", "0"),
+    ("0e1073741822", "0"),
+    ("1e0000000000000000000000005", "100000"),
+    ("123456e-8", "0.00123456"),
+    ("123456.789e5", "12345678900"),
+    ("0.00012e4", "1.2"),
+    ("000120e-4", "0.0120"),
+    ("1e-20", "0.00000000000000000001"),
 ];
 
 /// Texts that the server refuses.
-const NO_TEXTS: [&str; 20] = [
+const NO_TEXTS: [&str; 27] = [
     "",
     " ",
     "-",
-    "+",
     ".",
-    "-.",
     "1.2.3",
     "1 2",
-    "a",
     "+NaN",
-    "-NaN",
-    "NaNs",
-    "in",
     "infin",
     "infinity0",
-    "+ inf",
     "+-inf",
     "1\u{a0}",
-    "--1",
     "1-",
+    "1e",
+    "1e+",
+    "1e+-5",
+    "e5",
+    "1e5.0",
+    "NaNe1",
+    "1e131072",
+    "0.1e131073",
+    "1e-16384",
+    "1.5e-16383",
+    "0e-16384",
+    "0e1073741823",
+    // These wrap to 5 in 32 bits, and in 64.
+    "1e4294967301",
+    "1e18446744073709551621",
+    "0e-99999999999999999999",
 ];
 
 #[test]
-fn other_texts_are_read(rt: HostRuntime) -> Result<(), Fail> {
+fn other_texts_are_read_or_refused(rt: HostRuntime) -> Result<(), Fail> {
     for (text, shown) in OTHER_TEXTS {
         displays(rt.alloc(), &Numeric::parse(rt.alloc(), text)?, shown)?;
     }
     for text in NO_TEXTS {
         same(fault_code(Numeric::parse(rt.alloc(), text)), USER)?;
     }
-    let number = Decimal::parse(rt.alloc(), "-12.30")?;
-    displays(rt.alloc(), &number, "-12.30")
+    Ok(())
 }

@@ -3,14 +3,14 @@ ghost use Rattle.std.specs.Prelude.{[], ◌∷◌};
 ghost use Rattle.postgres_types.specs.CompositeFields.{and, end};
 ghost use Rattle.postgres_types.specs.Conversion.{ap, codes, refl};
 
-use super::composites::field;
+use super::composites::composite;
 use postgres_types::composite::laws::{fields_read_without_memory, record_read_without_memory};
 use postgres_types::composite::{And, Composite, End, FieldRefs, Record};
 use postgres_types::private::BytesMut;
-use postgres_types::{Fault, Field, Kind, PgLsn, Type, from_row, row};
+use postgres_types::{Fault, Field, PgLsn, Type, from_row, row};
 use std::alloc::Global;
 use std::test::Fail;
-use test_support::{takes_no_memory, user_type};
+use test_support::takes_no_memory;
 
 /// `CREATE TYPE position AS (line int4, log pg_lsn)`.
 #[derive(Debug, PartialEq, Drop)]
@@ -57,31 +57,32 @@ fn positions_are_read_without_memory() {
 }
 
 fn position_type(alloc: Global) -> Result<Type, Fault> {
-    let fields = vec![in alloc;
-        field(alloc, "line", Type::INT4)?,
-        field(alloc, "log", Type::PG_LSN)?,
-    ]?;
-    user_type(alloc, "position", 0x4020, Kind::Composite(fields), "public")
+    let fields = [("line", Type::INT4), ("log", Type::PG_LSN)];
+    composite(alloc, "position", 0x4020, &fields)
 }
+
+/// The position 7, 16/B374D848.
+const LOGGED: &[u8] =
+    b"\0\0\0\x02\0\0\0\x17\0\0\0\x04\0\0\0\x07\0\0\x0c\x94\0\0\0\x08\0\0\0\x16\xb3\x74\xd8\x48";
+
+/// The position -1, NULL.
+const NOT_LOGGED: &[u8] =
+    b"\0\0\0\x02\0\0\0\x17\0\0\0\x04\xff\xff\xff\xff\0\0\x0c\x94\xff\xff\xff\xff";
 
 #[test]
 fn positions_take_no_memory(rt: HostRuntime) -> Result<(), Fail> {
     positions_are_read_without_memory();
+    let logged = Position {
+        line: 7,
+        log: Some(PgLsn::from(0x16_b374_d848)),
+    };
+    let not_logged = Position {
+        line: -1,
+        log: None,
+    };
     let rows = [
-        (
-            Composite(Position {
-                line: 7,
-                log: Some(PgLsn::from(0x16_b374_d848)),
-            }),
-            b"\0\0\0\x02\0\0\0\x17\0\0\0\x04\0\0\0\x07\0\0\x0c\x94\0\0\0\x08\0\0\0\x16\xb3\x74\xd8\x48".as_slice(),
-        ),
-        (
-            Composite(Position {
-                line: -1,
-                log: None,
-            }),
-            b"\0\0\0\x02\0\0\0\x17\0\0\0\x04\xff\xff\xff\xff\0\0\x0c\x94\xff\xff\xff\xff".as_slice(),
-        ),
+        (Composite(logged), LOGGED),
+        (Composite(not_logged), NOT_LOGGED),
     ];
     takes_no_memory(rt.alloc(), &position_type(rt.alloc())?, &rows)
 }

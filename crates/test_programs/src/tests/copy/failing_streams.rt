@@ -20,12 +20,6 @@ const STREAM: &[u8] =
 /// The number of bytes that a stream moves at a time.
 const STEPS: [usize; 4] = [1, 2, 3, 7];
 
-/// A header without flags and extension.
-const HEADER: &[u8] = b"PGCOPY\n\xff\r\n\0\0\0\0\0\0\0\0\0";
-
-/// The trailer.
-const TRAILER: &[u8] = b"\xff\xff";
-
 /// A reader that gives the bytes `step` at a time, and is interrupted at every other call.
 fn make_pieces(bytes: &[u8], step: usize) -> Disturbed<Pieces<'_>> {
     Disturbed::new(Pieces::new(bytes, step))
@@ -36,70 +30,24 @@ fn make_narrow(alloc: Global, step: usize, room: usize) -> Disturbed<Narrow> {
     Disturbed::new(Narrow::new(alloc, step, room))
 }
 
-/// Returns the columns of these names of types.
-fn columns(alloc: Global, names: &[&str]) -> Result<Vec<Column>, Fail> {
+/// Returns the columns of these types.
+fn columns(alloc: Global, types: &str) -> Result<Vec<Column>, Fail> {
     let mut words = Vec::new(alloc);
-    for name in names {
-        words.push(String::from_str(alloc, name)?)?;
-    }
+    words.push(String::from_str(alloc, types)?)?;
     match parse(alloc, words.as_slice())? {
         Request::Copy(columns) => Ok(columns),
         Request::Help => Err(Fail::from("help")),
     }
 }
 
-/// Tests that a COPY ended with a fault of this text, and that this was written.
-fn stopped(
-    alloc: Global,
-    ended: Result<(), CopyFault>,
-    output: Disturbed<Narrow>,
-    fault: &str,
-    written: Option<&[u8]>,
-) -> Result<(), Fail> {
-    let found = ended.err().ok_or("no fault")?;
-    displays(alloc, &found, fault)?;
-    same(Some(output.inner.taken.as_slice()), written)
-}
-
-/// The columns of the rows.
-fn columns_of_rows(alloc: Global) -> Result<Vec<Column>, Fail> {
-    columns(alloc, &["int4", "text"])
-}
-
 #[test]
-fn pieces_of_a_stream_change_no_line(rt: HostRuntime) -> Result<(), Fail> {
-    let columns = columns_of_rows(rt.alloc())?;
+fn pieces_change_no_copy(rt: HostRuntime) -> Result<(), Fail> {
+    let columns = columns(rt.alloc(), "int4, text")?;
     for step in STEPS {
         let mut input = make_pieces(STREAM, step);
         let mut output = make_narrow(rt.alloc(), step, ROOM);
         read(rt.alloc(), columns.as_slice(), &mut input, &mut output)?;
         same(output.inner.taken.as_slice(), LINES)?;
-    }
-    Ok(())
-}
-
-#[test]
-fn a_million_reads_of_one_byte_are_one_copy(rt: HostRuntime) -> Result<(), Fail> {
-    let alloc = rt.alloc();
-    let columns = columns(alloc, &["int4"])?;
-    let mut stream = Vec::from_slice(alloc, HEADER)?;
-    let mut lines = Vec::new(alloc);
-    for _ in 0..170_000 {
-        stream.extend_from_slice(b"\0\x01\xff\xff\xff\xff")?;
-        lines.extend_from_slice(b"\\N\n")?;
-    }
-    stream.extend_from_slice(TRAILER)?;
-    let (rest, step, left) = (stream.as_slice(), 1, usize::MAX);
-    let mut input = Pieces { rest, step, left };
-    let mut output = Narrow::new(alloc, ROOM, ROOM);
-    read(alloc, columns.as_slice(), &mut input, &mut output)?;
-    same(output.taken.as_slice(), lines.as_slice())
-}
-
-#[test]
-fn pieces_of_lines_change_no_row(rt: HostRuntime) -> Result<(), Fail> {
-    let columns = columns_of_rows(rt.alloc())?;
-    for step in STEPS {
         let mut input = make_pieces(LINES, step);
         let mut output = make_narrow(rt.alloc(), step, ROOM);
         write(rt.alloc(), columns.as_slice(), &mut input, &mut output)?;
@@ -108,42 +56,42 @@ fn pieces_of_lines_change_no_row(rt: HostRuntime) -> Result<(), Fail> {
     Ok(())
 }
 
+/// Tests that lines of a column of text are written, and read `step` bytes at a time.
+fn is_copied(alloc: Global, lines: &[u8], step: usize) -> Result<(), Fail> {
+    let columns = columns(alloc, "text")?;
+    let mut input = lines;
+    let mut stream = Narrow::new(alloc, usize::MAX, usize::MAX);
+    write(alloc, columns.as_slice(), &mut input, &mut stream)?;
+    let (rest, left) = (stream.taken.as_slice(), usize::MAX);
+    let mut input = Pieces { rest, step, left };
+    let mut output = Narrow::new(alloc, ROOM, left);
+    read(alloc, columns.as_slice(), &mut input, &mut output)?;
+    holds(output.taken.as_slice() == lines, "other lines")
+}
+
+/// A row that is longer than a block, and a million reads of one byte.
+#[test]
+fn large_copies_are_read(rt: HostRuntime) -> Result<(), Fail> {
+    let mut long = Vec::new(rt.alloc());
+    long.resize(300_000, b'x')?;
+    long.push(b'\n')?;
+    is_copied(rt.alloc(), long.as_slice(), ROOM)?;
+    let mut rows = Vec::new(rt.alloc());
+    for _ in 0..170_000 {
+        rows.extend_from_slice(b"\\N\n")?;
+    }
+    is_copied(rt.alloc(), rows.as_slice(), 1)
+}
+
 #[test]
 fn a_failed_read_is_told(rt: HostRuntime) -> Result<(), Fail> {
-    let columns = columns_of_rows(rt.alloc())?;
+    let columns = columns(rt.alloc(), "int4, text")?;
     for left in 0..STREAM.len() {
         let (rest, step) = (STREAM, 5);
         let mut input = Disturbed::new(Pieces { rest, step, left });
         let mut output = make_narrow(rt.alloc(), 9, ROOM);
         let ended = read(rt.alloc(), columns.as_slice(), &mut input, &mut output);
         holds(matches!(ended, Err(CopyFault::Read)), "no failed read")?;
-    }
-    Ok(())
-}
-
-/// The fault of a writer.
-const NOT_WRITTEN: &str = "the output cannot be written";
-
-#[test]
-fn a_failed_write_of_lines_is_told(rt: HostRuntime) -> Result<(), Fail> {
-    let columns = columns_of_rows(rt.alloc())?;
-    for room in 0..LINES.len() {
-        let mut input = make_pieces(STREAM, 9);
-        let mut output = make_narrow(rt.alloc(), 2, room);
-        let ended = read(rt.alloc(), columns.as_slice(), &mut input, &mut output);
-        stopped(rt.alloc(), ended, output, NOT_WRITTEN, LINES.get(..room))?;
-    }
-    Ok(())
-}
-
-#[test]
-fn a_failed_write_of_rows_is_told(rt: HostRuntime) -> Result<(), Fail> {
-    let columns = columns_of_rows(rt.alloc())?;
-    for room in 0..STREAM.len() {
-        let mut input = make_pieces(LINES, 9);
-        let mut output = make_narrow(rt.alloc(), 2, room);
-        let ended = write(rt.alloc(), columns.as_slice(), &mut input, &mut output);
-        stopped(rt.alloc(), ended, output, NOT_WRITTEN, STREAM.get(..room))?;
     }
     Ok(())
 }
@@ -159,74 +107,47 @@ const LINES_AND_FAULT: &[u8] = b"1\ta\n\\.fault: row 2: 3 columns in place of 2\
 const STOPPED_STREAM: &[u8] =
     b"PGCOPY\n\xff\r\n\0\0\0\0\0\0\0\0\0\0\x02\0\0\0\x04\0\0\0\x01\0\0\0\x01a\x80\0";
 
-#[test]
-fn a_fault_ends_the_lines(rt: HostRuntime) -> Result<(), Fail> {
-    let columns = columns_of_rows(rt.alloc())?;
-    let mut input = make_pieces(REFUSED_STREAM, 9);
-    let mut output = make_narrow(rt.alloc(), 2, ROOM);
-    let ended = read(rt.alloc(), columns.as_slice(), &mut input, &mut output);
-    let fault = "row 2: 3 columns in place of 2";
-    stopped(rt.alloc(), ended, output, fault, Some(LINES_AND_FAULT))
+/// Tests that writing failed after these bytes.
+fn is_not_written(is_fault: bool, taken: &[u8], written: Option<&[u8]>) -> Result<(), Fail> {
+    holds(is_fault, "no failed write")?;
+    same(Some(taken), written)
 }
 
 #[test]
-fn a_fault_ends_the_rows(rt: HostRuntime) -> Result<(), Fail> {
-    let columns = columns_of_rows(rt.alloc())?;
-    let mut input = make_pieces(REFUSED_LINES, 9);
-    let mut output = make_narrow(rt.alloc(), 2, ROOM);
-    let ended = write(rt.alloc(), columns.as_slice(), &mut input, &mut output);
-    let fault = "line 2: 1 columns in place of 2";
-    stopped(rt.alloc(), ended, output, fault, Some(STOPPED_STREAM))
-}
-
-#[test]
-fn a_failed_write_of_a_fault_is_told(rt: HostRuntime) -> Result<(), Fail> {
-    let columns = columns_of_rows(rt.alloc())?;
+fn a_failed_write_of_lines_is_told(rt: HostRuntime) -> Result<(), Fail> {
+    let columns = columns(rt.alloc(), "int4, text")?;
     for room in 0..LINES_AND_FAULT.len() {
         let mut input = make_pieces(REFUSED_STREAM, 9);
         let mut output = make_narrow(rt.alloc(), 2, room);
         let ended = read(rt.alloc(), columns.as_slice(), &mut input, &mut output);
-        stopped(
-            rt.alloc(),
-            ended,
-            output,
-            NOT_WRITTEN,
-            LINES_AND_FAULT.get(..room),
-        )?;
+        let is_write = matches!(ended, Err(CopyFault::Write));
+        let written = LINES_AND_FAULT.get(..room);
+        is_not_written(is_write, output.inner.taken.as_slice(), written)?;
     }
     Ok(())
 }
 
 #[test]
-fn a_failed_write_of_the_end_is_told(rt: HostRuntime) -> Result<(), Fail> {
-    let columns = columns_of_rows(rt.alloc())?;
+fn a_failed_write_of_rows_is_told(rt: HostRuntime) -> Result<(), Fail> {
+    let columns = columns(rt.alloc(), "int4, text")?;
     for room in 0..STOPPED_STREAM.len() {
         let mut input = make_pieces(REFUSED_LINES, 9);
         let mut output = make_narrow(rt.alloc(), 2, room);
         let ended = write(rt.alloc(), columns.as_slice(), &mut input, &mut output);
-        stopped(
-            rt.alloc(),
-            ended,
-            output,
-            NOT_WRITTEN,
-            STOPPED_STREAM.get(..room),
-        )?;
+        let is_write = matches!(ended, Err(CopyFault::Write));
+        let written = STOPPED_STREAM.get(..room);
+        is_not_written(is_write, output.inner.taken.as_slice(), written)?;
     }
     Ok(())
 }
 
+/// The faults that no row of `scripts/copy_rows.py` has.
 #[test]
-fn a_row_may_be_longer_than_a_block(rt: HostRuntime) -> Result<(), Fail> {
-    let columns = columns(rt.alloc(), &["text"])?;
-    let mut line = Vec::new(rt.alloc());
-    line.resize(300_000, b'x')?;
-    line.push(b'\n')?;
-    let mut input = make_pieces(line.as_slice(), ROOM);
-    let mut stream = make_narrow(rt.alloc(), ROOM, ROOM);
-    write(rt.alloc(), columns.as_slice(), &mut input, &mut stream)?;
-    let mut input = make_pieces(stream.inner.taken.as_slice(), ROOM);
-    let mut lines = make_narrow(rt.alloc(), ROOM, ROOM);
-    read(rt.alloc(), columns.as_slice(), &mut input, &mut lines)?;
-    same(lines.inner.taken.len(), 300_001)?;
-    same(lines.inner.taken.as_slice(), line.as_slice())
+fn faults_have_texts(rt: HostRuntime) -> Result<(), Fail> {
+    let alloc = rt.alloc();
+    displays(alloc, &CopyFault::Read, "the input cannot be read")?;
+    displays(alloc, &CopyFault::Write, "the output cannot be written")?;
+    displays(alloc, &CopyFault::Memory, "out of memory")?;
+    let text = "more columns than a COPY can have";
+    displays(alloc, &CopyFault::TooManyColumns, text)
 }

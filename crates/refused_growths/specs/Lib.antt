@@ -1,1 +1,0 @@
--- This crate states no definition of its own.
