@@ -216,14 +216,18 @@ WRITTEN = [
     (b"1\ta\n2\n", FIRST, "line 2: 1 columns in place of 2"),
     (b"1\ta\n2\tb\tc\n3\td\n", FIRST, "line 2: 3 columns in place of 2"),
     # An empty line is one empty column, whose value is checked first.
-    (b"1\ta\n\n", FIRST, f"line 2, column 1 (int4): {NONE}"),
-    (b"1\ta\nx\tb\n", FIRST, f"line 2, column 1 (int4): {NONE}"),
-    (b"1\ta\n2147483648\tb\n", FIRST, f"line 2, column 1 (int4): {NONE}"),
-    (b"1\ta\n\tb\n", FIRST, f"line 2, column 1 (int4): {NONE}"),
+    (b"1\ta\n\n", FIRST, f'line 2, column 1 (int4): {NONE}: ""'),
+    (b"1\ta\nx\tb\n", FIRST, f'line 2, column 1 (int4): {NONE}: "x"'),
+    (b"1\ta\n2147483648\tb\n", FIRST, f'line 2, column 1 (int4): {NONE}: "2147483648"'),
+    (b"1\ta\n\tb\n", FIRST, f'line 2, column 1 (int4): {NONE}: ""'),
+    # Of a field 40 characters are shown, and a byte that ends no line by its escape.
+    (b"1" + b"\xc3\xa9" * 39 + b"\tb\n", "", f"line 1, column 1 (int4): {NONE}: \"1{'é' * 39}\""),
+    (b"1" + b"\xc3\xa9" * 40 + b"\tb\n", "", f"line 1, column 1 (int4): {NONE}: \"1{'é' * 39}...\""),
+    (b"1\x1b\tb\n", "", f'line 1, column 1 (int4): {NONE}: "1\ufffd"'),
     (b"1\t\xff\n", "", "line 1, column 2 (text): invalid UTF-8"),
     # Escapes that there are not, and a byte that is to be escaped.
-    *((line, "", f"line 1, column 2 (text): {NONE}") for line in (
-        b"1\t\\\n", b"1\t\\x41\n", b"1\t\\101\n", b"1\t\\.\n", b"1\t\r\n", b"1\ta\\\n")),
+    *((b"1\t" + field + b"\n", "", f'line 1, column 2 (text): {NONE}: "{text}"') for field, text in (
+        (b"\\", "\\"), (b"\\x41", "\\x41"), (b"\\101", "\\101"), (b"\\.", "\\."), (b"\r", "\\r"), (b"a\\", "a\\"))),
 ]
 
 SIGNATURE = "5047434f50590aff0d0a00"

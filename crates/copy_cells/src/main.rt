@@ -114,19 +114,23 @@ fn copy(rt: HostRuntime, direction: Direction, columns: &[Column]) -> Result<Exi
     let mut output = Watched::new(rt.stdout(), &error);
     let Some(progress) = Progress::start(rt) else {
         let outcome = direction.copy(rt.alloc(), columns, &mut input, &mut output);
-        return ended(outcome, error.get());
+        return ended(&rt, outcome, error.get());
     };
     let mut input = progress.count(input, matches!(direction, Direction::Write));
     let mut output = progress.count(output, matches!(direction, Direction::Read));
     let outcome = direction.copy(rt.alloc(), columns, &mut input, &mut output);
     progress.finish(direction.tells(&outcome));
-    ended(outcome, error.get())
+    ended(&rt, outcome, error.get())
 }
 
 /// Returns the exit status, which is 0 exactly if the whole input was converted. Otherwise a message
 /// tells the fault, and for a failed read or write the error of the stream; but not that a pipe is
 /// closed, whose reader wants no more.
-fn ended(outcome: Result<(), CopyFault>, error: Option<io::Error>) -> Result<ExitCode>
+fn ended(
+    rt: &HostRuntime,
+    outcome: Result<(), CopyFault>,
+    error: Option<io::Error>,
+) -> Result<ExitCode>
     ensures whole { OnOk outcome (IsOk result) }
     ensures zero { OnOk outcome (IfOk result (λ code. exit_status code ≡ 0)) }
     ensures part { IfOk result (λ code. exit_status code ≡ 0 → OnErr outcome ⊥) }
@@ -134,17 +138,16 @@ fn ended(outcome: Result<(), CopyFault>, error: Option<io::Error>) -> Result<Exi
     let Err(fault) = outcome else {
         return Ok(ExitCode::from(0));
     };
-    let Some(error) = error_of(&fault, error) else {
-        return Err(fault.into());
-    };
-    if error.kind() == io::ErrorKind::BrokenPipe {
-        return Ok(ExitCode::from(1));
+    match error_of(&fault, error) {
+        Some(error) if error.kind() == io::ErrorKind::BrokenPipe => {}
+        Some(error) => eprintln!(rt; "Error: {fault}: {error}")?,
+        None => eprintln!(rt; "Error: {fault}")?,
     }
-    bail!("{fault}: {error}")
+    Ok(ExitCode::from(1))
 }
 
 /// Tells why a command line is refused, and returns the exit status 1. An error of `anyhow` would cut
-/// a list of many types.
+/// a list of many types, and a text that is refused.
 fn refuse(rt: &HostRuntime, fault: &ArgumentFault) -> Result<ExitCode>
     ensures { IfOk result (λ code. exit_status code ≡ 1) }
 {

@@ -12,7 +12,8 @@ use Rattle.std.specs.List.{after_last, starts_with, suffix_len}
 use Rattle.std.specs.Option.{option_or}
 use Rattle.std.specs.Prelude.{MatchOption, option_and_then, option_map, reverse}
 use Rattle.std.specs.Str.Pattern.{RFindsChar}
-use Rattle.pg_copy.specs.TypeNames.{base_of, between, plain_type, without_first, without_last}
+use Rattle.pg_copy.specs.TypeNames.{between, plain_type, without_first, without_last}
+use Rattle.pg_copy.specs.Types.{base_of}
 use Rattle.pg_copy.specs.declared.types.Base.{Base}
 use Rattle.pg_copy.specs.declared.types.Base.TheVariants as base
 

@@ -11,6 +11,7 @@ pub mod Refusals
 pub mod Rows
 pub mod TextLines
 pub mod TypeNames
+pub mod Types
 pub mod Values
 pub mod Words
 pub mod WrittenCells

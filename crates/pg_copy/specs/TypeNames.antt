@@ -1,78 +1,14 @@
 -- The names of the types of columns, as PostgreSQL has them.
-use Rattle.std.specs.Cmp.Lexicographic.{pointwise}
-use Rattle.std.specs.List.{after_last, find, list_any, starts_with}
+use Rattle.std.specs.Char.{is_ascii_digit}
+use Rattle.std.specs.List.{after_last, list_all, starts_with}
 use Rattle.std.specs.Option.{option_or}
-use Rattle.std.specs.Prelude.{◌≡◌, ◌≢◌, ◌==◌, ℕ, zero, suc, Bool, true, false, List, [], ◌∷◌, ◌++◌, Option, Some, None}
+use Rattle.std.specs.Prelude.{◌≡◌, ◌≢◌, ◌==◌, ◌||◌, ℕ, zero, suc, Bool, List, [], ◌∷◌, ◌++◌, Option, Some, None}
 use Rattle.std.specs.Prelude.{if◌then◌else◌, codes, nat_lt, option_and_then, option_map, reverse}
 use Rattle.std.specs.Str.{str_to_ascii_lowercase, trim_end}
+use Rattle.pg_copy.specs.Types.{base_of}
 use Rattle.pg_copy.specs.Words.{parts_around}
 use Rattle.pg_copy.specs.declared.types.Base.{Base}
 use Rattle.pg_copy.specs.declared.types.Base.TheVariants as base
-
--- the names of each type; the first one is that of faults and the help
-abbrev pub names_of : Base → List (List ℕ)
-names_of base.Bit = codes "bit" ∷ []
-names_of base.Bool = codes "bool" ∷ codes "boolean" ∷ []
-names_of base.Bpchar = codes "bpchar" ∷ codes "character" ∷ codes "char" ∷ []
-names_of base.Bytea = codes "bytea" ∷ codes "raw" ∷ []
-names_of base.Char = codes "\"char\"" ∷ []
-names_of base.Cidr = codes "cidr" ∷ []
-names_of base.Citext = codes "citext" ∷ []
-names_of base.Composite = codes "record" ∷ []
-names_of base.Date = codes "date" ∷ []
-names_of base.Enum = codes "enum" ∷ []
-names_of base.Float4 = codes "float4" ∷ codes "real" ∷ []
-names_of base.Float8 = codes "float8" ∷ codes "double precision" ∷ []
-names_of base.Hstore = codes "hstore" ∷ []
-names_of base.Inet = codes "inet" ∷ []
-names_of base.Int2 = codes "int2" ∷ codes "smallint" ∷ codes "smallserial" ∷ []
-names_of base.Int2Vector = codes "int2vector" ∷ []
-names_of base.Int4 = codes "int4" ∷ codes "integer" ∷ codes "int" ∷ codes "serial" ∷ []
-names_of base.Int8 = codes "int8" ∷ codes "bigint" ∷ codes "bigserial" ∷ []
-names_of base.Interval = codes "interval" ∷ []
-names_of base.Json = codes "json" ∷ []
-names_of base.Jsonb = codes "jsonb" ∷ []
-names_of base.Lquery = codes "lquery" ∷ []
-names_of base.Ltree = codes "ltree" ∷ []
-names_of base.Ltxtquery = codes "ltxtquery" ∷ []
-names_of base.Macaddr = codes "macaddr" ∷ []
-names_of base.Name = codes "name" ∷ []
-names_of base.Numeric = codes "numeric" ∷ codes "decimal" ∷ codes "dec" ∷ []
-names_of base.Oid = codes "oid" ∷ []
-names_of base.OidVector = codes "oidvector" ∷ []
-names_of base.PgLsn = codes "pg_lsn" ∷ []
-names_of base.Text = codes "text" ∷ []
-names_of base.Time = codes "time" ∷ codes "time without time zone" ∷ []
-names_of base.Timestamp = codes "timestamp" ∷ codes "timestamp without time zone" ∷ []
-names_of base.Timestamptz = codes "timestamptz" ∷ codes "timestamp with time zone" ∷ []
-names_of base.Unknown = codes "unknown" ∷ []
-names_of base.Uuid = codes "uuid" ∷ []
-names_of base.Varbit = codes "varbit" ∷ codes "bit varying" ∷ []
-names_of base.Varchar = codes "varchar" ∷ codes "character varying" ∷ []
-
--- all types but composite ones, which have fields in place of a name
-abbrev pub bases : List Base
-bases =
-    base.Bit ∷ base.Bool ∷ base.Bpchar ∷ base.Bytea ∷ base.Char ∷ base.Cidr ∷ base.Citext ∷ base.Date ∷ base.Enum
-    ∷ base.Float4 ∷ base.Float8 ∷ base.Hstore ∷ base.Inet ∷ base.Int2 ∷ base.Int2Vector ∷ base.Int4 ∷ base.Int8
-    ∷ base.Interval ∷ base.Json ∷ base.Jsonb ∷ base.Lquery ∷ base.Ltree ∷ base.Ltxtquery ∷ base.Macaddr ∷ base.Name
-    ∷ base.Numeric ∷ base.Oid ∷ base.OidVector ∷ base.PgLsn ∷ base.Text ∷ base.Time ∷ base.Timestamp
-    ∷ base.Timestamptz ∷ base.Unknown ∷ base.Uuid ∷ base.Varbit ∷ base.Varchar ∷ []
-
--- whether a type has this name
-abbrev pub has_name : Base → List ℕ → Bool
-has_name base name = list_any (λ own. pointwise ◌==◌ name own) (names_of base)
-
--- the type that has this name
-abbrev pub base_of : List ℕ → Option Base
-base_of name = find (λ base. has_name base name) bases
-
--- whether a type has arrays
-abbrev pub has_arrays : Base → Bool
-has_arrays base.Int2Vector = false
-has_arrays base.OidVector = false
-has_arrays base.Unknown = false
-has_arrays other = true
 
 -- the text without so many pairs of brackets at its end, and without the white space before each of them
 abbrev pub IsWithoutPairs : ℕ → List ℕ → List ℕ → Type 0
@@ -107,11 +43,19 @@ plain_type name =
     if starts_with ◌==◌ name (codes "interval ") then Some base.Interval
     else option_or (base_of name) (option_and_then base_of (between 34 34 name))
 
+-- a modifier: digits, hyphens, commas and spaces
+abbrev pub is_modifier : List ℕ → Bool
+is_modifier = list_all (λ byte. is_ascii_digit byte || byte == 45 || byte == 44 || byte == 32)
+
+-- what is left of a name around a modifier
+abbrev pub around_modifier : List ℕ → List ℕ × List ℕ → Option (List ℕ)
+around_modifier before parts = if is_modifier parts.0 then Some (trim_end before ++ parts.1) else None
+
 -- a name without its modifier, which is in parentheses, and the white space before it: what stood around the first
--- parenthesis is given. A parenthesis that is not closed has no name
+-- parenthesis is given. A parenthesis that is not closed, or has something else in it, has no name
 abbrev pub unmodified : List ℕ → Option (List ℕ × List ℕ) → Option (List ℕ)
 unmodified name None = Some name
-unmodified name (Some (before, rest)) = option_map (λ parts. trim_end before ++ parts.1) (parts_around 41 rest)
+unmodified name (Some (before, rest)) = option_and_then (around_modifier before) (parts_around 41 rest)
 
 -- a name without its modifier
 abbrev pub without_modifier : List ℕ → Option (List ℕ)

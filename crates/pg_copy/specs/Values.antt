@@ -12,6 +12,7 @@ use Rattle.std.specs.declared.hash.FoldHasher.{FoldHasher}
 use Rattle.pg_copy.specs.declared.types.Base.{Base}
 use Rattle.pg_copy.specs.declared.types.Base.TheVariants as base
 use Rattle.pg_base.specs.Cells.{be}
+use Rattle.pg_more_types.specs.Macaddr8.{SaysMacaddr8}
 use Rattle.pg_numbers.specs.NumericCells.{ReadsNumeric, wire_numeric}
 use Rattle.pg_numbers.specs.NumericTexts.{numeric_text}
 use Rattle.pg_text.specs.Floats.{SaysFloat, ShowsFloat}
@@ -215,6 +216,10 @@ values_of base.Lquery = texts
 values_of base.Ltree = texts
 values_of base.Ltxtquery = texts
 values_of base.Macaddr = (plain (ReadsFixedBytes 6) (Shows macaddr_text), parsed SaysMacaddr (wire_fixed_bytes 6))
+values_of base.Macaddr8 = (
+  plain (ReadsFixedBytes 8) (Shows macaddr_text),
+  parsed SaysMacaddr8 (wire_fixed_bytes 8),
+)
 values_of base.Name = texts
 values_of base.Numeric = (plain ReadsNumeric (Shows numeric_text), parsed SaysNumeric wire_numeric)
 values_of base.Oid = (plain (ReadsUnsigned w32) (Shows decimal), parsed (Trimmed SaysUnsigned) (wire_unsigned w32))

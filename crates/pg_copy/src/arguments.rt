@@ -71,6 +71,7 @@ fn note_on(name: &str, is_nested: bool) -> &'static str {
         _ if is_nested => " (a composite type within another)",
         "" => "no type before a comma",
         "double" | "float" => " (write double precision)",
+        _ if name.contains("  ") => " (write one space between words)",
         _ if name.ends_with(" array") => " (write [] after the type of the elements)",
         _ => "",
     }

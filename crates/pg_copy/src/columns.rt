@@ -1,15 +1,16 @@
 //! The columns of a COPY.
 ghost use Rattle.std.specs.List.{AllZip};
-ghost use Rattle.std.specs.Prelude.{◌≡◌, IfErr, IfOk, codes, option_map};
+ghost use Rattle.std.specs.Prelude.{◌≡◌, IfErr, IfOk, option_map, string_bytes};
 ghost use Rattle.pg_copy.specs.ColumnTypes.{IsColumnFault, IsColumnOf, IsFieldFault, IsFieldNamed, IsFieldOf};
-ghost use Rattle.pg_copy.specs.ColumnTypes.{IsFieldsFault, IsNameFault, IsTyped, types_of};
+ghost use Rattle.pg_copy.specs.ColumnTypes.{IsFieldsFault, IsNameFault, IsTyped};
+ghost use Rattle.pg_copy.specs.Types.{types_of, user_defined};
 ghost use Rattle.pg_copy.specs.Words.{pieces};
 ghost use Rattle.pg_copy.specs.declared.columns.TypeFault.TheVariants.{Memory};
 ghost use Rattle.pg_types.specs.Content.{UserDefinedType, content, kind_content};
 
 use crate::type_names::{TypeName, after_field_name, split_at_comma};
 use crate::types::{Base, base_types};
-use postgres_types::{Kind, Type};
+use postgres_types::{Kind, Oid, Type};
 use std::alloc::{AllocError, AllocFailed, Global};
 
 /// A column of a COPY. Its values, and the elements of its arrays, may be NULL.
@@ -75,16 +76,12 @@ macro_rules! types {
 
 // The Postgres types of a row.
 macro_rules! row_types {
-    ($alloc:ident [$rust:ty, user $name:literal]) => {{
-        let own = user_type($alloc, $name, Kind::Simple)?;
-        let arrays = user_type($alloc, $name, Kind::Array(own.clone()?))?;
-        Ok((own, Some(arrays)))
-    }};
-    ($alloc:ident [$rust:ty, catalog($own:path, $arrays:path)]) => {{
-        let own = $own($alloc).map_err(|_| AllocError)?;
-        let arrays = $arrays($alloc).map_err(|_| AllocError)?;
-        Ok((own, Some(arrays)))
-    }};
+    ($alloc:ident [$rust:ty, user $name:literal]) => {
+        user_defined_types($alloc, "public", $name, 0, 0)
+    };
+    ($alloc:ident [$rust:ty, catalog $name:literal $own:literal $arrays:literal]) => {
+        user_defined_types($alloc, "pg_catalog", $name, $own, $arrays)
+    };
     ($alloc:ident [$rust:ty, $own:ident]) => {
         Ok((Type::$own, None))
     };
@@ -93,16 +90,51 @@ macro_rules! row_types {
     };
 }
 
-/// Creates a type that an extension or a user made. Its OID is unknown, and set to 0, which no type
-/// has: from version 14 on, servers check an OID in a cell only if it is that of a built-in type
-/// (`array_recv`, `record_recv`).
-fn user_type(alloc: Global, name: &str, kind: Kind) -> Result<Type, AllocError>
-    ensures { IfOk result (λ ty. content ty
-        ≡ UserDefinedType name.now 0 (kind_content kind) (codes "public")) }
+/// Creates a type that is not built in, and that of its arrays. The OIDs of a type that an extension
+/// or a user made are unknown, and set to 0, which no type has: from version 14 on, servers check an
+/// OID in a cell only if it is that of a built-in type (`array_recv`, `record_recv`).
+fn user_defined_types(
+    alloc: Global,
+    schema: &str,
+    name: &str,
+    oid: Oid,
+    array_oid: Oid,
+) -> Result<(Type, Option<Type>), AllocError>
+    ensures { IfOk result (λ types. (content types.0, option_map content types.1)
+        ≡ user_defined schema.now name.now oid array_oid) }
 {
-    let name = String::from_str(alloc, name)?;
-    let schema = String::from_str(alloc, "public")?;
-    Type::new(alloc, name, 0, kind, schema).map_err(|_| AllocError)
+    let own = user_defined_type(
+        alloc,
+        schema,
+        String::from_str(alloc, name)?,
+        oid,
+        Kind::Simple,
+    )?;
+    let mut array_name = String::from_str(alloc, "_")?;
+    array_name.push_str(name)?;
+    let arrays = user_defined_type(
+        alloc,
+        schema,
+        array_name,
+        array_oid,
+        Kind::Array(own.clone()?),
+    )?;
+    Ok((own, Some(arrays)))
+}
+
+/// Creates a type of the schema.
+fn user_defined_type(
+    alloc: Global,
+    schema: &str,
+    name: String,
+    oid: Oid,
+    kind: Kind,
+) -> Result<Type, AllocError>
+    ensures { IfOk result (λ ty. content ty
+        ≡ UserDefinedType (string_bytes name) oid (kind_content kind) schema.now) }
+{
+    let schema = String::from_str(alloc, schema)?;
+    Type::new(alloc, name, oid, kind, schema).map_err(|_| AllocError)
 }
 
 /// Returns the Postgres types of a type of the table: its own, and that of its arrays, if there are

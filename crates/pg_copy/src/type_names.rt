@@ -1,7 +1,7 @@
 //! The names of types, as PostgreSQL prints them (`format_type`).
 ghost use Rattle.std.specs.Prelude.{◌≡◌, ◌+◌, ◌<◌, ◌^◌, ◌∷◌, IfNone, IfOk, false, option_map, string_bytes};
 ghost use Rattle.std.specs.Str.{trim, trim_start};
-ghost use Rattle.pg_copy.specs.TypeNames.{IsTypeText, between, plain_type, type_named};
+ghost use Rattle.pg_copy.specs.TypeNames.{IsTypeText, between, is_modifier, plain_type, type_named};
 ghost use Rattle.pg_copy.specs.TypeNames.{without_modifier, without_schema};
 ghost use Rattle.pg_copy.specs.Words.{IsCommaOf, after_name, after_quotes, after_space, depth_after, divides};
 ghost use Rattle.pg_copy.specs.Words.{is_quoted_after, pieces, pieces_of_rest};
@@ -85,19 +85,30 @@ fn unquoted(name: &str) -> Option<&str>
 }
 
 /// Returns the name without the modifier in parentheses, like that of
-/// `timestamp(3) with time zone`; `None` if a parenthesis is not closed.
+/// `timestamp(3) with time zone`; `None` if a parenthesis is not closed, or has no modifier in it.
 fn without_modifier(alloc: Global, name: &str) -> Result<Option<String>, AllocError>
     ensures { IfOk result (λ plain. option_map string_bytes plain ≡ without_modifier name.now) }
 {
     let Some((before, rest)) = name.split_once('(') else {
         return Ok(Some(String::from_str(alloc, name)?));
     };
-    let Some((_, after)) = rest.split_once(')') else {
+    let Some((modifier, after)) = rest.split_once(')') else {
         return Ok(None);
     };
+    if !is_modifier(modifier) {
+        return Ok(None);
+    }
     let mut plain = String::from_str(alloc, before.trim_end())?;
     plain.push_str(after)?;
     Ok(Some(plain))
+}
+
+/// Whether the text may be a modifier, like that of `numeric(4,-2)`.
+fn is_modifier(text: &str) -> bool
+    ensures { result ≡ is_modifier text.now }
+{
+    let mut bytes = text.as_bytes().iter();
+    bytes.all(|byte| byte.is_ascii_digit() || matches!(byte, b'-' | b',' | b' '))
 }
 
 /// Returns the text before the first comma that is outside parentheses and double quotes, and the

@@ -1,13 +1,13 @@
 //! The PostgreSQL types of columns.
 ghost use Rattle.std.specs.Prelude.{◌≡◌, Some, slice_get};
-ghost use Rattle.pg_copy.specs.TypeNames.{base_of, has_arrays, has_name, names_of};
+ghost use Rattle.pg_copy.specs.Types.{base_of, has_arrays, has_name, names_of};
 
 /// The table of the types with a conversion, in alphabetical order. A row has the member of
 /// [`Base`], its names (faults and the help print the first one), its Rust type, and its Postgres
 /// type and that of its arrays, if there are any. A Postgres type is a constant of `Type`; or
 /// `user` and the name by which the library knows the type of an extension or a user, which has
-/// arrays; or, for a type of the schema `pg_catalog`, `catalog` with the functions that make both
-/// types. The macro `$rows` is called with the arguments and then all rows.
+/// arrays; or, for another type of the schema `pg_catalog`, `catalog` with its name, its OID and
+/// that of its arrays. The macro `$rows` is called with the arguments and then all rows.
 ///
 /// The values of an enumerated type are labels, whose cells are like those of citext. A type that
 /// has no conversion may be named `raw`: its cells are read and written as those of bytea.
@@ -23,10 +23,8 @@ macro_rules! base_types {
             Citext ["citext"] [String, user "citext"],
             Date ["date"] [postgres_types::Date<jiff::civil::Date>, DATE, DATE_ARRAY],
             Enum ["enum"] [String, user "citext"],
-            Float4 ["float4" "real"]
-                [pg_numbers::Float4, catalog(pg_numbers::types::float4_type, pg_numbers::types::float4_array_type)],
-            Float8 ["float8" "double precision"]
-                [pg_numbers::Float8, catalog(pg_numbers::types::float8_type, pg_numbers::types::float8_array_type)],
+            Float4 ["float4" "real"] [pg_numbers::Float4, catalog "float4" 700 1021],
+            Float8 ["float8" "double precision"] [pg_numbers::Float8, catalog "float8" 701 1022],
             Hstore ["hstore"] [std::collections::HashMap<String, Option<String>>, user "hstore"],
             Inet ["inet"] [postgres_types::IpInet, INET, INET_ARRAY],
             Int2 ["int2" "smallint" "smallserial"] [i16, INT2, INT2_ARRAY],
@@ -40,9 +38,9 @@ macro_rules! base_types {
             Ltree ["ltree"] [String, user "ltree"],
             Ltxtquery ["ltxtquery"] [String, user "ltxtquery"],
             Macaddr ["macaddr"] [postgres_types::MacAddress, MACADDR, MACADDR_ARRAY],
+            Macaddr8 ["macaddr8"] [pg_more_types::MacAddress8, catalog "macaddr8" 774 775],
             Name ["name"] [String, NAME, NAME_ARRAY],
-            Numeric ["numeric" "decimal" "dec"]
-                [pg_numbers::Numeric, catalog(pg_numbers::types::numeric_type, pg_numbers::types::numeric_array_type)],
+            Numeric ["numeric" "decimal" "dec"] [pg_numbers::Numeric, catalog "numeric" 1700 1231],
             Oid ["oid"] [u32, OID, OID_ARRAY],
             OidVector ["oidvector"] [Vec<u32>, OID_VECTOR],
             PgLsn ["pg_lsn"] [postgres_types::PgLsn, PG_LSN, PG_LSN_ARRAY],
@@ -89,6 +87,7 @@ pub enum Base {
     Ltree,
     Ltxtquery,
     Macaddr,
+    Macaddr8,
     Name,
     Numeric,
     Oid,

@@ -8,12 +8,13 @@ ghost use Rattle.pg_copy.specs.Outputs.{Extends, Gains, WritesWhole};
 ghost use Rattle.pg_copy.specs.TextLines.{LacksEscapes, fields_left, fields_of};
 ghost use Rattle.pg_copy.specs.WrittenCells.{text_of};
 ghost use Rattle.pg_copy.specs.WrittenRows.{BeginsCopy, CopyOf, CountFault, FieldFrame, FrameOf, LineFault, Stops};
-ghost use Rattle.pg_copy.specs.WrittenRows.{StopsWith, TupleOf, fault_of, is_last};
+ghost use Rattle.pg_copy.specs.WrittenRows.{StopsWith, TupleOf, ValueFault, fault_of, is_last};
 
 use crate::columns::Column;
 use crate::copy_fault::{CopyFault, Row, value_fault};
 use crate::escapes::unescape;
 use crate::parse::push_frame;
+use bytes::ByteStr;
 use memchr::memchr2;
 use pg_text::no_value;
 use pg_tuples::{HEADER, TRAILER};
@@ -180,7 +181,7 @@ impl TupleWriter<'_> {
                 &mut self.text,
                 pending,
             ) {
-                return Err(value_fault(Row::Line(self.line), place + 1, column, fault));
+                return Err(self.value_fault(alloc, place + 1, column, field, fault));
             }
             rest = after;
         }
@@ -188,6 +189,24 @@ impl TupleWriter<'_> {
             Some(_) => Err(self.count_fault(line)),
             None => Ok(()),
         }
+    }
+
+    /// Returns the fault of a field, whose text shows the field.
+    // It is kept out of the loop over fields.
+    #[inline(never)]
+    fn value_fault(
+        &self,
+        alloc: Global,
+        number: usize,
+        column: &Column,
+        field: &[u8],
+        fault: Fault,
+    ) -> CopyFault
+        ensures number { ValueFault number result }
+        ensures memory { fault ≡ Fault.Memory → result ≡ CopyFault.Memory }
+    {
+        let fault = with_field(alloc, fault, field);
+        value_fault(Row::Line(self.line), number, column, fault)
     }
 
     /// Returns the fault of a line with another number of fields.
@@ -202,6 +221,36 @@ impl TupleWriter<'_> {
             got: i64::try_from(fields).unwrap_or(i64::MAX),
         }
     }
+}
+
+/// Returns the fault whose text is that of the fault and the field; the fault itself if the field is
+/// not UTF-8, or memory runs out.
+fn with_field(alloc: Global, fault: Fault, field: &[u8]) -> Fault
+    ensures { fault ≡ Fault.Memory → result ≡ Fault.Memory }
+{
+    if matches!(fault, Fault::Memory) {
+        return fault;
+    }
+    match text_with_field(alloc, &fault, field) {
+        Some(text) => Fault::User(text),
+        None => fault,
+    }
+}
+
+/// Returns the text of the fault, and the field; of a long one 40 characters and `...`.
+fn text_with_field(alloc: Global, fault: &Fault, field: &[u8]) -> Option<ByteStr> {
+    let field = str::from_utf8(field).ok()?;
+    let mut text = format!(in alloc; "{fault}: \"").ok()?;
+    for c in field.chars().take(40) {
+        match c {
+            '\r' => text.push_str("\\r").ok()?,
+            c if c.is_control() => text.push(char::REPLACEMENT_CHARACTER).ok()?,
+            c => text.push(c).ok()?,
+        }
+    }
+    let is_cut = field.chars().nth(40).is_some();
+    text.push_str(if is_cut { "...\"" } else { "\"" }).ok()?;
+    ByteStr::from_string(text).ok()
 }
 
 /// Returns the first of the fields, and those after it, if there are any.

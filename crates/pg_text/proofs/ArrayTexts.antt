@@ -1,5 +1,5 @@
 -- Lemmas on the elements that an array's text says.
-use Rattle.std.proofs.Common.{◌≡◌, ℕ, Bool, true, false, List, [], ◌∷◌, ◌++◌, Option, length, sym, subst, ap, ◌∙◌}
+use Rattle.std.proofs.Common.{◌≡◌, ℕ, Bool, true, false, List, [], ◌∷◌, ◌++◌, Option, length, refl, sym, subst, ap, ◌∙◌}
 use Rattle.std.proofs.lemmas.Bool.{eqb-true}
 use Rattle.std.proofs.lemmas.List.{nil_from_length}
 use Rattle.std.specs.Prelude.{◌==◌}
@@ -54,6 +54,10 @@ module _ {A : Type 0} (says : List ℕ → A → Type 0) (inside : List ℕ) whe
       zipped taken.0 (says_element has_comma taken),
       left_last inside begun.0 taken.0 old new begun.2 (subst (λ c. EndsItem c taken.0 old new) e taken.2),
     )
+
+  -- there is none before the first
+  pub begun_none : (elements : List (Option A)) → elements ≡ [] → Begun elements inside
+  begun_none elements none = ([], subst (λ elements. AllZip (SaysElement says) [] elements) (sym none) tt, refl)
 
   -- they are those of the text in braces
   pub says_array : (text : List ℕ) (elements : List (Option A)) → text ≡ 123 ∷ (inside ++ 125 ∷ []) → Whole elements

@@ -5,12 +5,15 @@ pub mod DigitRuns
 pub mod EscapedBytes
 pub mod Fractions
 pub mod HexDigits
+pub mod ItemEnds
 pub mod ItemTexts
 pub mod Joins
 pub mod Lsn
 pub mod Macaddrs
 pub mod Maps
+pub mod ParsedArrays
 pub mod ReadBack
 pub mod Refusals
 pub mod Scans
+pub mod VectorTexts
 pub mod Visible

@@ -81,6 +81,11 @@ abbrev pub TakesItem : Items → List ℕ → List ℕ → Bool → Option (List
 TakesItem items old new has_comma said =
     (text : List ℕ) × SaysItem items text said × EndsItem has_comma text old new
 
+-- no item is at the front
+abbrev pub NoItem : Items → List ℕ → Type 0
+NoItem items text =
+    (rest : List ℕ) (has_comma : Bool) (said : Option (List ℕ)) → TakesItem items text rest has_comma said → ⊥
+
 -- whether an item may end in this state
 abbrev pub may_end : Place → Bool
 may_end Start = true
@@ -95,7 +100,7 @@ said_after items byte (Pass place) text = said_from items place text
 said_after items byte End text = None
 said_after items byte Refuse text = None
 
--- the item ends there, at a comma
+-- the item ends at a comma, and at each comma where it may
 abbrev pub EndsAt : Place → ℕ → Step → Type 0
 EndsAt place byte End = (byte ≡ 44) × (may_end place ≡ true)
-EndsAt place byte step = Unit {0}
+EndsAt place byte step = byte ≡ 44 → may_end place ≡ true → ⊥

@@ -1,6 +1,8 @@
 -- The texts of lists of values.
-use Rattle.std.specs.Prelude.{◌≡◌, ℕ, ◌==◌, List, [], ◌∷◌, ◌++◌, codes, map, Option, Some, None, if◌then◌else◌}
-use Rattle.std.specs.List.{AllZip, join_with_byte}
+use Rattle.std.specs.Prelude.{◌≡◌, ◌⊎◌, ℕ, ◌==◌, List, [], ◌∷◌, ◌++◌, codes, map, Option, Some, None, if◌then◌else◌}
+use Rattle.std.specs.List.{All, AllZip, join_with_byte, slice_split}
+use Rattle.std.specs.Prelude.{IfSome}
+use Rattle.std.specs.Str.{IsUtf8}
 use Rattle.pg_text.specs.Items.{SaysItem}
 use Rattle.pg_text.specs.Quotes.{element_text}
 use Rattle.pg_text.specs.declared.items.Items.TheVariants.{OfArray}
@@ -17,6 +19,10 @@ vector_text text numbers = join_with_byte 32 (map text numbers)
 abbrev pub SaysVector : {A : Type 0} → (List ℕ → A → Type 0) → List ℕ → List A → Type 0
 SaysVector says text numbers =
     (texts : List (List ℕ)) × (text ≡ join_with_byte 32 texts) × AllZip says texts numbers
+
+-- there are no numbers, or what is between the spaces is parsed
+abbrev pub ParsesVector : (List ℕ → Type 0) → List ℕ → Type 0
+ParsesVector parses text = (text ≡ []) ⊎ All parses (slice_split (λ byte. byte == 32) text)
 
 -- the text of an element, quoted if it has to be, and NULL for NULL (array_out)
 abbrev pub ShowsElement : {A : Type 0} → (A → List ℕ → List ℕ → Type 0) → Option A → List ℕ → Type 0
@@ -46,3 +52,15 @@ SaysArray says text elements =
     (items : List (List ℕ))
     × (text ≡ 123 ∷ (join_with_byte 44 items ++ 125 ∷ []))
     × AllZip (SaysElement says) items elements
+
+-- the text of an element is NULL, or stands for UTF-8 that is parsed
+abbrev pub ParsesElement : (List ℕ → Type 0) → List ℕ → Type 0
+ParsesElement parses item =
+    (said : Option (List ℕ)) × SaysItem OfArray item said × IfSome said (λ text. IsUtf8 text × parses text)
+
+-- an array of one dimension, each element of which is parsed
+abbrev pub ParsesArray : (List ℕ → Type 0) → List ℕ → Type 0
+ParsesArray parses text =
+    (items : List (List ℕ))
+    × (text ≡ 123 ∷ (join_with_byte 44 items ++ 125 ∷ []))
+    × All (ParsesElement parses) items

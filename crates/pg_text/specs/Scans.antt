@@ -1,6 +1,7 @@
 -- What is at the front of a text, and the rest of the text.
 use Rattle.std.specs.Prelude.{◌≡◌, ◌⊎◌, ◌<◌, ℕ, ◌+◌, ◌-◌, ◌*◌, ◌^◌, ◌≤◌, List, [], ◌∷◌, ◌++◌, length}
 use Rattle.std.specs.Prelude.{ℤ, pos, negsuc, ◌-ℤ◌, ◌*ℤ◌, ◌≤ℤ◌, codes}
+use Rattle.std.specs.Char.{digit_value}
 use Rattle.std.specs.Str.Parse.{IsNumeral, digits_value}
 use Rattle.jiff.specs.Types.{Date, DateTime, Time, Timestamp}
 use Rattle.postgres_types.specs.Civil.{instant_nanos}
@@ -16,6 +17,19 @@ TakesDigits text n len rest =
     × (n ≡ digits_value 10 digits)
     × (len ≡ length digits)
     × (text ≡ digits ++ rest)
+
+-- no decimal digit is at the front
+abbrev pub EndsDigits : List ℕ → Type 0
+EndsDigits [] = Unit {0}
+EndsDigits (byte ∷ rest) = digit_value byte < 10 → ⊥
+
+-- all of the decimal digits at the front
+abbrev pub TakesAllDigits : List ℕ → ℕ → ℕ → List ℕ → Type 0
+TakesAllDigits text n len rest = TakesDigits text n len rest × EndsDigits rest
+
+-- all of the decimal digits at the front, if there are any, are of a number from the bound on
+abbrev pub NoNumber : ℕ → List ℕ → Type 0
+NoNumber bound text = (n len : ℕ) (rest : List ℕ) → TakesAllDigits text n len rest → bound ≤ n
 
 -- the decimal digits of a number
 abbrev pub TakesNumber : List ℕ → ℕ → List ℕ → Type 0

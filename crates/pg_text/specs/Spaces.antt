@@ -21,3 +21,7 @@ Trimmed says text v = says (trimmed text) v
 -- what a text says that does not
 abbrev pub Plain : {A : Type 0} → (List ℕ → A → Type 0) → List ℕ → A → Type 0
 Plain says text v = (trimmed text ≡ text) × says text v
+
+-- a text that is parsed and does not stand in white space
+abbrev pub ParsesPlain : (List ℕ → Type 0) → List ℕ → Type 0
+ParsesPlain parses text = (trimmed text ≡ text) × parses text

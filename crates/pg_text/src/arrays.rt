@@ -1,15 +1,17 @@
 //! The texts of arrays of one dimension, and of vectors of numbers.
-ghost use Rattle.std.specs.Prelude.{◌≡◌, ◌||◌, ◌==◌, ◌++◌, ℕ, List, IfOk, OnOk, decimal, length, option_map};
-ghost use Rattle.std.specs.Prelude.{[], FitsSigned, Vec, ℤ, ◌<◌, ◌^◌};
+ghost use Rattle.std.specs.Prelude.{◌≡◌, ◌||◌, ◌==◌, ◌++◌, ℕ, List, IfSome, OnOk, decimal, length, option_map};
+ghost use Rattle.std.specs.Prelude.{[], FitsSigned, MatchResult, Vec, ℤ, ◌<◌, ◌^◌};
 ghost use Rattle.std.specs.Int.{w16};
 ghost use Rattle.std.specs.Global.{Global};
 ghost use Rattle.std.specs.Fmt.{signed_decimal};
 ghost use Rattle.std.specs.List.{list_any, All};
 ghost use Rattle.pg_base.specs.NumberTexts.{SaysSigned, SaysUnsigned};
-ghost use Rattle.pg_text.specs.Lists.{SaysArray, SaysValue, SaysVector, ShowsArray, ShowsElement, vector_text};
+ghost use Rattle.pg_types.specs.declared.fault.Fault.TheVariants.{Memory};
+ghost use Rattle.pg_text.specs.Lists.{ParsesArray, ParsesVector, SaysArray, SaysValue, SaysVector, ShowsArray};
+ghost use Rattle.pg_text.specs.Lists.{ShowsElement, vector_text};
 ghost use Rattle.pg_text.specs.Quotes.{element_text, is_array_sign, is_null_word};
-ghost use Rattle.pg_text.specs.Spaces.{Plain, Trimmed};
-ghost use Rattle.pg_text.specs.Texts.{Shows};
+ghost use Rattle.pg_text.specs.Spaces.{ParsesPlain, Plain, Trimmed};
+ghost use Rattle.pg_text.specs.Texts.{SaysAny, Shows};
 
 use crate::digits::push_number;
 use crate::items::{Items, between, said};
@@ -94,7 +96,8 @@ fn is_array_sign(byte: u8) -> bool
 /// Parses the elements of an array (`array_in`). An array of several dimensions, or with lower
 /// bounds, is refused with `User`.
 pub fn parse_array<T: FromText>(alloc: Global, text: &str) -> Result<Vec<Option<T>>, Fault>
-    ensures { IfOk result (λ v. SaysArray T.says text.now v.items) }
+    ensures { MatchResult result (λ v. SaysArray T.says text.now v.items)
+        (λ fault. ParsesArray T.parses text.now → fault ≡ Memory) }
 {
     let mut elements = Vec::new(alloc);
     let Some(mut rest) = between(text.as_bytes(), b'{', b'}') else {
@@ -120,7 +123,8 @@ pub fn parse_array<T: FromText>(alloc: Global, text: &str) -> Result<Vec<Option<
 
 /// Parses an element, or NULL.
 fn parse_element<T: FromText>(alloc: Global, text: Option<&str>) -> Result<Option<T>, Fault>
-    ensures { IfOk result (SaysValue T.says (option_map (λ t. t.now) text.entry)) }
+    ensures { MatchResult result (SaysValue T.says (option_map (λ t. t.now) text.entry))
+        (λ fault. IfSome (option_map (λ t. t.now) text.entry) T.parses → fault ≡ Memory) }
 {
     match text {
         None => Ok(None),
@@ -141,7 +145,8 @@ fn push_vector<I: Integer>(numbers: &[I], out: &mut Vec<u8>) -> Result<(), Alloc
 
 /// Parses numbers with single spaces between them, and no other white space.
 fn parse_vector<T: FromText>(alloc: Global, text: &str) -> Result<Vec<T>, Fault>
-    ensures { IfOk result (λ v. SaysVector (Plain T.says) text.now v.items) }
+    ensures { MatchResult result (λ v. SaysVector (Plain T.says) text.now v.items)
+        (λ fault. ParsesVector (ParsesPlain T.parses) text.now → fault ≡ Memory) }
 {
     let mut numbers = Vec::new(alloc);
     if text.is_empty() {
@@ -155,7 +160,8 @@ fn parse_vector<T: FromText>(alloc: Global, text: &str) -> Result<Vec<T>, Fault>
 
 /// Parses a number that has no white space around it.
 fn parse_plain<T: FromText>(alloc: Global, text: &str) -> Result<T, Fault>
-    ensures { IfOk result (Plain T.says text.now) }
+    ensures { MatchResult result (Plain T.says text.now)
+        (λ fault. ParsesPlain T.parses text.now → fault ≡ Memory) }
 {
     if trimmed(text) != text {
         return Err(no_value());
@@ -175,6 +181,8 @@ impl ToText for Vec<i16> {
 impl FromText for Vec<i16> {
     ghost says = { λ text v. SaysVector (Plain (Trimmed SaysSigned)) text v.items };
 
+    ghost parses = { SaysAny (SaysVector (Plain (Trimmed (λ text n. SaysSigned text n × FitsSigned w16 n)))) };
+
     fn from_text(alloc: Global, text: &str) -> Result<Vec<i16>, Fault> {
         parse_vector(alloc, text)
     }
@@ -191,6 +199,8 @@ impl ToText for Vec<u32> {
 
 impl FromText for Vec<u32> {
     ghost says = { λ text v. SaysVector (Plain (Trimmed SaysUnsigned)) text v.items };
+
+    ghost parses = { SaysAny (SaysVector (Plain (Trimmed (λ text n. SaysUnsigned text n × (n < 2 ^ 32))))) };
 
     fn from_text(alloc: Global, text: &str) -> Result<Vec<u32>, Fault> {
         parse_vector(alloc, text)

@@ -1,6 +1,8 @@
 //! The items in the text of an array or of a composite value, between its brackets.
-ghost use Rattle.std.specs.Prelude.{◌≡◌, ◌∷◌, ◌++◌, [], ℕ, List, IfOk, IfSome, option_map};
-ghost use Rattle.pg_text.specs.Items.{EndsAt, SaysItem, TakesItem, may_end, needs_quotes, said_after, said_from};
+ghost use Rattle.std.specs.Prelude.{◌≡◌, ◌∷◌, ◌++◌, [], ℕ, List, IfOk, MatchOption, MatchResult, Option};
+ghost use Rattle.std.specs.Prelude.{false, option_map};
+ghost use Rattle.std.specs.Str.{IsUtf8};
+ghost use Rattle.pg_text.specs.Items.{EndsAt, NoItem, SaysItem, TakesItem, may_end, needs_quotes, said_after, said_from};
 ghost use Rattle.pg_text.specs.Items.{unless_null};
 
 use crate::no_value;
@@ -92,7 +94,8 @@ impl Items {
     /// that it stands for. Returns `None` if there is no item there; then, and if memory runs out,
     /// `out` has a part of it.
     pub fn next(self, text: &mut &[u8], out: &mut Vec<u8>) -> Result<Option<Item>, AllocError>
-        ensures { IfOk result (λ found. IfSome found (λ item. TakesItem self text.old.now text.new.now item.has_comma
+        ensures { IfOk result (λ found. MatchOption found (NoItem self text.old.now)
+            (λ item. TakesItem self text.old.now text.new.now item.has_comma
             (unless_null item.is_null out.new.items))) }
     {
         out.clear();
@@ -122,7 +125,8 @@ impl Items {
 
     /// Returns the item with this text, or `None` if the text is empty where an item must not be.
     fn item(self, text: &[u8], has_comma: bool) -> Option<Item>
-        ensures { IfSome result (λ item. (item.has_comma ≡ has_comma) × ((said : List ℕ)
+        ensures { MatchOption result ((said : Option (List ℕ)) → SaysItem self text.now said → ⊥)
+            (λ item. (item.has_comma ≡ has_comma) × ((said : List ℕ)
             → said_from self Place.Start text.now ≡ Some said
             → SaysItem self text.now (unless_null item.is_null said))) }
     {
@@ -147,7 +151,8 @@ pub struct Item {
 /// Returns the text of an item from its bytes; `None` for NULL. Bytes that are not UTF-8 are
 /// refused with `User`.
 pub fn said(is_null: bool, bytes: &[u8]) -> Result<Option<&str>, Fault>
-    ensures { IfOk result (λ text. option_map (λ t. t.now) text ≡ unless_null is_null bytes.now) }
+    ensures { MatchResult result (λ text. option_map (λ t. t.now) text ≡ unless_null is_null bytes.now)
+        (λ fault. (is_null ≡ false) × (IsUtf8 bytes.now → ⊥)) }
 {
     if is_null {
         return Ok(None);
@@ -160,7 +165,8 @@ pub fn said(is_null: bool, bytes: &[u8]) -> Result<Option<&str>, Fault>
 
 /// Returns the text between its first and its last byte, if these are `first` and `last`.
 pub fn between(text: &[u8], first: u8, last: u8) -> Option<&[u8]>
-    ensures { IfSome result (λ inside. text.now ≡ first ∷ (inside.now ++ last ∷ [])) }
+    ensures { MatchOption result ((inside : List ℕ) → text.now ≡ first ∷ (inside ++ last ∷ []) → ⊥)
+        (λ inside. text.now ≡ first ∷ (inside.now ++ last ∷ [])) }
 {
     match text {
         [a, inside @ .., b] if *a == first && *b == last => Some(inside),

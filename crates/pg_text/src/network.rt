@@ -124,6 +124,8 @@ impl ToText for MacAddress {
 impl FromText for MacAddress {
     ghost says = { SaysMacaddr };
 
+    ghost parses = { SaysAny SaysMacaddr };
+
     fn from_text(_alloc: Global, text: &str) -> Result<MacAddress, Fault> {
         text.parse()
     }

@@ -1,6 +1,7 @@
 //! Reading a text from the front.
 ghost use Rattle.std.specs.Prelude.{◌≡◌, ◌<◌, ◌≤◌, ◌-◌, ◌*◌, ◌^◌, ◌==◌, ◌++◌, IfSome, MatchBool, length};
-ghost use Rattle.pg_text.specs.Scans.{TakesDigits, TakesFraction, TakesNumber};
+ghost use Rattle.std.specs.Prelude.{ℕ, List, MatchOption};
+ghost use Rattle.pg_text.specs.Scans.{EndsDigits, NoNumber, TakesAllDigits, TakesDigits, TakesFraction, TakesNumber};
 
 /// The rest of a text.
 #[derive(Debug, Clone, Copy)]
@@ -28,7 +29,8 @@ impl<'a> Scanner<'a> {
     /// Takes the word if the rest begins with it. Returns whether it does.
     pub fn take(&mut self, word: &[u8]) -> bool
         ensures { MatchBool result (self.old.rest.now ≡ word.now ++ self.new.rest.now)
-            (self.new.rest.now ≡ self.old.rest.now) }
+            ((self.new.rest.now ≡ self.old.rest.now)
+            × ((rest : List ℕ) → self.old.rest.now ≡ word.now ++ rest → ⊥)) }
     {
         match self.rest.strip_prefix(word) {
             Some(rest) => {
@@ -41,7 +43,8 @@ impl<'a> Scanner<'a> {
 
     /// Takes the word; `None` if the rest does not begin with it.
     pub fn expect(&mut self, word: &[u8]) -> Option<()>
-        ensures { IfSome result (λ _. self.old.rest.now ≡ word.now ++ self.new.rest.now) }
+        ensures { MatchOption result ((rest : List ℕ) → self.old.rest.now ≡ word.now ++ rest → ⊥)
+            (λ _. self.old.rest.now ≡ word.now ++ self.new.rest.now) }
     {
         if self.take(word) { Some(()) } else { None }
     }
@@ -65,7 +68,8 @@ impl<'a> Scanner<'a> {
     /// Takes a decimal number, and returns it and how many digits it has; `None` if there is no
     /// digit, or if the number does not fit in a `u64`.
     pub fn digits(&mut self) -> Option<(u64, usize)>
-        ensures { IfSome result (λ n. TakesDigits self.old.rest.now n.0 n.1 self.new.rest.now) }
+        ensures { MatchOption result (NoNumber (2 ^ 64) self.old.rest.now)
+            (λ n. TakesAllDigits self.old.rest.now n.0 n.1 self.new.rest.now) }
     {
         let text = self.rest;
         let mut number: u64 = 0;
@@ -85,7 +89,8 @@ impl<'a> Scanner<'a> {
     /// Takes a decimal number; `None` if there is no digit, or if the number does not fit in a
     /// `u64`.
     pub fn number(&mut self) -> Option<u64>
-        ensures { IfSome result (λ n. TakesNumber self.old.rest.now n self.new.rest.now) }
+        ensures { MatchOption result (NoNumber (2 ^ 64) self.old.rest.now)
+            (λ n. TakesNumber self.old.rest.now n self.new.rest.now × EndsDigits self.new.rest.now) }
     {
         let (number, _) = self.digits()?;
         Some(number)
@@ -94,7 +99,8 @@ impl<'a> Scanner<'a> {
     /// Takes a decimal number; `None` if there is no digit, or if the number does not fit in a
     /// `u32`.
     pub fn number_u32(&mut self) -> Option<u32>
-        ensures { IfSome result (λ n. TakesNumber self.old.rest.now n self.new.rest.now) }
+        ensures { MatchOption result (NoNumber (2 ^ 32) self.old.rest.now)
+            (λ n. TakesNumber self.old.rest.now n self.new.rest.now × EndsDigits self.new.rest.now) }
     {
         u32::try_from(self.number()?).ok()
     }

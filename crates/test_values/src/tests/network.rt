@@ -1,11 +1,12 @@
 //! Network addresses, MAC addresses and UUIDs: a table of rows for each format.
 
+use pg_more_types::MacAddress8;
 use postgres_types::private::BytesMut;
 use postgres_types::protocol::{inet_from_sql, inet_to_sql};
-use postgres_types::{IpCidr, IpInet, MacAddress, Type};
+use postgres_types::{IpCidr, IpInet, Kind, MacAddress, Type};
 use std::net::{IpAddr, Ipv4Addr, Ipv6Addr};
 use std::test::Fail;
-use test_support::code::{ADDRESS_LENGTH, FAMILY, HOST_BITS, NETMASK};
+use test_support::code::{ADDRESS_LENGTH, FAMILY, HOST_BITS, NETMASK, SIZE, WAS_NULL};
 use test_support::{debugs, fault_code, has_cells, reads, refuses_fronts, rewrites, same};
 use uuid::Uuid;
 
@@ -38,6 +39,8 @@ const DAMAGED_INET: [(Option<&[u8]>, u32); 3] = [
 ];
 
 const MAC: [u8; 6] = [8, 0, 0x2b, 1, 2, 3];
+
+const MAC8: [u8; 8] = [8, 0, 0x2b, 1, 2, 3, 4, 5];
 
 const UUID_CELL: [u8; 16] = [
     0xa0, 0xee, 0xbc, 0x99, 0x9c, 0x0b, 0x4e, 0xf8, 0xbb, 0x6d, 0x6b, 0xb9, 0xbd, 0x38, 0x0a, 0x11,
@@ -95,6 +98,19 @@ fn mac_addresses_have_their_cells(rt: HostRuntime) -> Result<(), Fail> {
         &[(address, MAC.as_slice())],
         &[],
     )
+}
+
+#[test]
+fn mac_addresses_of_eight_bytes_have_their_cells(rt: HostRuntime) -> Result<(), Fail> {
+    let alloc = rt.alloc();
+    let name = String::from_str(alloc, "macaddr8")?;
+    let schema = String::from_str(alloc, "pg_catalog")?;
+    let ty = Type::new(alloc, name, 774, Kind::Simple, schema)?;
+    let address = MacAddress8::new(MAC8);
+    same(address.to_array(), MAC8)?;
+    debugs(alloc, &address, "MacAddress8([8, 0, 43, 1, 2, 3, 4, 5])")?;
+    let others: [(Option<&[u8]>, u32); 2] = [(None, WAS_NULL), (Some(&MAC), SIZE)];
+    has_cells(alloc, &ty, &[(address, MAC8.as_slice())], &others)
 }
 
 #[test]

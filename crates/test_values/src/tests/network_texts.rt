@@ -1,6 +1,7 @@
 //! The texts of addresses: `Display` writes them as `inet_out`, `cidr_out` and `macaddr_out`, and
 //! `FromStr` parses them.
 
+use pg_more_types::MacAddress8;
 use postgres_types::{Fault, IpCidr, IpInet, MacAddress};
 use std::alloc::Global;
 use std::fmt::Display;
@@ -39,6 +40,13 @@ const MACS: [(&str, &str); 2] = [
     ("08:00:2B:01:02:FF", "08:00:2b:01:02:ff"),
 ];
 
+const MACS8: [(&str, &str); 4] = [
+    ("08:00:2b:01:02:03:04:05", "08:00:2b:01:02:03:04:05"),
+    ("08-00-2B-01-02-03-04-FF", "08:00:2b:01:02:03:04:ff"),
+    ("0800.2b01.0203.0405.", "08:00:2b:01:02:03:04:05"),
+    ("08002b0102030405", "08:00:2b:01:02:03:04:05"),
+];
+
 /// Texts that are no address with a netmask, and their faults.
 const NO_INETS: [(&str, u32); 6] = [
     ("", USER),
@@ -52,6 +60,14 @@ const NO_INETS: [(&str, u32); 6] = [
 const NO_CIDRS: [(&str, u32); 2] = [("10.1.2.3/8", HOST_BITS), ("a", USER)];
 
 const NO_MACS: [(&str, u32); 2] = [("08:00:2b:01:02:0g", USER), ("8:0:2b:1:2:3", USER)];
+
+const NO_MACS8: [(&str, u32); 5] = [
+    ("08:00:2b:01:02:03:04:0g", USER),
+    ("08:00:2b:01-02-03-04-05", USER),
+    ("08::00:2b:01:02:03:04:05", USER),
+    ("08:00:2b:01:02:03:04", USER),
+    ("8:0:2b:1:2:3:4:5", USER),
+];
 
 /// Tests that each text is parsed to a value with this text.
 fn are_shown<T: FromStr<Err = Fault> + Display + Drop>(
@@ -76,12 +92,14 @@ fn are_refused<T: FromStr<Err = Fault> + Drop>(texts: &[(&str, u32)]) -> Result<
 fn addresses_have_their_texts(rt: HostRuntime) -> Result<(), Fail> {
     are_shown::<IpInet>(rt.alloc(), &INETS)?;
     are_shown::<IpCidr>(rt.alloc(), &CIDRS)?;
-    are_shown::<MacAddress>(rt.alloc(), &MACS)
+    are_shown::<MacAddress>(rt.alloc(), &MACS)?;
+    are_shown::<MacAddress8>(rt.alloc(), &MACS8)
 }
 
 #[test]
 fn texts_that_are_no_address_are_refused(_rt: HostRuntime) -> Result<(), Fail> {
     are_refused::<IpInet>(&NO_INETS)?;
     are_refused::<IpCidr>(&NO_CIDRS)?;
-    are_refused::<MacAddress>(&NO_MACS)
+    are_refused::<MacAddress>(&NO_MACS)?;
+    are_refused::<MacAddress8>(&NO_MACS8)
 }

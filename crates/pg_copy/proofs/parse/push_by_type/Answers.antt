@@ -7,9 +7,6 @@ returns-in-Bit-clause-ok c = rw c.in-Bit.is c.push_as.ensures.ok
 pub returns-in-Bytea-clause-ok : goal.returns-in-Bytea-clause-ok
 returns-in-Bytea-clause-ok c = rw c.in-Bytea.is c.push_as-in-Bytea.ensures.ok
 
-pub returns-in-Char-clause-ok : goal.returns-in-Char-clause-ok
-returns-in-Char-clause-ok c = rw c.in-Char.is c.push_as-in-Char.ensures.ok
-
 pub returns-in-Date-clause-ok : goal.returns-in-Date-clause-ok
 returns-in-Date-clause-ok c = rw c.in-Date.is c.push_as-in-Date.ensures.ok
 
@@ -22,17 +19,11 @@ returns-in-Int2Vector-clause-ok c = rw c.in-Int2Vector.is c.push_as-in-Int2Vecto
 pub returns-in-OidVector-clause-ok : goal.returns-in-OidVector-clause-ok
 returns-in-OidVector-clause-ok c = rw c.in-OidVector.is c.push_as-in-OidVector.ensures.ok
 
-pub returns-in-PgLsn-clause-ok : goal.returns-in-PgLsn-clause-ok
-returns-in-PgLsn-clause-ok c = rw c.in-PgLsn.is c.push_as-in-PgLsn.ensures.ok
-
 pub returns-in-Timestamp-clause-ok : goal.returns-in-Timestamp-clause-ok
 returns-in-Timestamp-clause-ok c = rw c.in-Timestamp.is c.push_as-in-Timestamp.ensures.ok
 
 pub returns-in-Timestamptz-clause-ok : goal.returns-in-Timestamptz-clause-ok
 returns-in-Timestamptz-clause-ok c = rw c.in-Timestamptz.is c.push_as-in-Timestamptz.ensures.ok
-
-pub returns-in-Uuid-clause-ok : goal.returns-in-Uuid-clause-ok
-returns-in-Uuid-clause-ok c = rw c.in-Uuid.is c.push_as-in-Uuid.ensures.ok
 
 pub returns-in-Varbit-clause-ok : goal.returns-in-Varbit-clause-ok
 returns-in-Varbit-clause-ok c = rw c.in-Varbit.is c.push_as-in-Varbit.ensures.ok

@@ -3,7 +3,8 @@ use Rattle.std.proofs.Common.{◌≡◌, None, Some, ap, codes, option_and_then,
 use Rattle.std.proofs.lemmas.Str.Pattern.{starts_text}
 use Rattle.std.specs.Option.{option_or}
 use Rattle.pg_copy.proofs.TypeTexts.{of_another, of_interval}
-use Rattle.pg_copy.specs.TypeNames.{base_of, between}
+use Rattle.pg_copy.specs.TypeNames.{between}
+use Rattle.pg_copy.specs.Types.{base_of}
 use Rattle.pg_copy.proofs.type_names.base_of.Goals as goal
 
 pub returns-then-starts_with : goal.returns-then-starts_with

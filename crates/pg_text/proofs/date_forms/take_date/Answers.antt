@@ -16,12 +16,12 @@ returns c =
       m.month_len,
       a,
       b,
-      subst (TakesDigits c.args.scanner.now.rest.now y.year y.year_len) c.in_ok-expect.ensures y.ensures,
+      subst (TakesDigits c.args.scanner.now.rest.now y.year y.year_len) c.in_ok-expect.ensures y.ensures.0,
       omega arith,
       subst (λ n. TakesDigits a n m.month_len (45 ∷ b)) (sym month)
-          (subst (TakesDigits a m.month m.month_len) c.in_ok-expect-2.ensures m.ensures),
+          (subst (TakesDigits a m.month m.month_len) c.in_ok-expect-2.ensures m.ensures.0),
       omega arith,
-      c.in_ok-day.ensures,
+      c.in_ok-day.ensures.0,
       omega arith,
       year,
     )

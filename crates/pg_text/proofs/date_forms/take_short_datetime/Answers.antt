@@ -20,7 +20,7 @@ returns c =
             c.expect-3.new.self.rest.now,
             c.number_u32.new.self.rest.now,
             c.in_ok-expect-3.ensures,
-            c.in_ok-second.ensures,
+            c.in_ok-second.ensures.0,
             c.in_ok-micros.ensures,
           ),
         ),

@@ -11,9 +11,9 @@ returns c = (
   c.expect.new.self.rest.now,
   c.number_u32-2.new.self.rest.now,
   subst (TakesNumber c.args.scanner.now.rest.now c.in_ok-minutes.minutes) c.in_ok-expect.ensures
-      c.in_ok-minutes.ensures,
+      c.in_ok-minutes.ensures.0,
   omega arith,
-  c.in_ok-seconds.ensures,
+  c.in_ok-seconds.ensures.0,
   omega arith,
   c.in_ok-micros.ensures,
   omega (

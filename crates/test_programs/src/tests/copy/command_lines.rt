@@ -120,9 +120,11 @@ const TYPES: [(&str, &str); 4] = [
         "column 1: (a (b int4)) (a composite type within another)\ncolumn 2: (a point)",
     ),
     (
-        "double|float|int4 array",
+        "double|float|int4 array|double  precision|varchar(a)|varchar(1",
         "column 1: double (write double precision)\ncolumn 2: float (write double precision)\n\
-         column 3: int4 array (write [] after the type of the elements)",
+         column 3: int4 array (write [] after the type of the elements)\n\
+         column 4: double  precision (write one space between words)\n\
+         column 5: varchar(a)\ncolumn 6: varchar(1",
     ),
     ("int4, , x", "column 2: no type before a comma\ncolumn 3: x"),
 ];

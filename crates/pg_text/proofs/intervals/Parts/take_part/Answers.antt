@@ -10,7 +10,7 @@ returns-then-take c =
     let a = c.take_sign-is_negative.new.scanner.rest.now in
     let b = c.take.new.self.rest.now in
     let n = c.in_ok-number.number in
-    let number = subst (TakesNumber a n) c.if-take.ensures c.in_ok-number.ensures in
+    let number = subst (TakesNumber a n) c.if-take.ensures c.in_ok-number.ensures.0 in
     let micros : to_z w64 (of_z w64 c.in_ok-signed.field-0) ≡ c.in_ok-signed.field-0 = search rules in
     then_set _ _ _ c.set.result c.set.ensures (λ e _. inr (
       to_z w64 (of_z w64 c.in_ok-signed.field-0),
@@ -33,7 +33,7 @@ returns c =
     let a = c.take_sign-is_negative.new.scanner.rest.now in
     let b = c.take.new.self.rest.now in
     let n = c.in_ok-number.number in
-    let number = subst (TakesNumber a n) (sym c.if-take.ensures) c.in_ok-number.ensures in
+    let number = subst (TakesNumber a n) (sym c.if-take.ensures.0) c.in_ok-number.ensures.0 in
     let count : to_z w32 (of_z w32 c.in_ok-count.count) ≡ c.in_ok-signed-2.field-0 = search rules in
     IfSome_then c.set_field.result c.set_field.ensures (λ _ set. inl (
       to_z w32 (of_z w32 c.in_ok-count.count),

@@ -1,0 +1,2 @@
+-- The lemmas of this crate's proofs.
+mod Macaddr8Texts

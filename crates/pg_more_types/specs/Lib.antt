@@ -1,0 +1,2 @@
+-- Values of types that the library leaves out.
+pub mod Macaddr8
